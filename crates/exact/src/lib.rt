@@ -1,0 +1,1 @@
+// Laws only, and no code: what the crates above share about doubles as whole numbers.

@@ -1,0 +1,11 @@
+pub mod Words
+pub mod StickyBit
+pub mod Shifting
+pub mod Leading
+pub mod Quarters
+pub mod Bits
+pub mod Packing
+pub mod Rounds
+pub mod Aligning
+pub mod Fusing
+pub mod Examples

@@ -1,0 +1,39 @@
+-- `ieee::finite::is_finite` meets its contract: only what is finite lies between the infinities, by cases on x. Assumes nothing.
+use mathlib.Core.Path.{_≡_, refl, sym}
+use mathlib.Core.Bool.{true, false, true≢false}
+use lib.Dec.{lit≤}
+use lib.Ieee.{Float, nan, inf, fin, lt, ofBits}
+use lib.Ieee.Scale.{finite}
+use Rattle.ieee.proofs.Bits.{no-nan}
+use Rattle.ieee.proofs.finite.is_finite.Statement.{statement}
+use Rattle.ieee.proofs.finite.is_finite.Tie as tie
+
+above : (x : Float) → lt (inf true) x ≡ true → lt x (inf false) ≡ finite x
+unfolding lt
+above nan h = refl
+above (inf true) h = absurd (true≢false (sym h))
+above (inf false) h = refl
+above (fin s m e) h = refl
+
+not-above : (x : Float) → lt (inf true) x ≡ false → false ≡ finite x
+unfolding lt
+not-above nan h = refl
+not-above (inf s) h = refl
+not-above (fin s m e) h = absurd (true≢false h)
+
+float-from-bits-below : tie.Need-float-from-bits-below
+float-from-bits-below c = no-nan 0xfff0_0000_0000_0000 (lit≤ tt)
+
+float-from-bits-above : tie.Need-float-from-bits-above
+float-from-bits-above c = no-nan 0x7ff0_0000_0000_0000 (lit≤ tt)
+
+returns : tie.Need-returns
+unfolding ofBits
+returns c = above (c .before .args .x) (c .if1 .taken)
+
+returns-2 : tie.Need-returns-2
+unfolding ofBits
+returns-2 c = not-above (c .before .args .x) (c .if1 .left)
+
+pub is-finite-spec : {M : Type 1} → statement M
+is-finite-spec = tie.close (tie.spec float-from-bits-below float-from-bits-above returns returns-2)
