@@ -1,5 +1,5 @@
 -- A product, a sum and a difference of finite values: the exact result over the values' denominators, rounded once. Assumes nothing.
-use mathlib.Core.Path.{_≡_, refl, ap, _∙_}
+use mathlib.Core.Path.{_≡_, ap, _∙_}
 use mathlib.Core.Bool.{Bool, not}
 use Prim.Native.Nat.{ℕ, _*_, _<_}
 use native.Mathlib.Nat.{mul-pos, mul-assoc, mul-comm, mul-right-comm, mul-mul-mul-comm}

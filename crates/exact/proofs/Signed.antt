@@ -1,8 +1,7 @@
 -- Signed whole numbers as pairs: distances add up along a way, and grow with a common factor. Assumes nothing.
-use mathlib.Core.Path.{_≡_, refl, sym, ap, _∙_, subst}
 use mathlib.Core.Bool.{Bool, true, false}
 use Prim.Native.Nat.{ℕ, _+_, _*_, _≤_, _<_}
-use native.Mathlib.Nat.{le-trans, le-of-eq, mul-add, mul-le-mul-left, le-of-mul-le-mul-left}
+use native.Mathlib.Nat.{mul-le-mul-left, le-of-mul-le-mul-left}
 use native.Mathlib.Omega.{arith}
 use Rattle.exact.specs.Signed.{Signed, Same, Apart, signed, times, plusS, lessS}
 

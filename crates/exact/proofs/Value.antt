@@ -2,14 +2,15 @@
 use mathlib.Core.Path.{_≡_, refl, sym, ap, _∙_, subst}
 use mathlib.Core.Bool.{Bool, not, cond, _&&_}
 use Prim.Native.Nat.{ℕ, zero, suc, _+_, _-_, _*_, _/_, _%_, _^_, _≤_, _<_}
-use native.Mathlib.Nat.{le-trans, le-of-eq, le-of-suc-le-suc, lt-of-not-le, not-le-of-lt, mul-assoc, mul-one, one-mul, mul-right-comm, mul-div-cancel, sub-add-cancel, eq-of-mul-eq-mul-right}
+use native.Mathlib.Nat.{le-of-eq, le-of-suc-le-suc, lt-of-not-le, not-le-of-lt, mul-assoc, mul-one, one-mul, mul-right-comm, mul-div-cancel, sub-add-cancel, eq-of-mul-eq-mul-right}
 use lib.Dec.{T, eqb, ltb, leb, eqb→eq, ltb→lt, leb→le, lit<, lit≤}
 use lib.IntN.{ℤ, pos, negsuc}
-use lib.Pow.{pow-add, pow-lt}
-use lib.Ieee.{Float, nan, inf, fin, binary64, up, down, size, top, hid, fits, neg, ofBits, toBits}
+use lib.Pow.{pow-add, pow-lt, pow-pos}
+use lib.Ieee.{Float, nan, inf, fin, binary64, up, down, size, fits, neg, ofBits, toBits}
 use lib.Ieee.Fits.{down-pos, and-l, and-r}
 use lib.Ieee.Bits.{ofBits-toBits}
 use lib.Ieee.Exact.{HasValue}
+use lib.Ieee.Nearest.{div-same}
 use lib.Ieee.Scale.{finite}
 use Rattle.exact.specs.Value.{Units, signOf, unitsOf}
 
@@ -108,15 +109,23 @@ own x f t =
     let d = digits-of x f t in
     subst (λ (n : ℕ). Units x (signOf x) n) (sym (units-are x (signOf x) (d .digits * 2 ^ d .shift) (d .value))) (d .value)
 
--- ---- two doubles of one sign and one size are one double
-pub bits-are : (x : Float) (s : Bool) (n : ℕ) → Units x s n → toBits binary64 x ≡ cond s (2 ^ 63) 0 + (size n - 53) * 2 ^ 52 + n / 2 ^ (size n - 53)
-unfolding toBits
-bits-are nan s n v = absurd v
-bits-are (inf t) s n v = absurd v
-bits-are (fin t m e) s n v =
-    let u : m * up e * 2 ^ 1074 / down e ≡ n = units-are (fin t m e) s n v in
-    λ i. cond (v .0 i) (2 ^ 63) 0 + (size (u i) - 53) * 2 ^ 52 + u i / 2 ^ (size (u i) - 53)
+-- ---- two doubles of one sign and one size are one double: the bits written for n units tell all
+abbrev patternOf : Bool → ℕ → ℕ
+patternOf s n = cond s (2 ^ 63) 0 + (size n - 53) * 2 ^ 52 + n / 2 ^ (size n - 53)
 
-pub unique : (x y : Float) (s : Bool) (n : ℕ) → T (fits binary64 x) → T (fits binary64 y) → Units x s n → Units y s n → x ≡ y
-unique x y s n p q v w =
-    sym (ofBits-toBits binary64 x p) ∙ ap (ofBits binary64) (bits-are x s n v ∙ sym (bits-are y s n w)) ∙ ofBits-toBits binary64 y q
+bits-at : (x : Float) (s : Bool) (a c : ℕ) → 0 < c → HasValue x s a c → toBits binary64 x ≡ patternOf s (a * 2 ^ 1074 / c)
+unfolding toBits
+bits-at nan s a c C v = absurd v
+bits-at (inf t) s a c C v = absurd v
+bits-at (fin t m e) s a c C v =
+    let n : m * up e * 2 ^ 1074 / down e ≡ a * 2 ^ 1074 / c =
+    div-same (m * up e * 2 ^ 1074) (down e) (a * 2 ^ 1074) c (down-pos e) C
+    (mul-right-comm (m * up e) (2 ^ 1074) c ∙ ap (λ (z : ℕ). z * 2 ^ 1074) (v .1) ∙ mul-right-comm a (down e) (2 ^ 1074)) in
+    λ i. patternOf (v .0 i) (n i)
+
+pub bits-are : (x : Float) (s : Bool) (n : ℕ) → Units x s n → toBits binary64 x ≡ cond s (2 ^ 63) 0 + (size n - 53) * 2 ^ 52 + n / 2 ^ (size n - 53)
+bits-are x s n v = bits-at x s n (2 ^ 1074) (pow-pos 1074) v ∙ ap (patternOf s) (mul-div-cancel n (pow-pos 1074))
+
+pub unique : (x y : Float) (s : Bool) (a c : ℕ) → 0 < c → T (fits binary64 x) → T (fits binary64 y) → HasValue x s a c → HasValue y s a c → x ≡ y
+unique x y s a c C p q v w =
+    sym (ofBits-toBits binary64 x p) ∙ ap (ofBits binary64) (bits-at x s a c C v ∙ sym (bits-at y s a c C w)) ∙ ofBits-toBits binary64 y q

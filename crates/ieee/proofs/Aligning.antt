@@ -1,5 +1,5 @@
 -- ±x * 2 ^ e ± y * 2 ^ (e - d), from x and from the j that stands for y / 2 ^ d: sums, differences and orders are those of x and j. Assumes nothing.
-use mathlib.Core.Path.{_≡_, refl, sym, ap, _∙_, subst}
+use mathlib.Core.Path.{_≡_, sym, ap, _∙_, subst}
 use Prim.Native.Nat.{ℕ, suc, _+_, _-_, _*_, _/_, _%_, _^_, _≤_, _<_}
 use native.Mathlib.Nat.{le-of-eq, lt-of-le-of-lt, lt-of-lt-of-le, lt-of-not-le, le-of-suc-le-suc, add-mul, add-zero, mul-assoc, mul-comm, mul-sub, mul-lt-mul-of-pos-right, mul-mod-left, div-add-mod', sub-add-cancel, add-comm}
 use native.Mathlib.Omega.{arith}

@@ -2,10 +2,10 @@
 use mathlib.Core.Path.{_≡_, refl, sym, ap, _∙_, subst}
 use mathlib.Core.Logic.{inl, inr}
 use mathlib.Core.Bool.{Bool, true, false, not, cond, Bool·beq, _&&_, _||_, true≢false}
-use Prim.Native.Nat.{ℕ, _+_, _-_, _*_, _/_, _%_, _^_, _≤_, _<_}
-use native.Mathlib.Nat.{lt-irrefl, lt-of-not-le, eq-zero-or-pos, mul-pos, mul-assoc, mul-comm, mul-one, one-mul, mul-right-comm, mul-left-comm, mul-mul-mul-comm, zero-mul, add-zero, sub-zero, mod-lt}
+use Prim.Native.Nat.{ℕ, _-_, _*_, _/_, _%_, _^_, _≤_, _<_}
+use native.Mathlib.Nat.{lt-irrefl, lt-of-not-le, eq-zero-or-pos, mul-pos, mul-assoc, mul-comm, mul-one, mul-left-comm, zero-mul, add-zero, sub-zero, mod-lt}
 use native.Mathlib.Omega.{arith}
-use lib.Dec.{T, leb, ltb, eqb, ltb→lt, lt→ltb, eqb→eq, lit<}
+use lib.Dec.{T, leb, eqb, ltb→lt, lt→ltb, eqb→eq, lit<}
 use lib.IntN.{ℤ, pos}
 use lib.Pow.{pow-pos}
 use lib.Ieee.{Float, nan, inf, fin, binary64, up, down, unlike, round, sum, add, mul, eq, fits, isNan, ofFields, ofBits, toBits}
@@ -17,7 +17,7 @@ use Rattle.exact.proofs.Sum.{sum-same, sum-like, sum-first}
 use Rattle.exact.proofs.Operation.{mul-rounds, add-rounds}
 use Rattle.exact.proofs.Value.{rescale}
 use Rattle.ieee.specs.Fused.{fma, nonzero}
-use Rattle.ieee.proofs.Bits.{by-fields}
+use Rattle.ieee.proofs.Bits.{bits-are}
 
 -- ---- over one denominator
 fma-is : (s t u : Bool) (m n w : ℕ) (e d g : ℤ) → fma binary64 (fin s m e) (fin t n d) (fin u w g) ≡ sum binary64 (unlike s t) (m * up e * (n * up d) * down g) u (w * up g * (down e * down d)) (down e * down d * down g)
@@ -215,7 +215,7 @@ top-fields s t h = by (eqb t 0) h
     by false h = h
 
 pub bits-range : (x : Float) → T (nonzero x) → T (fits binary64 x) → (0 < toBits binary64 x % 2 ^ 63) × (toBits binary64 x % 2 ^ 63 < 2047 * 2 ^ 52)
-bits-range x h f = range (toBits binary64 x) (subst (λ (y : Float). T (nonzero y)) (sym (ofBits-toBits binary64 x f) ∙ by-fields (toBits binary64 x)) h)
+bits-range x h f = range (toBits binary64 x) (subst (λ (y : Float). T (nonzero y)) (sym (ofBits-toBits binary64 x f) ∙ bits-are (toBits binary64 x) (toBits binary64 x % 2 ^ 63 / 2 ^ 52) (toBits binary64 x % 2 ^ 52) refl refl) h)
   where
     digits-zero : (b : ℕ) → b % 2 ^ 63 ≡ 0 → b % 2 ^ 52 ≡ 0
     digits-zero b e = omega arith

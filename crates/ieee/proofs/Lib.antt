@@ -1,9 +1,14 @@
+pub mod Bits
+pub mod Comparing
+pub mod Fractions
+pub mod Ceiling
+pub mod Powers
+pub mod Cutting
 pub mod Words
 pub mod StickyBit
 pub mod Shifting
 pub mod Leading
 pub mod Quarters
-pub mod Bits
 pub mod Packing
 pub mod Rounds
 pub mod Aligning

@@ -7,7 +7,7 @@ use native.Mathlib.Nat.{le-refl, le-trans, le-of-eq, lt-of-le-of-lt, lt-of-lt-of
 use native.Mathlib.Omega.{arith}
 use lib.Dec.{T, ltb, lit<, ltb→lt, nltb→le}
 use lib.Pow.{pow-add, pow-pos, pow-mono, pow-lt, shl-lt}
-use lib.Ieee.{Float, inf, binary64, size, odd, units, fits, ofBits, toBits}
+use lib.Ieee.{inf, binary64, size, odd, units, ofBits, toBits}
 use lib.Ieee.Bits.{ofBits-toBits}
 use lib.Ieee.Digits.{size-lt, size-le}
 use lib.Ieee.Exact.{odd-sign}

@@ -1,8 +1,8 @@
 -- THE STICKY LAW: a number cut with two bits to spare and a sticky last bit rounds to the nearest as the whole number does. Assumes nothing.
 use mathlib.Core.Path.{_≡_, refl, sym, ap, _∙_, subst}
-use mathlib.Core.Logic.{_⊎_, inl, inr}
+use mathlib.Core.Logic.{inl, inr}
 use Prim.Native.Nat.{ℕ, zero, suc, _+_, _*_, _/_, _%_, _^_, _≤_, _<_, compare, Ordering, Ordering·lt, Ordering·eq, Ordering·gt}
-use native.Mathlib.Nat.{add-mul, mul-assoc, mul-comm, mod-lt, div-add-mod', eq-zero-or-pos}
+use native.Mathlib.Nat.{mul-comm, mod-lt, div-add-mod', eq-zero-or-pos}
 use native.Mathlib.Omega.{arith}
 use lib.Arith.{digits-lt, digits-div, digits-mod}
 use lib.Pow.{pow-add, pow-pos}

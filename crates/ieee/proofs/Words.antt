@@ -1,7 +1,7 @@
 -- Numbers of two digits in a base p: what their upper digit is, their product by its columns, and a number of two words shifted right word by word. Assumes nothing.
-use mathlib.Core.Path.{_≡_, refl, sym, ap, _∙_}
+use mathlib.Core.Path.{_≡_, sym, ap, _∙_}
 use Prim.Native.Nat.{ℕ, suc, _+_, _-_, _*_, _/_, _%_, _^_, _≤_, _<_}
-use native.Mathlib.Nat.{le-of-eq, lt-of-le-of-lt, lt-of-lt-of-le, lt-of-not-le, le-of-suc-le-suc, le-add-right, lt-of-mul-lt-mul-right, add-assoc, add-comm, add-left-comm, add-zero, add-mul, mul-add, mul-assoc, mul-comm, mul-left-comm, mul-right-comm, mul-le-mul-right, suc-mul, mod-lt, mul-mod-left, div-add-mod', sub-add-cancel}
+use native.Mathlib.Nat.{le-of-eq, lt-of-le-of-lt, lt-of-lt-of-le, lt-of-not-le, le-of-suc-le-suc, le-add-right, lt-of-mul-lt-mul-right, add-assoc, add-comm, add-left-comm, add-zero, add-mul, mul-add, mul-assoc, mul-comm, mul-left-comm, mul-le-mul-right, suc-mul, mod-lt, mul-mod-left, div-add-mod', sub-add-cancel}
 use native.Mathlib.Omega.{arith}
 use lib.Arith.{digits-lt, mod-mul}
 use lib.Pow.{pow-pos, pow-add, shr-lt, shl-shr}

@@ -1,5 +1,5 @@
 -- IEEE 754-2019, 5.4.1, fusedMultiplyAdd: (x * y) + z as if with unbounded range and precision, rounded only once. Definitions only.
-use Prim.Native.Nat.{ℕ, _*_}
+use Prim.Native.Nat.{_*_}
 use mathlib.Core.Bool.{Bool, false}
 use lib.Dec.{ltb}
 use lib.Ieee.{Float, nan, inf, fin, Format, up, down, unlike, sum, add, mul}

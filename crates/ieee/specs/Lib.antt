@@ -1,4 +1,8 @@
 pub mod Finite
+pub mod Ceiling
+pub mod Fraction
+pub mod Exp2
+pub mod Cut
 pub mod Fused
 pub mod Words
 pub mod Sticky

@@ -1,10 +1,8 @@
 -- `ieee::finite::is_finite` meets its contract: only what is finite lies between the infinities, by cases on x. Assumes nothing.
 use mathlib.Core.Path.{_≡_, refl, sym}
 use mathlib.Core.Bool.{true, false, true≢false}
-use lib.Dec.{lit≤}
-use lib.Ieee.{Float, nan, inf, fin, lt, ofBits}
+use lib.Ieee.{Float, nan, inf, fin, lt, ofBits, nanBits}
 use lib.Ieee.Scale.{finite}
-use Rattle.ieee.proofs.Bits.{no-nan}
 use Rattle.ieee.proofs.finite.is_finite.Statement.{statement}
 use Rattle.ieee.proofs.finite.is_finite.Tie as tie
 
@@ -22,10 +20,12 @@ not-above (inf s) h = refl
 not-above (fin s m e) h = absurd (true≢false h)
 
 float-from-bits-below : tie.Need-float-from-bits-below
-float-from-bits-below c = no-nan 0xfff0_0000_0000_0000 (lit≤ tt)
+unfolding nanBits
+float-from-bits-below c = tt
 
 float-from-bits-above : tie.Need-float-from-bits-above
-float-from-bits-above c = no-nan 0x7ff0_0000_0000_0000 (lit≤ tt)
+unfolding nanBits
+float-from-bits-above c = tt
 
 returns : tie.Need-returns
 unfolding ofBits

@@ -11,7 +11,7 @@ use lib.Pow.{pow-mono}
 use lib.Ieee.{binary64, round, ofBits}
 use Rattle.exact.proofs.Sum.{sum-like, sum-first, sum-second, sum-none}
 use Rattle.ieee.specs.Words.{words}
-use Rattle.ieee.specs.Sticky.{Sticky, Whole}
+use Rattle.ieee.specs.Sticky.{Whole}
 use Rattle.ieee.proofs.StickyBit.{lt-of-sticky}
 use Rattle.ieee.proofs.Words.{upper-lt}
 use Rattle.ieee.proofs.Aligning.{whole-sum, whole-up, whole-down, order-up, order-down, order-same}

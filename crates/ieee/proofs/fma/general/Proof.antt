@@ -8,7 +8,7 @@ use native.Mathlib.Omega.{arith}
 use lib.Dec.{T, leb, lit<, lit≤}
 use lib.Arith.{sub-sub-self}
 use lib.Pow.{pow-add, pow-pos}
-use lib.Ieee.{Float, binary64, unlike, sum, fits, ofBits, toBits}
+use lib.Ieee.{Float, binary64, unlike, sum, fits, toBits}
 use lib.Ieee.Bits.{ofBits-toBits}
 use lib.Ieee.Exact.{HasValue}
 use Rattle.exact.proofs.Sum.{sum-comm}

@@ -10,7 +10,7 @@ use lib.Count.{leadingZeros, leading-le}
 use lib.Dec.{lit<}
 use lib.Pow.{pow-add}
 use Rattle.ieee.specs.Words.{words}
-use Rattle.ieee.specs.Sticky.{Sticky, Whole}
+use Rattle.ieee.specs.Sticky.{Sticky}
 use Rattle.ieee.specs.Pack.{Normal}
 use Rattle.ieee.proofs.Leading.{Leading, leading, zeros-fit, shifted-low, shifted-high}
 use Rattle.ieee.proofs.StickyBit.{sticky-via, lt-of-sticky, ge-of-sticky}

@@ -1,7 +1,7 @@
 -- `ieee::pack::rounded` meets its contract: below e = 1187 to the nearest multiple of the smallest double, from there on to 53 digits. Assumes nothing.
 use borrow.Author.Needs.{needs}
 use mathlib.Core.Path.{_≡_, sym, ap, _∙_, subst}
-use Prim.Native.Nat.{ℕ, _+_, _-_, _^_, _≤_, _<_}
+use Prim.Native.Nat.{ℕ, _+_, _-_, _^_, _≤_}
 use native.Mathlib.Nat.{lt-of-lt-of-le, lt-irrefl, sub-add-cancel}
 use native.Mathlib.Omega.{arith}
 use lib.Dec.{lit≤}

@@ -1,18 +1,19 @@
 -- `ieee::significand::significand` meets its contract: the digits of a subnormal double, or those with the leading one, by the exponent's field. Assumes nothing.
 use borrow.Author.Needs.{needs}
-use mathlib.Core.Path.{_≡_, sym, ap, _∙_, subst}
+use mathlib.Core.Path.{_≡_, refl, sym, ap, _∙_, subst}
 use mathlib.Core.Logic.{inl, inr}
 use Prim.Native.Nat.{ℕ, suc, _+_, _-_, _*_, _/_, _%_, _^_, _<_}
-use native.Mathlib.Nat.{lt-of-lt-of-le, add-comm, eq-zero-or-pos}
+use native.Mathlib.Nat.{lt-of-lt-of-le, add-comm, mul-one, eq-zero-or-pos}
 use native.Mathlib.Omega.{arith}
 use lib.Bits.{bitAnd, and-mask, mask-lt}
 use lib.Dec.{leb, lit<, lit≤}
 use lib.Ieee.{binary64, ofBits}
 use lib.Ieee.Exact.{HasValue}
 use mir.Facts.{fits-of-lt}
+use Rattle.exact.specs.Value.{Units}
 use Rattle.exact.proofs.Value.{scale}
 use Rattle.ieee.specs.Significand.{Shifted, Significand}
-use Rattle.ieee.proofs.Bits.{subnormal, normal}
+use Rattle.ieee.proofs.Bits.{value-low, value-normal}
 use Rattle.ieee.proofs.significand.significand.Statement.{statement}
 use Rattle.ieee.proofs.significand.significand.Tie as tie
 
@@ -24,7 +25,7 @@ digits : (b : ℕ) → bitAnd b 0xf_ffff_ffff_ffff ≡ b % 2 ^ 52
 digits b = and-mask b 52
 
 -- from units of 2 ^ -1074 to units of 2 ^ -1136
-finer : (b m e t k : ℕ) → Shifted m e t k → HasValue (ofBits binary64 b) (leb (2 ^ 63) b) (t * 2 ^ k) (2 ^ 1074) → Significand m e b
+finer : (b m e t k : ℕ) → Shifted m e t k → Units (ofBits binary64 b) (leb (2 ^ 63) b) (t * 2 ^ k) → Significand m e b
 finer b m e t k s v =
     record {
       low = s .low;
@@ -36,6 +37,9 @@ finer b m e t k s v =
 
 some-digits : (b : ℕ) → 0 < b % 2 ^ 63 → b % 2 ^ 63 / 2 ^ 52 ≡ 0 → 0 < b % 2 ^ 52
 some-digits b h e = omega arith
+
+only-digits : (b : ℕ) → b % 2 ^ 63 / 2 ^ 52 ≡ 0 → b % 2 ^ 63 < 2 ^ 52
+only-digits b e = omega arith
 
 -- a field that is not 0 is suc of the exponent that the code hands on
 module _ (b : ℕ) (some : bitAnd b 0x7fff_ffff_ffff_ffff / 2 ^ 52 ≡ 0 → ⊥) (fine : b % 2 ^ 63 < 2047 * 2 ^ 52) where
@@ -76,7 +80,7 @@ returns c =
     let b = c .before .before .args .b in
     let r = c .shifted .result in
     finer b (r .m) (r .e) (bitAnd b 0xf_ffff_ffff_ffff) 0 (c .shifted .ensures)
-    (subst (λ (t : ℕ). HasValue (ofBits binary64 b) (leb (2 ^ 63) b) (t * 2 ^ 0) (2 ^ 1074)) (sym (digits b)) (subnormal b (sym (field b) ∙ c .before .if1 .taken)))
+    (subst (λ (t : ℕ). Units (ofBits binary64 b) (leb (2 ^ 63) b) t) (sym (digits b) ∙ sym (mul-one (bitAnd b 0xf_ffff_ffff_ffff))) (value-low b (only-digits b (sym (field b) ∙ c .before .if1 .taken))))
 
 returns-2 : tie.Need-returns-2
 returns-2 c =
@@ -85,8 +89,8 @@ returns-2 c =
     let r = c .shifted2 .result in
     let k = bitAnd b 0x7fff_ffff_ffff_ffff / 2 ^ 52 - 1 in
     finer b (r .m) (r .e) (bitAnd b 0xf_ffff_ffff_ffff + 2 ^ 52) k (c .shifted2 .ensures)
-    (subst (λ (t : ℕ). HasValue (ofBits binary64 b) (leb (2 ^ 63) b) (t * 2 ^ k) (2 ^ 1074)) (ap (λ (t : ℕ). 2 ^ 52 + t) (sym (digits b)) ∙ add-comm (2 ^ 52) (bitAnd b 0xf_ffff_ffff_ffff))
-    (normal b k (next b (c .before .if1 .left) (s .pre .1)) (omega (arith, below b (c .before .if1 .left) (s .pre .1)))))
+    (subst (λ (t : ℕ). Units (ofBits binary64 b) (leb (2 ^ 63) b) (t * 2 ^ k)) (ap (λ (t : ℕ). 2 ^ 52 + t) (sym (digits b)) ∙ add-comm (2 ^ 52) (bitAnd b 0xf_ffff_ffff_ffff))
+    (value-normal b k (b % 2 ^ 52) (next b (c .before .if1 .left) (s .pre .1)) refl (below b (c .before .if1 .left) (s .pre .1))))
 
 pub significand-spec : {M : Type 1} → statement M
 significand-spec =

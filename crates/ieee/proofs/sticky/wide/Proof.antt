@@ -1,6 +1,6 @@
 -- `ieee::sticky::wide` meets its contract: by no bit, within a word, by a word and then within it, or all of it. Assumes nothing.
 use borrow.Author.Needs.{needs}
-use mathlib.Core.Path.{_≡_, sym, ap, _∙_, subst}
+use mathlib.Core.Path.{sym, ap, _∙_, subst}
 use mathlib.Core.Logic.{inl}
 use Prim.Native.Nat.{ℕ, _*_, _-_, _^_}
 use native.Mathlib.Nat.{lt-of-lt-of-le, mul-one, zero-add, sub-add-cancel}

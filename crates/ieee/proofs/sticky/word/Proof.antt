@@ -1,6 +1,6 @@
 -- `ieee::sticky::word` meets its contract: n is q * 2 ^ s and a rest, and the shift back tells whether the rest is 0. Assumes nothing.
 use borrow.Author.Needs.{needs}
-use mathlib.Core.Path.{_≡_, sym, _∙_, subst}
+use mathlib.Core.Path.{sym, _∙_, subst}
 use mathlib.Core.Logic.{inl}
 use Prim.Native.Nat.{ℕ, _/_, _%_, _^_}
 use native.Mathlib.Nat.{mod-lt, div-add-mod'}

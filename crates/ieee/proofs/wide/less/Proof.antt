@@ -1,6 +1,5 @@
 -- `ieee::wide::less` meets its contract: the upper words decide, and where they are equal the lower ones. Assumes nothing.
 use mathlib.Core.Path.{sym}
-use Prim.Native.Nat.{ℕ, _≤_, _<_, _^_}
 use native.Mathlib.Nat.{le-antisymm}
 use native.Mathlib.Omega.{arith}
 use Rattle.exact.proofs.Order.{ltb-yes, ltb-no, ltb-same}

@@ -1,7 +1,7 @@
 -- `ieee::wide::product` meets its contract: each column's sum fits a word, and the columns add up to the product. Assumes nothing.
 use mathlib.Core.Path.{_≡_, sym, ap, _∙_, subst}
 use Prim.Native.Nat.{ℕ, _+_, _-_, _*_, _/_, _%_, _^_, _≤_, _<_}
-use native.Mathlib.Nat.{le-refl, le-trans, le-of-eq, le-of-lt, lt-of-le-of-lt, le-add-right, mul-le-mul-left, mul-le-mul-right, mul-lt-mul-of-pos-right, mod-eq-of-lt}
+use native.Mathlib.Nat.{le-of-eq, le-of-lt, lt-of-le-of-lt, le-add-right, mul-le-mul-left, mul-le-mul-right, mul-lt-mul-of-pos-right, mod-eq-of-lt}
 use native.Mathlib.Omega.{arith}
 use lib.Bits.{bitAnd, and-mask, mask-lt}
 use lib.Pow.{pow-pos, shr-lt, split}

@@ -1,0 +1,64 @@
+//! Nanoseconds a call: ours, Rust's as an ordinary release build calls it, and the ratio. The best of several runs over numbers that
+//! fit the cache; the calls do not wait for one another.
+use crate::host;
+use crate::rng::Rng;
+use std::hint::black_box;
+use std::time::Instant;
+
+const NUMBERS: usize = 4096;
+const ROUNDS: usize = 200;
+const RUNS: usize = 15;
+
+pub fn run() {
+    println!(
+        "{:44} {:>8} {:>8} {:>8}",
+        "nanoseconds a call", "ours", "std", "ratio"
+    );
+    let mut rng = Rng::new(4);
+    let wide = numbers(|| {
+        let (ea, eb) = (rng.within(923, 1123), rng.within(923, 1123));
+        let ec = ea + eb - 1023 + rng.within(-80, 80);
+        [ea, eb, ec].map(|field| rng.in_field(field))
+    });
+    fused("mul_add, wide exponents", &wide);
+    let samples = numbers(|| [0; 3].map(|_| rng.sample()));
+    fused("mul_add, samples from -1 to 1", &samples);
+    let indices = numbers(|| rng.sample() * 65536.0);
+    ceiling("ceil, numbers from -65536 to 65536", &indices);
+}
+
+fn numbers<T>(mut next: impl FnMut() -> T) -> Vec<T> {
+    (0..NUMBERS).map(|_| next()).collect()
+}
+
+fn fused(name: &str, triples: &[[f64; 3]]) {
+    let ours = best(triples, |&[a, b, c]| host::mul_add(a, b, c));
+    let theirs = best(triples, |&[a, b, c]| a.mul_add(b, c));
+    row(name, ours, theirs);
+}
+
+fn ceiling(name: &str, numbers: &[f64]) {
+    let ours = best(numbers, |&x| host::ceil(x));
+    let theirs = best(numbers, |&x| x.ceil());
+    row(name, ours, theirs);
+}
+
+fn row(name: &str, ours: f64, theirs: f64) {
+    println!("{name:44} {ours:8.2} {theirs:8.2} {:8.2}", ours / theirs);
+}
+
+/// Nanoseconds a call in the best run.
+fn best<T>(inputs: &[T], call: impl Fn(&T) -> f64) -> f64 {
+    let run = || {
+        let start = Instant::now();
+        let mut sum = 0u64;
+        for _ in 0..ROUNDS {
+            for input in black_box(inputs) {
+                sum = sum.wrapping_add(call(input).to_bits());
+            }
+        }
+        black_box(sum);
+        start.elapsed().as_nanos() as f64 / (ROUNDS * inputs.len()) as f64
+    };
+    (0..RUNS).map(|_| run()).fold(f64::INFINITY, f64::min)
+}

@@ -1,0 +1,28 @@
+//! Our exported functions beside Rust's, over many inputs: one file a subject. See compare/run and compare/bench.
+mod bench;
+mod host;
+mod ieee;
+mod report;
+mod rng;
+
+use std::process::ExitCode;
+
+fn main() -> ExitCode {
+    let scale = match std::env::args().nth(1).as_deref() {
+        Some("bench") => {
+            bench::run();
+            return ExitCode::SUCCESS;
+        }
+        Some(word) => match word.parse() {
+            Ok(scale) => scale,
+            Err(_) => {
+                eprintln!("usage: compare [SCALE | bench]");
+                return ExitCode::from(2);
+            }
+        },
+        None => 1,
+    };
+    let mut report = report::Report::new();
+    ieee::compare(&mut report, scale);
+    report.close()
+}

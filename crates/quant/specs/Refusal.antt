@@ -1,0 +1,22 @@
+-- Document 01, "What each number means": the number of each refusal. Definitions only.
+use Prim.Native.Nat.{ℕ}
+use Rattle.quant.specs.declared.refusal.Refusal.{Refusal}
+use Rattle.quant.specs.declared.refusal.Refusal.the-variants.{Unfit, Malformed, Full, Oversize, UnknownShape, NegativePlateau, UnknownChannel, NotFinite, BeforeRow, StartPastRow, ShapeTooShort, EndPastRow, WrongSize, Crosstalk, Layout}
+
+-- 16 to 23 are kept for document 02
+abbrev pub numberOf : Refusal → ℕ
+numberOf Unfit = 1
+numberOf Malformed = 2
+numberOf Full = 3
+numberOf Oversize = 4
+numberOf UnknownShape = 5
+numberOf NegativePlateau = 6
+numberOf UnknownChannel = 7
+numberOf NotFinite = 8
+numberOf BeforeRow = 9
+numberOf StartPastRow = 10
+numberOf ShapeTooShort = 11
+numberOf EndPastRow = 12
+numberOf WrongSize = 13
+numberOf Crosstalk = 14
+numberOf Layout = 15

@@ -1,0 +1,4 @@
+// Quantities, names, answers and alignment: what the executor and the sampler are written in. The Rust's src/quant.rs.
+pub mod complex;
+pub mod quantity;
+pub mod refusal;

@@ -1,0 +1,65 @@
+// What a call answers: done, with a count, or refused, with the number of document 01's table and a place.
+ghost use mathlib.Core.Path.{_≡_};
+ghost use Rattle.quant.specs.Refusal.{numberOf};
+
+// One case for each number of document 01's table, in its order.
+pub enum Refusal {
+    // 1: sample rate, 1/rate, delay, tolerance or align level unfit
+    Unfit,
+    // 2: a number that is not finite, a width below 0, or a name that breaks the rule
+    Malformed,
+    // 3: a new channel, shape, bin or pulse meets a full table
+    Full,
+    // 4: the required duration is over the span and the tolerance
+    Oversize,
+    // 5: shape name unknown
+    UnknownShape,
+    // 6: plateau below 0
+    NegativePlateau,
+    // 7: channel unknown
+    UnknownChannel,
+    // 8: a number worked out on the way is not finite
+    NotFinite,
+    // 9: aligned start below 0
+    BeforeRow,
+    // 10: start index not below the row length
+    StartPastRow,
+    // 11: shaped pulse with t1 < 0
+    ShapeTooShort,
+    // 12: end index over the row length
+    EndPastRow,
+    // 13: a lent buffer, command list, row, matrix, tap or section count has a wrong size
+    WrongSize,
+    // 14: a crosstalk name is doubled, has no list, or a row name is no column
+    Crosstalk,
+    // 15: a sheet breaks its layout
+    Layout,
+}
+
+// The count of commands run or pulses added; or the refusal and its place.
+pub enum Answer {
+    Done(usize),
+    Refused(Refusal, usize),
+}
+
+pub fn number(r: Refusal) -> usize
+    ensures { λ n. ⌜ n ≡ numberOf r ⌝ }
+{
+    match r {
+        Refusal::Unfit => 1,
+        Refusal::Malformed => 2,
+        Refusal::Full => 3,
+        Refusal::Oversize => 4,
+        Refusal::UnknownShape => 5,
+        Refusal::NegativePlateau => 6,
+        Refusal::UnknownChannel => 7,
+        Refusal::NotFinite => 8,
+        Refusal::BeforeRow => 9,
+        Refusal::StartPastRow => 10,
+        Refusal::ShapeTooShort => 11,
+        Refusal::EndPastRow => 12,
+        Refusal::WrongSize => 13,
+        Refusal::Crosstalk => 14,
+        Refusal::Layout => 15,
+    }
+}

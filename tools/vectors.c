@@ -1,0 +1,309 @@
+/* Makes the list of answers that the program replay_ieee reads (crates/replay_ieee/stdin).
+ *
+ * The answers are the hardware's: the instructions vfmadd (fused multiply-add) and roundsd upwards (ceiling) of an x86-64
+ * processor, which this text names by their intrinsics, in the default modes (nearest even, subnormals kept). The seed is fixed, so
+ * tools/vectors makes the same list every time:
+ *
+ *     gcc -O2 -mfma -o target/vectors tools/vectors.c && target/vectors > crates/replay_ieee/stdin
+ *
+ * A line is `f A B C R` for R = A * B + C rounded once, or `c X R` for the least whole number R at or above X; each number is a
+ * double's bits in 16 lowercase hex digits.
+ */
+#include <immintrin.h>
+#include <stdint.h>
+#include <stdio.h>
+#include <string.h>
+
+#define SIGN 0x8000000000000000u
+#define FRACTION 0x000fffffffffffffu
+#define INFINITE 0x7ff0000000000000u
+#define COUNT(a) (sizeof(a) / sizeof((a)[0]))
+
+/* ---- doubles and their bits */
+
+static double of(uint64_t bits)
+{
+    double x;
+    memcpy(&x, &bits, sizeof x);
+    return x;
+}
+
+static uint64_t bits_of(double x)
+{
+    uint64_t bits;
+    memcpy(&bits, &x, sizeof bits);
+    return bits;
+}
+
+/* sign, exponent field and fraction */
+static uint64_t made(uint64_t sign, int field, uint64_t fraction)
+{
+    return (sign & 1) << 63 | (uint64_t)field << 52 | (fraction & FRACTION);
+}
+
+static int clamped(int n, int least, int most)
+{
+    return n < least ? least : n > most ? most : n;
+}
+
+/* ---- the two kinds of line */
+
+static void fused(uint64_t a, uint64_t b, uint64_t c)
+{
+    __m128d r = _mm_fmadd_sd(_mm_set_sd(of(a)), _mm_set_sd(of(b)), _mm_set_sd(of(c)));
+    printf("f %016lx %016lx %016lx %016lx\n", a, b, c, bits_of(_mm_cvtsd_f64(r)));
+}
+
+static void ceiling(uint64_t x)
+{
+    __m128d r = _mm_ceil_sd(_mm_set_sd(0.0), _mm_set_sd(of(x)));
+    printf("c %016lx %016lx\n", x, bits_of(_mm_cvtsd_f64(r)));
+}
+
+/* ---- chance: splitmix64. C leaves open in which order the operands of an expression are worked out, so each has one draw at most. */
+
+static uint64_t state = 0x536b696572726131u;
+
+static uint64_t chance(void)
+{
+    uint64_t z = state += 0x9e3779b97f4a7c15u;
+    z = (z ^ z >> 30) * 0xbf58476d1ce4e5b9u;
+    z = (z ^ z >> 27) * 0x94d049bb133111ebu;
+    return z ^ z >> 31;
+}
+
+static int below(int n)
+{
+    return (int)(chance() % (uint64_t)n);
+}
+
+/* a fraction: often one with long runs of equal digits */
+static uint64_t fraction(void)
+{
+    uint64_t run = ((uint64_t)1 << below(52)) - 1;
+    switch (below(6)) {
+    case 0: return 0;
+    case 1: return FRACTION;
+    case 2: return run;
+    case 3: return FRACTION ^ run;
+    default: return chance() & FRACTION;
+    }
+}
+
+static uint64_t normal(int field)
+{
+    uint64_t sign = chance();
+    return made(sign, field, fraction());
+}
+
+static uint64_t subnormal(void)
+{
+    uint64_t digits = chance();
+    return (digits & SIGN) | (digits & FRACTION) >> below(52) | 1;
+}
+
+/* a number whose significand is an odd multiple of 2^26, so that the product of two has its last digit half way below a double's */
+static uint64_t half_way(int field)
+{
+    uint64_t digits = chance();
+    return made(digits >> 63, field, (digits & FRACTION) >> 27 << 27 | (uint64_t)1 << 26);
+}
+
+/* ---- special values: 0, 1, infinity, the smallest and the largest subnormal, the smallest normal, the largest finite, the numbers
+ * next to 1, each with both signs; and a NaN */
+
+static uint64_t special[19];
+
+static void make_special(void)
+{
+    static const uint64_t plain[] = {
+        0, 0x3ff0000000000000u, INFINITE, 1, FRACTION, 0x0010000000000000u, 0x7fefffffffffffffu, 0x3ff0000000000001u,
+        0x3fefffffffffffffu,
+    };
+    for (size_t i = 0; i < COUNT(plain); i++) {
+        special[2 * i] = plain[i];
+        special[2 * i + 1] = plain[i] | SIGN;
+    }
+    special[18] = 0x7ff8000000000000u;
+}
+
+/* a third of all triples, so chosen that every pair of values stands in every two of the three places */
+static void special_triples(void)
+{
+    for (size_t i = 0; i < COUNT(special); i++)
+        for (size_t j = 0; j < COUNT(special); j++)
+            for (size_t k = 0; k < COUNT(special); k++)
+                if ((i + j + k) % 3 == 0)
+                    fused(special[i], special[j], special[k]);
+}
+
+/* ---- classes of fused multiply-add */
+
+/* the addend's exponent from 130 below the product's to 130 above it, with like and unlike signs */
+static void every_exponent_relation(void)
+{
+    for (int d = -130; d <= 130; d++)
+        for (int k = 0; k < 4; k++) {
+            int ea = 823 + below(400);
+            int eb = 823 + below(400);
+            uint64_t a = normal(ea);
+            uint64_t b = normal(eb);
+            uint64_t like = (a ^ b) >> 63;
+            uint64_t c = made(like ^ (uint64_t)k, ea + eb - 1023 + d, k < 2 ? fraction() : chance());
+            fused(a, b, c);
+        }
+}
+
+/* the addend is minus the rounded product, or a few units in the last place beside that */
+static void cancellation(void)
+{
+    for (int i = 0; i < 80; i++) {
+        uint64_t a = normal(523 + below(1000));
+        uint64_t b = normal(923 + below(200));
+        uint64_t p = bits_of(of(a) * of(b)) ^ SIGN;
+        for (int n = -3; n <= 3; n++)
+            fused(a, b, p + (uint64_t)n);
+    }
+}
+
+/* subnormal operands; products among or below the subnormals; results at the edge of the normal numbers */
+static void around_the_subnormals(void)
+{
+    for (int i = 0; i < 150; i++) {
+        uint64_t a = subnormal();
+        uint64_t b = normal(1 + below(2046));
+        uint64_t c = i % 2 == 0 ? subnormal() : normal(1 + below(1100));
+        fused(a, b, c);
+        fused(b, a, c);
+    }
+    for (int i = 0; i < 300; i++) {
+        int ea = 1 + below(1100);
+        int eb = clamped(1023 - ea + below(180) - 120, 1, 2046);
+        uint64_t a = normal(ea);
+        uint64_t b = normal(eb);
+        uint64_t c = i % 3 == 0 ? chance() & SIGN : i % 3 == 1 ? subnormal() : normal(1 + below(3));
+        fused(a, b, c);
+    }
+}
+
+/* sums just below, at and just over half a unit above the largest finite number; and products about as large as it */
+static void around_the_overflow(void)
+{
+    static const uint64_t edge[] = {
+        0x7c90000000000000u, 0x7c8fffffffffffffu, 0x7c90000000000001u, 0x7ca0000000000000u, 0x7c80000000000000u, 1, 0,
+        0x7fefffffffffffffu,
+    };
+    static const uint64_t most[] = {0x7fefffffffffffffu, 0x7feffffffffffffeu, 0x7fe0000000000000u};
+    static const uint64_t one[] = {0x3ff0000000000000u, 0x3ff0000000000001u, 0x3fefffffffffffffu, 0x4000000000000000u};
+    for (size_t i = 0; i < COUNT(edge); i++)
+        for (size_t j = 0; j < COUNT(most); j++)
+            for (size_t k = 0; k < COUNT(one); k++)
+                for (uint64_t s = 0; s < 2; s++) {
+                    fused(most[j], one[k], edge[i] ^ s << 63);
+                    if (s == 0)
+                        fused(most[j] | SIGN, one[k], edge[i] | SIGN);
+                }
+    for (int i = 0; i < 200; i++) {
+        int ea = 1024 + below(1023);
+        uint64_t a = normal(ea);
+        uint64_t b = normal(clamped(3069 - ea + below(4) - 2, 1, 2046));
+        uint64_t c = normal(2046 - below(110));
+        fused(a, b, c);
+    }
+}
+
+/* The product is half a unit in the last place of the addend, exactly; or off from that by a bit 52 or 104 places further down.
+ * Then the product itself lies half way between two doubles, and the addend is 0 or the smallest bit there is. */
+static void ties(void)
+{
+    for (int i = 0; i < 100; i++) {
+        int field = 500 + below(1000);
+        uint64_t c = normal(field);
+        uint64_t sign = chance();
+        int eb = field - 53;
+        fused(0x3ff0000000000000u, made(sign, eb, 0), c);
+        fused(0x3ff0000000000001u, made(sign, eb, 0), c);
+        fused(0x3fefffffffffffffu, made(sign, eb, 0), c);
+        fused(0x3ff0000000000001u, made(sign, eb - 1, FRACTION - 1), c);
+    }
+    for (int i = 0; i < 50; i++) {
+        uint64_t a = half_way(1023);
+        uint64_t b = half_way(823 + below(400));
+        fused(a, b, chance() & SIGN);
+        fused(a, b, 1);
+        fused(a, b, SIGN | 1);
+        fused(a, b, normal(523));
+    }
+}
+
+static void any_bits(void)
+{
+    for (int i = 0; i < 400; i++) {
+        uint64_t a = chance();
+        uint64_t b = chance();
+        uint64_t c = chance();
+        fused(a, b, c);
+    }
+}
+
+/* ---- classes of ceiling */
+
+/* two numbers of every exponent field, one of each sign; eight where a number can have whole digits and others */
+static void every_exponent(void)
+{
+    for (int field = 0; field < 2047; field++)
+        for (uint64_t sign = 0; sign < 2; sign++) {
+            ceiling(made(sign, field, chance()));
+            if (1020 <= field && field <= 1077) {
+                ceiling(made(sign, field, 0));
+                ceiling(made(sign, field, FRACTION));
+                ceiling(made(sign, field, fraction()));
+            }
+        }
+}
+
+/* powers of two up to 2^53, the whole numbers beside them and halves, each with its neighbours */
+static void around_whole_numbers(void)
+{
+    for (int e = 0; e <= 53; e += e < 4 || e > 48 ? 1 : 4) {
+        double p = (double)((uint64_t)1 << e);
+        const double beside[] = {p, p + 1.0, p - 1.0, p + 0.5};
+        for (size_t i = 0; i < COUNT(beside); i++)
+            for (int n = -1; n <= 1; n++) {
+                uint64_t x = bits_of(beside[i]);
+                if (x == 0 && n < 0)
+                    continue;
+                ceiling(x + (uint64_t)n);
+                ceiling((x + (uint64_t)n) | SIGN);
+            }
+    }
+}
+
+static void special_ceilings(void)
+{
+    static const uint64_t nans[] = {0xfff8000000000000u, 0x7ff0000000000001u, 0xffffffffffffffffu};
+    for (size_t i = 0; i < COUNT(special); i++)
+        ceiling(special[i]);
+    for (size_t i = 0; i < COUNT(nans); i++)
+        ceiling(nans[i]);
+    ceiling(bits_of(0.5));
+    ceiling(bits_of(-0.5));
+    for (int i = 0; i < 40; i++)
+        ceiling(subnormal());
+}
+
+int main(void)
+{
+    make_special();
+    special_triples();
+    every_exponent_relation();
+    cancellation();
+    around_the_subnormals();
+    around_the_overflow();
+    ties();
+    any_bits();
+    special_ceilings();
+    every_exponent();
+    around_whole_numbers();
+    return 0;
+}
