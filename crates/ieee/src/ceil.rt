@@ -32,6 +32,7 @@ fn below_one(bits: u64) -> f64
     if bits == 0 {
         return 0.0;
     }
+    // the sign's bit is not set
     if bits < 0x8000_0000_0000_0000 {
         return 1.0;
     }
@@ -46,6 +47,7 @@ fn from_one(bits: u64, drop: u64) -> f64
     ensures { λ r. ⌜ r ≡ ceiling (ofBits binary64 bits) ⌝ }
 {
     let cut = (bits >> drop) << drop;
+    // the sign's bit is set
     if bits >= 0x8000_0000_0000_0000 {
         return f64::from_bits(cut);
     }

@@ -3,6 +3,7 @@ ghost use mathlib.Core.Path.{_≡_};
 ghost use Rattle.ieee.specs.Cut.{cutOf};
 use std::num::truncating_f64_to_u64;
 
+// An index, a number below or above every index, or no number.
 pub enum Cut {
     Index(usize),
     Below,
@@ -10,7 +11,8 @@ pub enum Cut {
     NotANumber,
 }
 
-// The whole part of x where that is an index, else on which side of the indices it lies.
+// The whole part of x where that is an index, else on which side of the indices it lies. The two
+// ends are -1 and 2^64.
 pub fn cut_off(x: f64) -> Cut
     ensures { λ r. ⌜ r ≡ cutOf x ⌝ }
 {

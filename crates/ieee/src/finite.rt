@@ -6,7 +6,10 @@ ghost use Rattle.ieee.specs.Finite.{isFinite};
 pub fn is_finite(x: f64) -> bool
     ensures { λ r. ⌜ r ≡ isFinite x ⌝ }
 {
-    let below: f64 = f64::from_bits(0xfff0_0000_0000_0000);
-    let above: f64 = f64::from_bits(0x7ff0_0000_0000_0000);
-    if below < x { x < above } else { false }
+    let minus_infinity: f64 = f64::from_bits(0xfff0_0000_0000_0000);
+    let infinity: f64 = f64::from_bits(0x7ff0_0000_0000_0000);
+    if minus_infinity < x {
+        return x < infinity;
+    }
+    false
 }

@@ -108,9 +108,9 @@ module _ (s : tie.Start) where
 returns : tie.Need-returns
 returns c = zero ∙ sym (underflow (z (c .before)) (yes (c .if1 .taken))) ∙ back (c .before)
 
-float-from-bits-result : tie.Need-float-from-bits-result
+float-from-bits-infinity : tie.Need-float-from-bits-infinity
 unfolding nanBits
-float-from-bits-result c = tt
+float-from-bits-infinity c = tt
 
 returns-2 : tie.Need-returns-2
 returns-2 c = infinity ∙ sym (overflow (z (c .before .before)) (yes (c .if2 .taken))) ∙ back (c .before .before)
@@ -138,8 +138,8 @@ module _ (c : tie.After-places) where
 shl-result : tie.Need-shl-result
 shl-result c = search needs
 
-float-from-bits-result-2 : tie.Need-float-from-bits-result-2
-float-from-bits-result-2 c = subst (λ (b : ℕ). T (not (nanBits binary64 b))) (sym (bit-code (k (c .before)) (c .if3 .taken))) (bit-finite (k (c .before)) (c .if3 .taken))
+float-from-bits-result : tie.Need-float-from-bits-result
+float-from-bits-result c = subst (λ (b : ℕ). T (not (nanBits binary64 b))) (sym (bit-code (k (c .before)) (c .if3 .taken))) (bit-finite (k (c .before)) (c .if3 .taken))
 
 returns-3 : tie.Need-returns-3
 returns-3 c = ap (ofBits binary64) (bit-code (k (c .before)) (c .if3 .taken)) ∙ made (c .before) (2 ^ k (c .before)) (bit-value (k (c .before)) (c .if3 .taken))
@@ -147,8 +147,8 @@ returns-3 c = ap (ofBits binary64) (bit-code (k (c .before)) (c .if3 .taken)) �
 sub-result : tie.Need-sub-result
 sub-result c = search needs
 
-float-from-bits-result-3 : tie.Need-float-from-bits-result-3
-float-from-bits-result-3 c =
+float-from-bits-result-2 : tie.Need-float-from-bits-result-2
+float-from-bits-result-2 c =
     let j = k (c .before) in
     let h = k-lt (c .before) in
     subst (λ (b : ℕ). T (not (nanBits binary64 b))) (sym (field-code j (c .if3 .left) h)) (field-finite j (c .if3 .left) h)
@@ -164,12 +164,12 @@ exp2-spec =
     tie.close
     (tie.spec
     returns
-    float-from-bits-result
+    float-from-bits-infinity
     returns-2
     places-requires
     shl-result
-    float-from-bits-result-2
+    float-from-bits-result
     returns-3
     sub-result
-    float-from-bits-result-3
+    float-from-bits-result-2
     returns-4)

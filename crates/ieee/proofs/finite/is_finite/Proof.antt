@@ -19,13 +19,13 @@ not-above nan h = refl
 not-above (inf s) h = refl
 not-above (fin s m e) h = absurd (true≢false h)
 
-float-from-bits-below : tie.Need-float-from-bits-below
+float-from-bits-minus-infinity : tie.Need-float-from-bits-minus-infinity
 unfolding nanBits
-float-from-bits-below c = tt
+float-from-bits-minus-infinity c = tt
 
-float-from-bits-above : tie.Need-float-from-bits-above
+float-from-bits-infinity : tie.Need-float-from-bits-infinity
 unfolding nanBits
-float-from-bits-above c = tt
+float-from-bits-infinity c = tt
 
 returns : tie.Need-returns
 unfolding ofBits
@@ -36,4 +36,4 @@ unfolding ofBits
 returns-2 c = not-above (c .before .args .x) (c .if1 .left)
 
 pub is-finite-spec : {M : Type 1} → statement M
-is-finite-spec = tie.close (tie.spec float-from-bits-below float-from-bits-above returns returns-2)
+is-finite-spec = tie.close (tie.spec float-from-bits-minus-infinity float-from-bits-infinity returns returns-2)

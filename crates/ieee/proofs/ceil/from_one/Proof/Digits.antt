@@ -76,6 +76,7 @@ none c r b e f = omega arith
 some : (c r b : ℕ) → c + r ≡ b → (c ≡ b → ⊥) → 0 < r
 some c r b e n = omega arith
 
+-- t are the digits after the leading one, and suc x is the exponent's field
 module _ (b p : ℕ) (f : Fraction b p) where
   abbrev P : ℕ
   P = 2 ^ p
