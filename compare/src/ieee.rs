@@ -8,9 +8,9 @@ type Fused = fn(f64, f64, f64) -> f64;
 pub fn compare(report: &mut Report, scale: u64) {
     report.subject("mul_add beside f64::mul_add");
     fused(report, scale, host::mul_add, f64::mul_add);
-    // Where the target is not said to have the instruction, Rust compiles `f64::mul_add` to a call of `fma`. With rustc 1.95 that is
-    // compiler_builtins' function, which takes the instruction where it finds one and else works the answer out; glibc's, which
-    // other toolchains link, does the same. Neither is taken on trust: on the same inputs the instruction itself is asked.
+    // Where the target is not said to have the instruction, Rust compiles `f64::mul_add` to a call of `fma`. With rustc 1.95 the linker
+    // takes that from compiler_builtins, not from glibc's libm; it asks the processor once and then runs the instruction, or works the
+    // answer out where there is none. So that nothing rests on this, the instruction itself is asked on the same inputs.
     if let Some(instruction) = instruction() {
         report.subject("f64::mul_add beside the instruction");
         fused(report, scale, f64::mul_add, instruction);

@@ -1,0 +1,47 @@
+-- Document 01, "Placing and sampling": i = ceil((time+delay)*(rate*2^-level)); aligned = i*2^level. The start is aligned cut off; offset = ceil(aligned) - aligned. Definitions only.
+use mathlib.Core.Bool.{cond}
+use lib.IntN.{ℤ, negℤ}
+use lib.Ieee.{Float, binary64, mul, sub, lt, ofBits}
+use lib.Ieee.Scale.{finite}
+use Rattle.ieee.specs.Ceiling.{ceiling}
+use Rattle.ieee.specs.Cut.{cutOf}
+use Rattle.ieee.specs.Exp2.{exp2Of}
+use Rattle.ieee.specs.declared.cut.Cut.{Cut}
+use Rattle.ieee.specs.declared.cut.Cut.the-variants as cut
+use Rattle.quant.specs.declared.aligned.Aligned.{Aligned}
+use Rattle.quant.specs.declared.aligned.Aligned.the-variants as aligned
+use Rattle.quant.specs.declared.aligned.Placed.{Placed}
+use Rattle.quant.specs.declared.aligned.Placed.the-variants as placed
+
+-- rate*2^-level; time times that; its ceiling i, times 2^level. Each operation rounds once.
+abbrev pub scaledRate : Float → ℤ → Float
+scaledRate rate level = mul binary64 rate (exp2Of (negℤ level))
+
+abbrev pub stepsAt : Float → Float → ℤ → Float
+stepsAt time rate level = mul binary64 time (scaledRate rate level)
+
+abbrev pub alignedAt : Float → Float → ℤ → Float
+alignedAt time rate level = mul binary64 (ceiling (stepsAt time rate level)) (exp2Of level)
+
+-- each number worked out is judged, and one that is not finite is the answer
+abbrev pub judged : Float → Aligned → Aligned
+judged x a = cond (finite x) a aligned.NotFinite
+
+abbrev pub alignedOf : Float → Float → ℤ → Aligned
+alignedOf time rate level =
+    judged (scaledRate rate level)
+    (judged (stepsAt time rate level) (judged (alignedAt time rate level) (aligned.Index (alignedAt time rate level))))
+
+-- the start where the aligned index a is cut off to w; -0.25 is below 0, and -0 is not
+abbrev pub cutTo : Float → Cut → Placed
+cutTo a (cut.Index w) = placed.Start w (sub binary64 (ceiling a) a)
+cutTo a cut.Below = placed.Before
+cutTo a cut.Above = placed.Beyond
+cutTo a cut.NotANumber = placed.NotFinite
+
+abbrev pub startOf : Float → Placed
+startOf a = cond (lt a (ofBits binary64 0)) placed.Before (cutTo a (cutOf a))
+
+abbrev pub placedOf : Aligned → Placed
+placedOf (aligned.Index a) = startOf a
+placedOf aligned.NotFinite = placed.NotFinite

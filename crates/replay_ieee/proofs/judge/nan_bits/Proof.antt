@@ -1,0 +1,13 @@
+-- `replay_ieee::judge::nan_bits` meets its contract, by the library's law: a pattern is a NaN's where it lies above infinity's, the sign
+-- left out. Assumes nothing.
+use mathlib.Core.Path.{sym}
+use lib.Ieee.{binary64}
+use lib.Ieee.Bits.{nanBits-above}
+use Rattle.replay_ieee.proofs.judge.nan_bits.Statement.{statement}
+use Rattle.replay_ieee.proofs.judge.nan_bits.Tie as tie
+
+returns : tie.Need-returns
+returns c = sym (nanBits-above binary64 (c .args .bits))
+
+pub nan-bits-spec : {M : Type 1} → statement M
+nan-bits-spec = tie.close (tie.spec returns)
