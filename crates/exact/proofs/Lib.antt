@@ -1,7 +1,12 @@
 pub mod Order
+pub mod Naturals
 pub mod Value
 pub mod Sum
 pub mod Operation
 pub mod Half
 pub mod Rounding
 pub mod Signed
+pub mod Few
+pub mod Compare
+pub mod Remainder
+pub mod Bounded

@@ -1,12 +1,13 @@
 -- `sum`, which adds two signed fractions and rounds once: which way it goes, that its terms may change places, and that only their values count. Assumes nothing.
-use mathlib.Core.Path.{_≡_, refl, sym, ap, _∙_, subst}
+use mathlib.Core.Path.{_≡_, refl, sym, ap, _∙_}
 use mathlib.Core.Bool.{Bool, true, false, not, cond, Bool·beq, _&&_}
 use Prim.Native.Nat.{ℕ, _+_, _-_, _*_, _≤_, _<_}
-use native.Mathlib.Nat.{le-of-eq, le-of-lt, le-antisymm, not-le-of-lt, lt-of-mul-lt-mul-right, add-mul, add-comm, mul-comm, mul-sub, mul-lt-mul-of-pos-right, sub-self}
+use native.Mathlib.Nat.{le-of-eq, le-of-lt, le-antisymm, not-le-of-lt, add-mul, add-comm, sub-self}
 use lib.Dec.{T, ltb, ltb→lt, nltb→le}
 use lib.Ieee.{Float, Format, round, sum}
 use lib.Ieee.Scale.{round-same}
-use Rattle.exact.proofs.Order.{ltb-yes, ltb-no, ltb-same}
+use Rattle.exact.proofs.Order.{ltb-yes, ltb-no}
+use Rattle.exact.proofs.Naturals.{ltb-cross, cross-sub}
 
 -- where the signs differ: the larger size less the smaller, with the larger's sign; x and y say whether a < b and b < a
 abbrev unlikeSum : Format → Bool → Bool → ℕ → ℕ → ℕ → Bool → Bool → Float
@@ -75,21 +76,11 @@ sum-comm f true false a b c = unlike f true false a b c refl refl
 sum-comm f false true a b c = unlike f false true a b c refl refl
 
 -- ---- x / c and a / u are one fraction, and so are y / c and b / u
-cross-lt : (x y c a b u : ℕ) → 0 < u → x * u ≡ a * c → y * u ≡ b * c → x < y → a < b
-cross-lt x y c a b u U p q h =
-    lt-of-mul-lt-mul-right c (subst (λ (z : ℕ). z < b * c) p (subst (λ (z : ℕ). x * u < z) q (mul-lt-mul-of-pos-right h U)))
-
-sub-mul : (x y u : ℕ) → (x - y) * u ≡ x * u - y * u
-sub-mul x y u = mul-comm (x - y) u ∙ mul-sub u x y ∙ ap (λ (z : ℕ). z - u * y) (mul-comm u x) ∙ ap (λ (z : ℕ). x * u - z) (mul-comm u y)
-
-cross-sub : (x y c a b u : ℕ) → x * u ≡ a * c → y * u ≡ b * c → (x - y) * u ≡ (a - b) * c
-cross-sub x y c a b u p q = sub-mul x y u ∙ ap (λ (z : ℕ). z - y * u) p ∙ ap (λ (z : ℕ). a * c - z) q ∙ sym (sub-mul a b c)
-
 pub sum-same : (f : Format) (s t : Bool) (x y c a b u : ℕ) → 0 < c → 0 < u → x * u ≡ a * c → y * u ≡ b * c → sum f s x t y c ≡ sum f s a t b u
 sum-same f s t x y c a b u C U p q =
     let r = round f in
-    let l : ltb x y ≡ ltb a b = ltb-same x y a b (cross-lt x y c a b u U p q) (cross-lt a b u x y c C (sym p) (sym q)) in
-    let m : ltb y x ≡ ltb b a = ltb-same y x b a (cross-lt y x c b a u U q p) (cross-lt b a u y x c C (sym q) (sym p)) in
+    let l : ltb x y ≡ ltb a b = ltb-cross x y c a b u C U p q in
+    let m : ltb y x ≡ ltb b a = ltb-cross y x c b a u C U q p in
     let plus : r s (x + y) c ≡ r s (a + b) u = round-same f s (x + y) c (a + b) u C U (add-mul x y u ∙ ap (λ (z : ℕ). z + y * u) p ∙ ap (λ (z : ℕ). a * c + z) q ∙ sym (add-mul a b c)) in
     let second : r t (y - x) c ≡ r t (b - a) u = round-same f t (y - x) c (b - a) u C U (cross-sub y x c b a u q p) in
     let first : (z : Bool) → r z (x - y) c ≡ r z (a - b) u = λ z. round-same f z (x - y) c (a - b) u C U (cross-sub x y c a b u p q) in

@@ -1,15 +1,13 @@
 -- ±x * 2 ^ e ± y * 2 ^ (e - d), from x and from the j that stands for y / 2 ^ d: sums, differences and orders are those of x and j. Assumes nothing.
 use mathlib.Core.Path.{_≡_, sym, ap, _∙_, subst}
 use Prim.Native.Nat.{ℕ, suc, _+_, _-_, _*_, _/_, _%_, _^_, _≤_, _<_}
-use native.Mathlib.Nat.{le-of-eq, lt-of-le-of-lt, lt-of-lt-of-le, lt-of-not-le, le-of-suc-le-suc, add-mul, add-zero, mul-assoc, mul-comm, mul-sub, mul-lt-mul-of-pos-right, mul-mod-left, div-add-mod', sub-add-cancel, add-comm}
+use native.Mathlib.Nat.{le-of-eq, lt-of-le-of-lt, lt-of-lt-of-le, lt-of-not-le, le-of-suc-le-suc, add-mul, add-zero, mul-assoc, mul-lt-mul-of-pos-right, mul-mod-left, div-add-mod', sub-add-cancel, add-comm}
 use native.Mathlib.Omega.{arith}
 use lib.Dec.{lit<, lit≤}
 use lib.Pow.{pow-add, pow-pos, pow-mono}
+use Rattle.exact.proofs.Naturals.{sub-mul}
 use Rattle.ieee.specs.Sticky.{Sticky, Whole}
 use Rattle.ieee.proofs.StickyBit.{sticky-scale, sticky-add, sticky-sub, sticky-from, sticky-above, sticky-below, sticky-even, sticky-clean, lt-of-sticky}
-
-sub-mul : (x y p : ℕ) → (x - y) * p ≡ x * p - y * p
-sub-mul x y p = mul-comm (x - y) p ∙ mul-sub p x y ∙ ap (λ (z : ℕ). z - p * y) (mul-comm p x) ∙ ap (λ (z : ℕ). x * p - z) (mul-comm p y)
 
 module _ (x y j e d : ℕ) (even : x % 2 ≡ 0) (v : Sticky j d y) (within : d ≤ e) (x-low : 2 ^ 124 ≤ x) (y-high : y < 2 ^ 127) (clear : y % 2 ^ 20 ≡ 0) where
   rest : d + (e - d) ≡ e

@@ -1,0 +1,20 @@
+-- Laws of naturals that the library lacks: a difference times a number, and orders of equal fractions. Assumes nothing.
+use mathlib.Core.Path.{_≡_, sym, ap, _∙_, subst}
+use Prim.Native.Nat.{ℕ, _-_, _*_, _<_}
+use native.Mathlib.Nat.{lt-of-mul-lt-mul-right, mul-comm, mul-sub, mul-lt-mul-of-pos-right}
+use lib.Dec.{ltb}
+use Rattle.exact.proofs.Order.{ltb-same}
+
+pub sub-mul : (x y u : ℕ) → (x - y) * u ≡ x * u - y * u
+sub-mul x y u = mul-comm (x - y) u ∙ mul-sub u x y ∙ ap (λ (z : ℕ). z - u * y) (mul-comm u x) ∙ ap (λ (z : ℕ). x * u - z) (mul-comm u y)
+
+-- ---- x / c and a / u are one fraction, and so are y / c and b / u
+cross-lt : (x y c a b u : ℕ) → 0 < u → x * u ≡ a * c → y * u ≡ b * c → x < y → a < b
+cross-lt x y c a b u U p q h =
+    lt-of-mul-lt-mul-right c (subst (λ (z : ℕ). z < b * c) p (subst (λ (z : ℕ). x * u < z) q (mul-lt-mul-of-pos-right h U)))
+
+pub ltb-cross : (x y c a b u : ℕ) → 0 < c → 0 < u → x * u ≡ a * c → y * u ≡ b * c → ltb x y ≡ ltb a b
+ltb-cross x y c a b u C U p q = ltb-same x y a b (cross-lt x y c a b u U p q) (cross-lt a b u x y c C (sym p) (sym q))
+
+pub cross-sub : (x y c a b u : ℕ) → x * u ≡ a * c → y * u ≡ b * c → (x - y) * u ≡ (a - b) * c
+cross-sub x y c a b u p q = sub-mul x y u ∙ ap (λ (z : ℕ). z - y * u) p ∙ ap (λ (z : ℕ). a * c - z) q ∙ sym (sub-mul a b c)

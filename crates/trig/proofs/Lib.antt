@@ -1,0 +1,10 @@
+pub mod Reducing
+pub mod Multiple
+pub mod Series
+pub mod Partial
+pub mod Step
+pub mod Chain
+pub mod Answer
+pub mod Bound
+pub mod Special
+pub mod Coefficients

@@ -1,0 +1,3 @@
+pub mod Reduce
+pub mod Trig
+pub mod Series
