@@ -3,19 +3,21 @@ use mathlib.Core.Path.{_≡_, refl, sym, ap, _∙_, subst}
 use mathlib.Core.Logic.{_⊎_, inl, inr}
 use mathlib.Core.Bool.{Bool, true, false, cond}
 use Prim.Native.Nat.{ℕ, _+_, _-_, _*_, _/_, _^_, _≤_, _<_}
-use native.Mathlib.Nat.{le-trans, le-of-eq, lt-of-lt-of-le, eq-or-lt-of-le, eq-zero-or-pos, mul-assoc, mul-comm, mul-one, one-mul, mul-pos, mul-le-mul-left, le-of-mul-le-mul-right, lt-of-mul-lt-mul-right, div-lt-iff-lt-mul, le-div-iff-mul-le}
+use native.Mathlib.Nat.{le-trans, le-of-eq, lt-of-lt-of-le, eq-or-lt-of-le, eq-zero-or-pos, mul-assoc, mul-comm, mul-one, one-mul, mul-pos, mul-le-mul-left, le-of-mul-le-mul-right, lt-of-mul-lt-mul-right, div-lt-iff-lt-mul, le-div-iff-mul-le, mul-left-comm, mul-lt-mul-of-pos-right}
 use native.Mathlib.Omega.{arith}
 use lib.Dec.{T, ltb, ltb→lt, lit<}
-use lib.Pow.{pow-add, pow-pos, pow-mono}
+use lib.Pow.{pow-add, pow-pos, pow-mono, shl-lt}
 use lib.Ieee.{Float, inf, binary64, size, odd, units, round}
 use lib.Ieee.Digits.{size-le, size-reaches}
 use lib.Ieee.Fits.{round-is}
 use lib.Ieee.Exact.{units-val, round-exact}
+use lib.Ieee.Nearest.{closest}
 use lib.Ieee.Order.{drop, kept}
 use lib.Ieee.Scale.{finite, grid, overflow, round-same}
 use Rattle.exact.specs.Value.{Units}
 use Rattle.exact.specs.Near.{Off, Within, Part}
-use Rattle.exact.proofs.Half.{closest-half}
+use Rattle.exact.proofs.Half.{closest-half, closest-whole}
+use Rattle.exact.proofs.Value.{pow-split}
 
 -- ---- from a half of the unit u that is kept to each way of saying it. d is v c: the answer v, times c
 -- the unit u is c, or 2 ^ 52 of it are at most n
@@ -155,3 +157,22 @@ pub round-none : (s : Bool) (a c d j : ℕ) → 0 < c → d < 2 ^ 53 → a * 2 ^
 round-none s a c d j C h e l =
     subst (λ (z : Float). Units z s (d * 2 ^ j)) (sym (round-same binary64 s a c (d * 2 ^ j) (2 ^ 1074) C (pow-pos 1074) e))
     (round-exact binary64 s (d * 2 ^ j) (2 ^ 1074) d j (pow-pos 1074) h l refl)
+
+-- the same where it is only known that the result is finite
+pub round-finite : (s : Bool) (a c d j : ℕ) → 0 < c → d < 2 ^ 53 → a * 2 ^ 1074 ≡ d * 2 ^ j * c → T (finite (round binary64 s a c)) → Units (round binary64 s a c) s (d * 2 ^ j)
+round-finite s a c d j C h e t =
+    let n = a * 2 ^ 1074 in
+    let k = drop 53 n c in
+    let k-le : k ≤ j =
+    spare (size (n / c)) j
+    (size-le (n / c) (53 + j) (div-lt-iff-lt-mul C .1 (subst (λ (x : ℕ). x < 2 ^ (53 + j) * c) (sym e) (mul-lt-mul-of-pos-right (shl-lt 53 j h) C)))) in
+    let split : 2 ^ (j - k) * 2 ^ k ≡ 2 ^ j = pow-split k j k-le in
+    let whole : n ≡ d * 2 ^ (j - k) * (c * 2 ^ k) = e ∙ ap (λ (x : ℕ). d * x * c) (sym split) ∙ regrouped d (2 ^ (j - k)) (2 ^ k) c in
+    let kept-is : kept 53 n c ≡ d * 2 ^ (j - k) = ap (λ (x : ℕ). closest x (c * 2 ^ k)) whole ∙ closest-whole (d * 2 ^ (j - k)) (c * 2 ^ k) (mul-pos C (pow-pos k)) in
+    subst (λ (x : ℕ). Units (round binary64 s a c) s x) (ap (λ (x : ℕ). x * 2 ^ k) kept-is ∙ mul-assoc d (2 ^ (j - k)) (2 ^ k) ∙ ap (λ (x : ℕ). d * x) split) (round-value s a c t)
+  where
+    spare : (z j : ℕ) → z ≤ 53 + j → z - 53 ≤ j
+    spare z j h = omega arith
+
+    regrouped : (d x y c : ℕ) → d * (x * y) * c ≡ d * x * (c * y)
+    regrouped d x y c = simp (mul-assoc, mul-comm, mul-left-comm)

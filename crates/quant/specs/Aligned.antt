@@ -1,7 +1,10 @@
 -- Document 01, "Placing and sampling": i = ceil((time+delay)*(rate*2^-level)); aligned = i*2^level. The start is aligned cut off; offset = ceil(aligned) - aligned. Definitions only.
-use mathlib.Core.Bool.{cond}
+use mathlib.Core.Path.{_≡_}
+use mathlib.Core.Bool.{Bool, false, cond}
+use Prim.Native.Nat.{ℕ, _+_, _*_, _^_, _<_}
 use lib.IntN.{ℤ, negℤ}
 use lib.Ieee.{Float, binary64, mul, sub, lt, ofBits}
+use lib.Ieee.Exact.{HasValue}
 use lib.Ieee.Scale.{finite}
 use Rattle.ieee.specs.Ceiling.{ceiling}
 use Rattle.ieee.specs.Cut.{cutOf}
@@ -45,3 +48,17 @@ startOf a = cond (lt a (ofBits binary64 0)) placed.Before (cutTo a (cutOf a))
 abbrev pub placedOf : Aligned → Placed
 placedOf (aligned.Index a) = startOf a
 placedOf aligned.NotFinite = placed.NotFinite
+
+-- ---- what is proved of the offset (proofs/Offset.antt)
+
+-- In steps of 2^-20 samples: the aligned index a is w of them, its ceiling is n samples, and the offset x is d steps, exactly the n 2^20 - w that are missing, less than one sample.
+pub record Offset (a x : Float) : Type 0 where
+  pub s : Bool
+  pub w : ℕ
+  pub n : ℕ
+  pub d : ℕ
+  pub index : HasValue a s w (2 ^ 20)
+  pub above : HasValue (ceiling a) s n 1
+  pub offset : HasValue x false d (2 ^ 20)
+  pub exact : w + d ≡ n * 2 ^ 20
+  pub less : d < 2 ^ 20

@@ -3,3 +3,4 @@ pub mod Quantity
 pub mod Complex
 pub mod Aligned
 pub mod Settings
+pub mod Phaser
