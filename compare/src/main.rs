@@ -2,6 +2,7 @@
 mod bench;
 mod host;
 mod ieee;
+mod replays;
 mod report;
 mod rng;
 
@@ -13,10 +14,18 @@ fn main() -> ExitCode {
             bench::run();
             return ExitCode::SUCCESS;
         }
+        Some("replays") => {
+            let list = std::env::args().nth(2).unwrap_or_default();
+            if replays::print(&list) {
+                return ExitCode::SUCCESS;
+            }
+            eprintln!("usage: compare replays align | osc");
+            return ExitCode::from(2);
+        }
         Some(word) => match word.parse() {
             Ok(scale) => scale,
             Err(_) => {
-                eprintln!("usage: compare [SCALE | bench]");
+                eprintln!("usage: compare [SCALE | bench | replays LIST]");
                 return ExitCode::from(2);
             }
         },
