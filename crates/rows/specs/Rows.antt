@@ -1,10 +1,13 @@
 -- Rows of samples, as the steps on them take them. Definitions only.
-use Prim.Native.Nat.{ℕ, zero, suc}
+use Prim.Native.Nat.{ℕ}
 use mathlib.Core.Bool.{Bool, true, false, _&&_, cond}
 use mathlib.Core.List.{List, [], _∷_}
 use lib.Dec.{leb, eqb}
 use lib.Ieee.{Float}
 use lib.Ieee.Scale.{finite}
+use Rattle.quant.specs.declared.refusal.Answer.{Answer}
+use Rattle.quant.specs.declared.refusal.Answer.the-variants.{Done, Refused}
+use Rattle.quant.specs.declared.refusal.Refusal.the-variants.{Malformed, WrongSize}
 
 -- one row, and then the second has no samples, or two of equal length; at most 65,536 samples
 abbrev pub rowsFit : ℕ → ℕ → ℕ → Bool
@@ -14,10 +17,12 @@ unfoldable pub allFinite : List Float → Bool
 allFinite [] = true
 allFinite (x ∷ xs) = finite x && allFinite xs
 
--- the row of n samples whose k-th is f k, k from 0
-unfoldable pub rowFrom : {A : Type 0} → ℕ → ℕ → (ℕ → A) → List A
-rowFrom zero k f = []
-rowFrom (suc n) k f = f k ∷ rowFrom n (suc k) f
+-- the order of a step's refusals: 13 for sizes, then 2 for a number that is not finite; both before any sample changes
+abbrev pub answerOf : Bool → Bool → Answer
+answerOf false fine = Refused WrongSize 0
+answerOf true false = Refused Malformed 0
+answerOf true true = Done 0
 
-abbrev pub row : {A : Type 0} → ℕ → (ℕ → A) → List A
-row n f = rowFrom n 0 f
+-- a row afterwards: as it came where the step is refused
+abbrev pub after : Bool → Bool → List Float → List Float → List Float
+after fits fine new old = cond (fits && fine) new old
