@@ -1,7 +1,9 @@
 //! Nanoseconds a call: ours, Rust's as an ordinary release build calls it, and the ratio. The best of several runs over numbers that
 //! fit the cache; the calls do not wait for one another.
 use crate::host;
+use crate::mixer;
 use crate::rng::Rng;
+use crate::rows::{Ours, Theirs};
 use std::hint::black_box;
 use std::time::Instant;
 
@@ -25,6 +27,42 @@ pub fn run() {
     fused("mul_add, samples from -1 to 1", &samples);
     let indices = numbers(|| rng.sample() * 65536.0);
     ceiling("ceil, numbers from -65536 to 65536", &indices);
+    println!(
+        "{:44} {:>8} {:>8} {:>8}",
+        "nanoseconds a sample of each row", "ours", "Rust", "ratio"
+    );
+    step("iq", &[0.9, 0.1, -0.1, 1.1], host::iq, mixer::their_iq);
+    step(
+        "offset, two rows",
+        &[0.01, -0.02],
+        host::offset,
+        mixer::their_offset,
+    );
+}
+
+/// Two rows of NUMBERS samples from -1 to 1, stepped in place again and again; the numbers keep them finite.
+pub fn step(name: &str, numbers: &[f64], ours: Ours, theirs: Theirs) {
+    let mut rng = Rng::new(5);
+    let rows: Vec<f64> = (0..2 * NUMBERS).map(|_| rng.sample()).collect();
+    let mine = rows_best(&rows, |samples| {
+        let (i, q) = samples.split_at_mut(NUMBERS);
+        ours(2, i, q, numbers);
+    });
+    let rust = rows_best(&rows, |samples| theirs(samples, 2, numbers));
+    row(name, mine, rust);
+}
+
+/// Nanoseconds a sample of each row in the best run.
+fn rows_best(rows: &[f64], call: impl Fn(&mut [f64])) -> f64 {
+    let run = || {
+        let mut samples = rows.to_vec();
+        let start = Instant::now();
+        for _ in 0..ROUNDS {
+            call(black_box(&mut samples));
+        }
+        start.elapsed().as_nanos() as f64 / (ROUNDS * NUMBERS) as f64
+    };
+    (0..RUNS).map(|_| run()).fold(f64::INFINITY, f64::min)
 }
 
 fn numbers<T>(mut next: impl FnMut() -> T) -> Vec<T> {

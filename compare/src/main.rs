@@ -2,9 +2,11 @@
 mod bench;
 mod host;
 mod ieee;
+mod mixer;
 mod replays;
 mod report;
 mod rng;
+mod rows;
 
 use std::process::ExitCode;
 
@@ -33,5 +35,6 @@ fn main() -> ExitCode {
     };
     let mut report = report::Report::new();
     ieee::compare(&mut report, scale);
+    mixer::compare(&mut report, scale);
     report.close()
 }

@@ -4,3 +4,4 @@ pub mod Complex
 pub mod Aligned
 pub mod Settings
 pub mod Phaser
+pub mod Name

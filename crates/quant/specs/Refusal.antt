@@ -1,5 +1,7 @@
 -- Document 01, "What each number means": the number of each refusal. Definitions only.
 use Prim.Native.Nat.{ℕ}
+use Rattle.quant.specs.declared.refusal.Answer.{Answer}
+use Rattle.quant.specs.declared.refusal.Answer.the-variants.{Done, Refused}
 use Rattle.quant.specs.declared.refusal.Refusal.{Refusal}
 use Rattle.quant.specs.declared.refusal.Refusal.the-variants.{Unfit, Malformed, Full, Oversize, UnknownShape, NegativePlateau, UnknownChannel, NotFinite, BeforeRow, StartPastRow, ShapeTooShort, EndPastRow, WrongSize, Crosstalk, Layout}
 
@@ -20,3 +22,8 @@ numberOf EndPastRow = 12
 numberOf WrongSize = 13
 numberOf Crosstalk = 14
 numberOf Layout = 15
+
+-- 0 where the call is done
+abbrev pub codeOf : Answer → ℕ
+codeOf (Done count) = 0
+codeOf (Refused r place) = numberOf r

@@ -2,6 +2,7 @@
 pub mod aligned;
 pub mod complex;
 pub mod judge;
+pub mod name;
 pub mod phaser;
 pub mod quantity;
 pub mod refusal;

@@ -1,6 +1,6 @@
 // What a call answers: done, with a count, or refused, with the number of document 01's table and a place.
 ghost use mathlib.Core.Path.{_≡_};
-ghost use Rattle.quant.specs.Refusal.{numberOf};
+ghost use Rattle.quant.specs.Refusal.{numberOf, codeOf};
 
 // One case for each number of document 01's table, in its order.
 pub enum Refusal {
@@ -61,5 +61,15 @@ pub fn number(r: Refusal) -> usize
         Refusal::WrongSize => 13,
         Refusal::Crosstalk => 14,
         Refusal::Layout => 15,
+    }
+}
+
+// An answer as one number, for callers in C: 0 where the call is done.
+pub fn code(a: Answer) -> usize
+    ensures { λ n. ⌜ n ≡ codeOf a ⌝ }
+{
+    match a {
+        Answer::Done(_) => 0,
+        Answer::Refused(r, _) => number(r),
     }
 }

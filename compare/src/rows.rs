@@ -1,0 +1,57 @@
+//! The steps on rows beside the Rust's, over rows and numbers by chance: what each leaves, sample by sample.
+use crate::report::Report;
+use crate::rng::Rng;
+
+/// A step of ours: rows, I, Q, numbers; 0 where it is done. And theirs, on rows one after the other.
+pub type Ours = fn(usize, &mut [f64], &mut [f64], &[f64]) -> usize;
+pub type Theirs = fn(&mut [f64], usize, &[f64]);
+
+/// How rows and numbers are drawn.
+pub type Draw = fn(&mut Rng) -> f64;
+
+/// Finite doubles: of any bits, of exponents near one another, and samples from -1 to 1.
+pub fn any(rng: &mut Rng) -> f64 {
+    let field = rng.within(0, 2046);
+    rng.in_field(field)
+}
+
+pub fn near(rng: &mut Rng) -> f64 {
+    let field = rng.within(1019, 1027);
+    rng.in_field(field)
+}
+
+pub fn sample(rng: &mut Rng) -> f64 {
+    rng.sample()
+}
+
+/// So many calls: one or two rows of at most `longest` samples, and as many numbers as `count` gives for the rows.
+pub struct Calls {
+    pub name: &'static str,
+    pub calls: u64,
+    pub rows: &'static [usize],
+    pub longest: u64,
+    pub count: fn(&mut Rng, usize) -> usize,
+    pub draw: Draw,
+}
+
+pub fn step(report: &mut Report, rng: &mut Rng, calls: Calls, ours: Ours, theirs: Theirs) {
+    let mut class = report.class(calls.name);
+    for _ in 0..calls.calls {
+        let rows = calls.rows[rng.below(calls.rows.len() as u64) as usize];
+        let length = rng.below(calls.longest + 1) as usize;
+        let count = (calls.count)(rng, rows);
+        let numbers: Vec<f64> = (0..count).map(|_| (calls.draw)(rng)).collect();
+        let before: Vec<f64> = (0..rows * length).map(|_| (calls.draw)(rng)).collect();
+        let mut left = before.clone();
+        theirs(&mut left, rows, &numbers);
+        let mut mine = before.clone();
+        let (i, q) = mine.split_at_mut(length);
+        let code = ours(rows, i, q, &numbers);
+        // A refusal, 0 where none is due, is judged as a sample is.
+        class.judge(&numbers, code as f64, 0.0);
+        for (at, (mine, left)) in mine.iter().zip(&left).enumerate() {
+            class.judge(&[before[at]], *mine, *left);
+        }
+    }
+    report.add(class);
+}
