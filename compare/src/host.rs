@@ -1,10 +1,49 @@
 //! The functions that the crate `host` exports to C, as safe functions: none of them has a condition on its arguments.
 
+use theirs::osc::Osc;
+
+/// Three numbers, as C has them.
+#[repr(C)]
+struct State {
+    base: f64,
+    delta: f64,
+    phase: f64,
+}
+
+#[repr(C)]
+struct Moved {
+    refused: bool,
+    osc: State,
+}
+
+#[repr(C)]
+struct Swapped {
+    refused: bool,
+    one: State,
+    two: State,
+}
+
+/// A code, 0 or a refusal's number; a start and an offset.
+#[repr(C)]
+pub struct Place {
+    pub code: usize,
+    pub start: usize,
+    pub offset: f64,
+}
+
 mod c {
+    use super::{Moved, Place, State, Swapped};
+
     // A slice is two arguments: where it begins, and how many it has.
     extern "C" {
         pub fn skierralu_mul_add(a: f64, b: f64, c: f64) -> f64;
         pub fn skierralu_ceil(x: f64) -> f64;
+        pub fn skierralu_place(time: f64, rate: f64, level: i32) -> Place;
+        pub fn skierralu_shift_phase(osc: State, by: f64) -> Moved;
+        pub fn skierralu_set_phase(osc: State, to: f64, time: f64) -> Moved;
+        pub fn skierralu_shift_freq(osc: State, by: f64, time: f64) -> Moved;
+        pub fn skierralu_set_freq(osc: State, to: f64, time: f64) -> Moved;
+        pub fn skierralu_swap_phase(one: State, two: State, time: f64) -> Swapped;
         pub fn skierralu_iq(
             rows: usize,
             i: *mut f64,
@@ -32,6 +71,56 @@ pub fn mul_add(a: f64, b: f64, c: f64) -> f64 {
 
 pub fn ceil(x: f64) -> f64 {
     unsafe { c::skierralu_ceil(x) }
+}
+
+pub fn place(time: f64, rate: f64, level: i32) -> Place {
+    unsafe { c::skierralu_place(time, rate, level) }
+}
+
+impl From<Osc> for State {
+    fn from(osc: Osc) -> State {
+        State {
+            base: osc.base,
+            delta: osc.delta,
+            phase: osc.phase,
+        }
+    }
+}
+
+impl From<State> for Osc {
+    fn from(state: State) -> Osc {
+        Osc {
+            base: state.base,
+            delta: state.delta,
+            phase: state.phase,
+        }
+    }
+}
+
+/// Whether the command is refused, and the oscillator after it; likewise the commands below.
+pub fn shift_phase(osc: Osc, by: f64) -> (bool, Osc) {
+    moved(unsafe { c::skierralu_shift_phase(osc.into(), by) })
+}
+
+pub fn set_phase(osc: Osc, to: f64, time: f64) -> (bool, Osc) {
+    moved(unsafe { c::skierralu_set_phase(osc.into(), to, time) })
+}
+
+pub fn shift_freq(osc: Osc, by: f64, time: f64) -> (bool, Osc) {
+    moved(unsafe { c::skierralu_shift_freq(osc.into(), by, time) })
+}
+
+pub fn set_freq(osc: Osc, to: f64, time: f64) -> (bool, Osc) {
+    moved(unsafe { c::skierralu_set_freq(osc.into(), to, time) })
+}
+
+pub fn swap_phase(one: Osc, two: Osc, time: f64) -> (bool, Osc, Osc) {
+    let s = unsafe { c::skierralu_swap_phase(one.into(), two.into(), time) };
+    (s.refused, s.one.into(), s.two.into())
+}
+
+fn moved(m: Moved) -> (bool, Osc) {
+    (m.refused, m.osc.into())
 }
 
 /// A step on rows as C sees it.

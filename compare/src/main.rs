@@ -1,8 +1,10 @@
 //! Our exported functions beside Rust's, over many inputs: one file a subject. See compare/run and compare/bench.
 mod bench;
+mod cases;
 mod host;
 mod ieee;
 mod mixer;
+mod quant;
 mod replays;
 mod report;
 mod rng;
@@ -35,6 +37,7 @@ fn main() -> ExitCode {
     };
     let mut report = report::Report::new();
     ieee::compare(&mut report, scale);
+    quant::compare(&mut report, scale);
     mixer::compare(&mut report, scale);
     report.close()
 }

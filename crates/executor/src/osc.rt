@@ -10,6 +10,7 @@ use quant::quantity::Phase;
 use quant::quantity::Time;
 
 // Base frequency, delta frequency, phase.
+#[repr(C)]
 pub struct OscState {
     pub base: Frequency,
     pub delta: Frequency,
@@ -17,12 +18,14 @@ pub struct OscState {
 }
 
 // The state after a command. Where a number worked out on the way is not finite the command is refused, by 8, and the state is the one that came.
+#[repr(C)]
 pub struct Moved {
     pub refused: bool,
     pub osc: OscState,
 }
 
 // The same of two channels.
+#[repr(C)]
 pub struct Swapped {
     pub refused: bool,
     pub one: OscState,

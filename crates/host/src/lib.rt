@@ -1,12 +1,27 @@
 // What C, Rust and Python link: each function is one of the crates below, under a name of its own.
 ghost use mathlib.Core.Path.{_≡_};
 ghost use lib.Ieee.{binary64};
+ghost use Rattle.executor.specs.Osc.{shiftedPhase, setPhaseTo, shiftedFreq, setFreqTo, swappedPhases};
 ghost use Rattle.ieee.specs.Ceiling.{ceiling};
 ghost use Rattle.ieee.specs.Fused.{fma};
 ghost use Rattle.host.specs.Coded.{Coded};
+ghost use Rattle.host.specs.Places.{indexOf, placeOf, refusedPlace};
 ghost use Rattle.mixer.specs.Mixer.{Iq, Offset};
+ghost use Rattle.quant.specs.Aligned.{alignedOf, placedOf};
 ghost use Rattle.quant.specs.declared.refusal.Answer.{Answer};
 ghost use Rattle.trig.specs.Trig.{cosineOf, sineOf};
+use executor::osc::Moved;
+use executor::osc::OscState;
+use executor::osc::Swapped;
+use quant::aligned::Aligned;
+use quant::aligned::Placed;
+use quant::aligned::align;
+use quant::aligned::place;
+use quant::quantity::Frequency;
+use quant::quantity::Phase;
+use quant::quantity::Time;
+use quant::refusal::Refusal;
+use quant::refusal::number;
 
 #[no_mangle]
 pub extern "C" fn skierralu_mul_add(a: f64, b: f64, c: f64) -> f64
@@ -34,6 +49,95 @@ pub extern "C" fn skierralu_sin(x: f64) -> f64
     ensures { λ r. ⌜ r ≡ sineOf x ⌝ }
 {
     trig::sine(x)
+}
+
+// An aligned index: the code is 0, or 8.
+#[repr(C)]
+pub struct Index {
+    pub code: usize,
+    pub index: f64,
+}
+
+// A start and an offset: the code is 0, or 8, 9 or 10.
+#[repr(C)]
+pub struct Place {
+    pub code: usize,
+    pub start: usize,
+    pub offset: f64,
+}
+
+#[no_mangle]
+pub extern "C" fn skierralu_align(time: Time, rate: Frequency, level: i32) -> Index
+    ensures { λ r. ⌜ r ≡ indexOf (alignedOf (time .0) (rate .0) level) ⌝ }
+{
+    match align(time, rate, level) {
+        Aligned::Index(a) => Index { code: 0, index: a },
+        Aligned::NotFinite => Index {
+            code: number(Refusal::NotFinite),
+            index: 0.0,
+        },
+    }
+}
+
+#[no_mangle]
+pub extern "C" fn skierralu_place(time: Time, rate: Frequency, level: i32) -> Place
+    ensures { λ r. ⌜ r ≡ placeOf (placedOf (alignedOf (time .0) (rate .0) level)) ⌝ }
+{
+    match place(time, rate, level) {
+        Placed::Start(start, offset) => Place {
+            code: 0,
+            start,
+            offset,
+        },
+        Placed::NotFinite => nowhere(Refusal::NotFinite),
+        Placed::Before => nowhere(Refusal::BeforeRow),
+        Placed::Beyond => nowhere(Refusal::StartPastRow),
+    }
+}
+
+fn nowhere(r: Refusal) -> Place
+    ensures { λ p. ⌜ p ≡ refusedPlace r ⌝ }
+{
+    Place {
+        code: number(r),
+        start: 0,
+        offset: 0.0,
+    }
+}
+
+#[no_mangle]
+pub extern "C" fn skierralu_shift_phase(osc: OscState, by: Phase) -> Moved
+    ensures { λ r. ⌜ r ≡ shiftedPhase osc (by .0) ⌝ }
+{
+    osc.shift_phase(by)
+}
+
+#[no_mangle]
+pub extern "C" fn skierralu_set_phase(osc: OscState, to: Phase, time: Time) -> Moved
+    ensures { λ r. ⌜ r ≡ setPhaseTo osc (to .0) (time .0) ⌝ }
+{
+    osc.set_phase(to, time)
+}
+
+#[no_mangle]
+pub extern "C" fn skierralu_shift_freq(osc: OscState, by: Frequency, time: Time) -> Moved
+    ensures { λ r. ⌜ r ≡ shiftedFreq osc (by .0) (time .0) ⌝ }
+{
+    osc.shift_freq(by, time)
+}
+
+#[no_mangle]
+pub extern "C" fn skierralu_set_freq(osc: OscState, to: Frequency, time: Time) -> Moved
+    ensures { λ r. ⌜ r ≡ setFreqTo osc (to .0) (time .0) ⌝ }
+{
+    osc.set_freq(to, time)
+}
+
+#[no_mangle]
+pub extern "C" fn skierralu_swap_phase(one: OscState, two: OscState, time: Time) -> Swapped
+    ensures { λ r. ⌜ r ≡ swappedPhases one two (time .0) ⌝ }
+{
+    executor::osc::swap_phase(one, two, time)
 }
 
 // The steps on rows answer 0, or the number of their refusal.

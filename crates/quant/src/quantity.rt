@@ -5,14 +5,18 @@ ghost use lib.Ieee.{binary64};
 ghost use Rattle.quant.specs.Quantity.{one};
 
 // Seconds.
+#[repr(C)]
 pub struct Time(pub f64);
 
 // Turns a second.
+#[repr(C)]
 pub struct Frequency(pub f64);
 
 // Turns.
+#[repr(C)]
 pub struct Phase(pub f64);
 
+#[repr(C)]
 pub struct Amplitude(pub f64);
 
 impl Time {
