@@ -55,12 +55,12 @@ module _ (a : tie.After-is-finite) where
 
 -- ---- what the first two tests let pass
 first : (c : tie.Else1) → finite (scaled (c .before)) ≡ true
-first c = passed (c .before .is-finite .result) (scaled (c .before)) (c .before .is-finite .ensures) (c .if1 .left)
+first c = passed (c .before .is-finite .result) (finite (scaled (c .before))) (c .before .is-finite .ensures) (c .if1 .left)
 
 second : (c : tie.Else2) → finite (mul binary64 (time (c .before .before .before .before)) (scaled (c .before .before .before .before))) ≡ true
 second c =
     let a = c .before .before .before .before in
-    passed (c .before .is-finite2 .result) (mul binary64 (time a) (scaled a)) (c .before .is-finite2 .ensures) (c .if2 .left)
+    passed (c .before .is-finite2 .result) (finite (mul binary64 (time a) (scaled a))) (c .before .is-finite2 .ensures) (c .if2 .left)
 
 -- the definition past those tests
 past-one : (c : tie.Else1) (b : Aligned) → judged (scaledRate (rate (c .before)) (level (c .before))) b ≡ b
@@ -80,7 +80,7 @@ is-finite-requires c κs = search needs
 returns : tie.Need-returns
 returns c =
     let a = c .before in
-    sym (judged-no (scaled a) (scaledRate (rate a) (level a)) _ (scaled-is a) (taken (a .is-finite .result) (scaled a) (a .is-finite .ensures) (c .if1 .taken)))
+    sym (judged-no (scaled a) (scaledRate (rate a) (level a)) _ (scaled-is a) (taken (a .is-finite .result) (finite (scaled a)) (a .is-finite .ensures) (c .if1 .taken)))
 
 is-finite-requires-2 : tie.Need-is-finite-requires-2
 is-finite-requires-2 c κs = search needs
@@ -92,7 +92,7 @@ returns-2 c =
     let f = c .before .is-finite2 in
     sym
     (past-one one _
-    ∙ judged-no (mul binary64 (time a) (scaled a)) (stepsAt (time a) (rate a) (level a)) _ (steps-is a) (taken (f .result) (mul binary64 (time a) (scaled a)) (f .ensures) (c .if2 .taken)))
+    ∙ judged-no (mul binary64 (time a) (scaled a)) (stepsAt (time a) (rate a) (level a)) _ (steps-is a) (taken (f .result) (finite (mul binary64 (time a) (scaled a))) (f .ensures) (c .if2 .taken)))
 
 ceil-requires : tie.Need-ceil-requires
 ceil-requires c κs = search needs
@@ -121,14 +121,14 @@ returns-3 : tie.Need-returns-3
 returns-3 c =
     let d = c .before in
     let f = d .is-finite3 in
-    sym (past-one (one d) _ ∙ past-two (two d) _ ∙ judged-no (last d) _ _ (last-is d) (taken (f .result) (last d) (f .ensures) (c .if3 .taken)))
+    sym (past-one (one d) _ ∙ past-two (two d) _ ∙ judged-no (last d) _ _ (last-is d) (taken (f .result) (finite (last d)) (f .ensures) (c .if3 .taken)))
 
 returns-4 : tie.Need-returns-4
 returns-4 c =
     let d = c .before in
     let f = d .is-finite3 in
     ap Index (last-is d)
-    ∙ sym (past-one (one d) _ ∙ past-two (two d) _ ∙ judged-yes (last d) _ _ (last-is d) (passed (f .result) (last d) (f .ensures) (c .if3 .left)))
+    ∙ sym (past-one (one d) _ ∙ past-two (two d) _ ∙ judged-yes (last d) _ _ (last-is d) (passed (f .result) (finite (last d)) (f .ensures) (c .if3 .left)))
 
 pub align-spec : {M : Type 1} → statement M
 align-spec =
