@@ -5,6 +5,8 @@ mod c {
     extern "C" {
         pub fn skierralu_mul_add(a: f64, b: f64, c: f64) -> f64;
         pub fn skierralu_ceil(x: f64) -> f64;
+        pub fn skierralu_cos(x: f64) -> f64;
+        pub fn skierralu_sin(x: f64) -> f64;
         pub fn skierralu_iq(
             rows: usize,
             i: *mut f64,
@@ -32,6 +34,14 @@ pub fn mul_add(a: f64, b: f64, c: f64) -> f64 {
 
 pub fn ceil(x: f64) -> f64 {
     unsafe { c::skierralu_ceil(x) }
+}
+
+pub fn cos(x: f64) -> f64 {
+    unsafe { c::skierralu_cos(x) }
+}
+
+pub fn sin(x: f64) -> f64 {
+    unsafe { c::skierralu_sin(x) }
 }
 
 /// A step on rows as C sees it.
