@@ -1,9 +1,10 @@
 //! Nanoseconds a call: ours, Rust's as an ordinary release build calls it, and the ratio. The best of several runs over numbers that
-//! fit the cache; the calls do not wait for one another.
+//! fit the cache. The calls do not wait for one another, but in the rows "in turn", where each argument depends on the last answer.
 use crate::host;
 use crate::mixer;
 use crate::rng::Rng;
 use crate::rows::{Ours, Theirs};
+use std::f64::consts::{PI, TAU};
 use std::hint::black_box;
 use std::time::Instant;
 
@@ -27,6 +28,11 @@ pub fn run() {
     fused("mul_add, samples from -1 to 1", &samples);
     let indices = numbers(|| rng.sample() * 65536.0);
     ceiling("ceil, numbers from -65536 to 65536", &indices);
+    for (most, below) in [(PI, "below PI"), (TAU, "below TAU"), (1e6, "below 1e6")] {
+        let angles = numbers(|| rng.sample() * most);
+        angle(&format!("cos, {below}"), &angles, host::cos, f64::cos);
+        angle(&format!("sin, {below}"), &angles, host::sin, f64::sin);
+    }
     println!(
         "{:44} {:>8} {:>8} {:>8}",
         "nanoseconds a sample of each row", "ours", "Rust", "ratio"
@@ -81,21 +87,47 @@ fn ceiling(name: &str, numbers: &[f64]) {
     row(name, ours, theirs);
 }
 
+fn angle<F: Fn(f64) -> f64, G: Fn(f64) -> f64>(name: &str, angles: &[f64], ours: F, theirs: G) {
+    row(
+        name,
+        best(angles, |&x| ours(x)),
+        best(angles, |&x| theirs(x)),
+    );
+    let in_turn = format!("{name}, in turn");
+    row(
+        &in_turn,
+        best_in_turn(angles, ours),
+        best_in_turn(angles, theirs),
+    );
+}
+
 fn row(name: &str, ours: f64, theirs: f64) {
     println!("{name:44} {ours:8.2} {theirs:8.2} {:8.2}", ours / theirs);
 }
 
 /// Nanoseconds a call in the best run.
 fn best<T>(inputs: &[T], call: impl Fn(&T) -> f64) -> f64 {
+    shortest(inputs, |inputs| {
+        let sum = |sum: u64, input| sum.wrapping_add(call(input).to_bits());
+        black_box(inputs.iter().fold(0, sum));
+    })
+}
+
+/// The same, where a call waits for the one before it.
+fn best_in_turn(inputs: &[f64], call: impl Fn(f64) -> f64) -> f64 {
+    shortest(inputs, |inputs| {
+        let next = |last: f64, x: &f64| call(x + last * 1e-300);
+        black_box(inputs.iter().fold(0.0, next));
+    })
+}
+
+/// Nanoseconds an input in the shortest run.
+fn shortest<T>(inputs: &[T], round: impl Fn(&[T])) -> f64 {
     let run = || {
         let start = Instant::now();
-        let mut sum = 0u64;
         for _ in 0..ROUNDS {
-            for input in black_box(inputs) {
-                sum = sum.wrapping_add(call(input).to_bits());
-            }
+            round(black_box(inputs));
         }
-        black_box(sum);
         start.elapsed().as_nanos() as f64 / (ROUNDS * inputs.len()) as f64
     };
     (0..RUNS).map(|_| run()).fold(f64::INFINITY, f64::min)

@@ -38,6 +38,8 @@ mod c {
     extern "C" {
         pub fn skierralu_mul_add(a: f64, b: f64, c: f64) -> f64;
         pub fn skierralu_ceil(x: f64) -> f64;
+        pub fn skierralu_cos(x: f64) -> f64;
+        pub fn skierralu_sin(x: f64) -> f64;
         pub fn skierralu_place(time: f64, rate: f64, level: i32) -> Place;
         pub fn skierralu_shift_phase(osc: State, by: f64) -> Moved;
         pub fn skierralu_set_phase(osc: State, to: f64, time: f64) -> Moved;
@@ -71,6 +73,14 @@ pub fn mul_add(a: f64, b: f64, c: f64) -> f64 {
 
 pub fn ceil(x: f64) -> f64 {
     unsafe { c::skierralu_ceil(x) }
+}
+
+pub fn cos(x: f64) -> f64 {
+    unsafe { c::skierralu_cos(x) }
+}
+
+pub fn sin(x: f64) -> f64 {
+    unsafe { c::skierralu_sin(x) }
 }
 
 pub fn place(time: f64, rate: f64, level: i32) -> Place {

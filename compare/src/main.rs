@@ -1,6 +1,7 @@
-//! Our exported functions beside Rust's, over many inputs: one file a subject. See compare/run and compare/bench.
+//! Our exported functions beside Rust's, or beside the true value, over many inputs: one file a subject. See compare/run and compare/bench.
 mod bench;
 mod cases;
+mod fixed;
 mod host;
 mod ieee;
 mod mixer;
@@ -9,6 +10,8 @@ mod replays;
 mod report;
 mod rng;
 mod rows;
+mod series;
+mod trig;
 
 use std::process::ExitCode;
 
@@ -37,6 +40,7 @@ fn main() -> ExitCode {
     };
     let mut report = report::Report::new();
     ieee::compare(&mut report, scale);
+    trig::compare(&mut report, scale);
     quant::compare(&mut report, scale);
     mixer::compare(&mut report, scale);
     report.close()

@@ -2,11 +2,13 @@
 use std::process::ExitCode;
 
 /// How many inputs whose answers differ are printed.
-const SHOWN: u64 = 20;
+pub const SHOWN: u64 = 20;
 
 pub struct Report {
     compared: u64,
     different: u64,
+    judged: u64,
+    far: u64,
 }
 
 /// What one class of inputs found.
@@ -23,6 +25,8 @@ impl Report {
         Report {
             compared: 0,
             different: 0,
+            judged: 0,
+            far: 0,
         }
     }
 
@@ -52,12 +56,18 @@ impl Report {
         self.different += class.different;
     }
 
+    /// Adds a class of inputs whose answers were judged by their distance from the truth.
+    pub fn judged(&mut self, judged: u64, far: u64) {
+        self.judged += judged;
+        self.far += far;
+    }
+
     pub fn close(self) -> ExitCode {
         println!(
-            "total: {} compared, {} different",
-            self.compared, self.different
+            "total: {} compared, {} different; {} judged by distance, {} too far",
+            self.compared, self.different, self.judged, self.far
         );
-        ExitCode::from(u8::from(self.different > 0))
+        ExitCode::from(u8::from(self.different + self.far > 0))
     }
 }
 

@@ -1,4 +1,2 @@
 -- The modules of `proofs/` that belong to no one function.
-pub mod Lines
-pub mod Nan
-pub mod Tallies
+pub mod Same

@@ -1,31 +1,23 @@
 -- What a line of the list asks: `f A B C R` (69 bytes) or `c X R` (35 bytes), each number 16 lowercase hex digits after one space.
 -- Assumes nothing.
-use Prim.Native.Nat.{ℕ, _+_}
+use Prim.Native.Nat.{ℕ}
 use mathlib.Core.Bool.{cond}
 use mathlib.Core.List.{List}
 use lib.Dec.{eqb}
 use lib.ListN.{length, getD}
-use Rattle.hex.specs.declared.Word.{Word}
-use Rattle.hex.specs.declared.Word.the-variants.{Bits, Bad}
-use Rattle.hex.specs.Hex.{wordAt}
+use Rattle.lines.specs.Field.{numberAt, given}
 use Rattle.replay_ieee.specs.declared.cases.Case.{Case}
 use Rattle.replay_ieee.specs.declared.cases.Case.the-variants.{Fused, Ceil, Unreadable}
 
--- the number after the space (32) at a place
-unfoldable pub numberAt : List ℕ → ℕ → Word
-numberAt line at = cond (eqb (getD line at 0) 32) (wordAt line (at + 1)) Bad
-
--- goes on with the number, where there is one
-abbrev pub given : Word → (ℕ → Case) → Case
-given (Bits n) f = f n
-given Bad f = Unreadable
+-- goes on with the number at a place
+abbrev pub withNumber : List ℕ → ℕ → (ℕ → Case) → Case
+withNumber line at f = given Unreadable (numberAt line at) f
 
 unfoldable pub fusedOf : List ℕ → Case
-fusedOf line =
-    given (numberAt line 1) (λ a. given (numberAt line 18) (λ b. given (numberAt line 35) (λ c. given (numberAt line 52) (λ r. Fused a b c r))))
+fusedOf line = withNumber line 1 (λ a. withNumber line 18 (λ b. withNumber line 35 (λ c. withNumber line 52 (λ r. Fused a b c r))))
 
 unfoldable pub ceilOf : List ℕ → Case
-ceilOf line = given (numberAt line 1) (λ x. given (numberAt line 18) (λ r. Ceil x r))
+ceilOf line = withNumber line 1 (λ x. withNumber line 18 (λ r. Ceil x r))
 
 -- the first byte is `f` (102) or `c` (99)
 unfoldable pub caseOf : List ℕ → Case

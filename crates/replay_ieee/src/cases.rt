@@ -1,7 +1,8 @@
 // A line of the list: `f A B C R` or `c X R`, each number 16 lowercase hex digits after one space.
 ghost use mathlib.Core.Path.{_≡_};
-ghost use Rattle.replay_ieee.specs.Line.{numberAt, fusedOf, ceilOf, caseOf};
+ghost use Rattle.replay_ieee.specs.Line.{fusedOf, ceilOf, caseOf};
 use hex::Word;
+use lines::field::number_at;
 
 // What a line asks: the bits of the operands, and then of the stored answer.
 pub enum Case {
@@ -56,17 +57,4 @@ fn ceil_of(line: &[u8]) -> Case
         return Case::Unreadable;
     };
     Case::Ceil(x, r)
-}
-
-// The number after the space at a place of a line.
-fn number_at(line: &[u8], at: usize) -> Word
-    ensures { λ r. ⌜ r ≡ numberAt (now (line .entry)) at ⌝ }
-{
-    if line.len() <= at {
-        return Word::Bad;
-    }
-    if line[at] == b' ' {
-        return hex::read(line, at + 1);
-    }
-    Word::Bad
 }

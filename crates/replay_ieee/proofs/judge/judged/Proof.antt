@@ -4,7 +4,7 @@ use mathlib.Core.Path.{sym, ap, _∙_}
 use lib.Ieee.{Float, binary64}
 use Rattle.ieee.specs.Ceiling.{ceiling}
 use Rattle.ieee.specs.Fused.{fma}
-use Rattle.replay_ieee.specs.declared.judge.Verdict.the-variants.{Fused, Ceil}
+use Rattle.lines.specs.declared.tally.Verdict.the-variants.{First, Second}
 use Rattle.replay_ieee.specs.Verdict.{sameBits, verdictOf}
 use Rattle.replay_ieee.proofs.judge.judged.Statement.{statement}
 use Rattle.replay_ieee.proofs.judge.judged.Tie as tie
@@ -46,7 +46,7 @@ returns : tie.Need-returns
 returns c =
     let m = c .before in
     let r = m .before .before .before .before .before .case .given in
-    ap Fused
+    ap First
     (c .same .ensures
     ∙ ap (λ (x : Float). sameBits x (r .0 .1 .1 .1 .0))
     (m .mul-add .ensures
@@ -57,7 +57,7 @@ returns-2 : tie.Need-returns-2
 returns-2 c =
     let m = c .before in
     let r = m .before .before .before .case2 .given in
-    ap Ceil (c .same2 .ensures ∙ ap (λ (x : Float). sameBits x (r .0 .1 .0)) (m .ceil .ensures ∙ ap ceiling (m .before .float-of4 .ensures))) ∙ ap verdictOf (sym (r .1))
+    ap Second (c .same2 .ensures ∙ ap (λ (x : Float). sameBits x (r .0 .1 .0)) (m .ceil .ensures ∙ ap ceiling (m .before .float-of4 .ensures))) ∙ ap verdictOf (sym (r .1))
 
 returns-3 : tie.Need-returns-3
 returns-3 c = search needs

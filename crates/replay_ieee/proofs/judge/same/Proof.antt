@@ -3,7 +3,7 @@ use mathlib.Core.Path.{_∙_, sym, subst}
 use borrow.Author.Needs.{needs}
 use lib.Dec.{T}
 use lib.Ieee.Compare.{differs-from-itself}
-use Rattle.replay_ieee.proofs.Nan.{equals-itself, same-bits, same-nan}
+use Rattle.replay_ieee.proofs.Same.{equals-itself, same-bits, same-nan}
 use Rattle.replay_ieee.proofs.judge.same.Statement.{statement}
 use Rattle.replay_ieee.proofs.judge.same.Tie as tie
 

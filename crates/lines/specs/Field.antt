@@ -1,0 +1,18 @@
+-- The numbers of a line. Assumes nothing.
+use Prim.Native.Nat.{ℕ, _+_}
+use mathlib.Core.Bool.{cond}
+use mathlib.Core.List.{List}
+use lib.Dec.{eqb}
+use lib.ListN.{getD}
+use Rattle.hex.specs.declared.Word.{Word}
+use Rattle.hex.specs.declared.Word.the-variants.{Bits, Bad}
+use Rattle.hex.specs.Hex.{wordAt}
+
+-- the number after the space (32) at a place
+unfoldable pub numberAt : List ℕ → ℕ → Word
+numberAt line at = cond (eqb (getD line at 0) 32) (wordAt line (at + 1)) Bad
+
+-- goes on with the number, where there is one; else the answer is `none`
+abbrev pub given : {A : Type 0} → A → Word → (ℕ → A) → A
+given none (Bits n) f = f n
+given none Bad f = none
