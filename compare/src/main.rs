@@ -22,17 +22,13 @@ fn main() -> ExitCode {
             return ExitCode::SUCCESS;
         }
         Some("replays") => {
-            let list = std::env::args().nth(2).unwrap_or_default();
-            if replays::print(&list) {
-                return ExitCode::SUCCESS;
-            }
-            eprintln!("usage: compare replays align | osc");
-            return ExitCode::from(2);
+            replays::print();
+            return ExitCode::SUCCESS;
         }
         Some(word) => match word.parse() {
             Ok(scale) => scale,
             Err(_) => {
-                eprintln!("usage: compare [SCALE | bench | replays LIST]");
+                eprintln!("usage: compare [SCALE | bench | replays]");
                 return ExitCode::from(2);
             }
         },

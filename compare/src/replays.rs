@@ -1,36 +1,27 @@
-//! Lists of the Rust's answers, for programs that replay them: one case a line, one blank between words, the same in every run.
-//! Numbers are doubles as the 16 lowercase hex digits of their bits, START is a whole number as 16 hex digits, LEVEL is decimal. `none`
-//! stands where a number worked out is not finite, and for alignment also where the index is below 0 or not below 2^64.
+//! A list of the Rust's answers, for the program `replay_quant`: one case a line, the same in every run. A line is a letter and words, each
+//! 16 lowercase hex digits after one space: the bits of a double, or a whole number. CODE is 0, or the number of the refusal that is due
+//! where the Rust has none; there a start and an offset are 0, and oscillators as they came.
 //!
-//! `align`: a time (the delay is in it), a sample rate and an align level; the sample at which a pulse starts, and the offset.
+//! Alignment: a time (the delay is in it), a sample rate and an align level plus 20; the sample at which a pulse starts, and the offset.
 //!
-//!     a TIME RATE LEVEL START OFFSET
-//!     a TIME RATE LEVEL none
+//!     a TIME RATE LEVEL CODE START OFFSET
 //!
-//! `osc`: oscillators before, the command's number, its time; oscillators after, or `none` for all of them. An oscillator is its base
-//! frequency, delta frequency and phase. The time of shift_phase is not read.
+//! The oscillators' commands: an oscillator is its base frequency, delta frequency and phase. The letters are ShiftPhase, SetPhase,
+//! ShiftFreq, SetFreq and SwapPhase; the time of the first is not read.
 //!
-//!     shift_phase BASE DELTA PHASE P TIME -> BASE DELTA PHASE
-//!     set_phase   (as shift_phase)
-//!     shift_freq BASE DELTA PHASE F TIME -> BASE DELTA PHASE
-//!     set_freq    (as shift_freq)
-//!     swap_phase BASE DELTA PHASE BASE DELTA PHASE TIME -> BASE DELTA PHASE BASE DELTA PHASE
+//!     p BASE DELTA PHASE NUMBER TIME CODE BASE DELTA PHASE      (and P, f, F)
+//!     s BASE DELTA PHASE BASE DELTA PHASE TIME CODE BASE DELTA PHASE BASE DELTA PHASE
 use crate::cases::{
     any_finite, below_zero, bench, cancelled, decimal_grid, huge, large_index, off_grid, on_grid,
     quarters, rounded, special_times, tiny, zeros,
 };
 use crate::rng::Rng;
-use theirs::aligned::placed;
+use theirs::aligned::aligned;
 use theirs::osc::{set_freq, set_phase, shift_freq, shift_phase, swap_phase, Osc};
 
-/// Prints a list by its name; false where there is none of that name.
-pub fn print(list: &str) -> bool {
-    match list {
-        "align" => align(),
-        "osc" => osc(),
-        _ => return false,
-    }
-    true
+pub fn print() {
+    align();
+    osc();
 }
 
 fn words(numbers: &[f64]) -> String {
@@ -48,7 +39,7 @@ fn align() {
         }
     }
     let mut rng = Rng::new(11);
-    for _ in 0..300 {
+    for _ in 0..150 {
         for class in [
             on_grid,
             decimal_grid,
@@ -65,51 +56,57 @@ fn align() {
 }
 
 fn align_case(time: f64, rate: f64, level: i32) {
-    let given = format!("a {} {level}", words(&[time, rate]));
-    match placed(time, rate, level) {
-        Some((start, offset)) => println!("{given} {start:016x} {}", words(&[offset])),
-        None => println!("{given} none"),
-    }
+    let (code, start, offset) = match aligned(time, rate, level) {
+        None => (8, 0, 0.0),
+        Some(index) if index.value < 0.0 => (9, 0, 0.0),
+        Some(index) => match index.start {
+            None => (10, 0, 0.0),
+            Some(start) => (0, start, index.offset),
+        },
+    };
+    println!(
+        "a {} {:016x} {code:016x} {start:016x} {}",
+        words(&[time, rate]),
+        level + 20,
+        words(&[offset])
+    );
 }
 
 fn osc() {
     let mut rng = Rng::new(12);
-    for _ in 0..60 {
+    for _ in 0..30 {
         for class in [
             quarters, bench, bench, rounded, rounded, cancelled, zeros, tiny, huge, huge,
         ] {
             let [a, b, c, d, e, f] = [0; 6].map(|_| class(&mut rng));
-            one("shift_phase", a.osc, a.phase, a.time, shift_phase);
-            one("set_phase", b.osc, b.phase, b.time, set_phase);
-            one("shift_freq", c.osc, c.freq, c.time, shift_freq);
-            one("set_freq", d.osc, d.freq, d.time, set_freq);
+            one('p', a.osc, a.phase, a.time, shift_phase);
+            one('P', b.osc, b.phase, b.time, set_phase);
+            one('f', c.osc, c.freq, c.time, shift_freq);
+            one('F', d.osc, d.freq, d.time, set_freq);
             swap([e.osc, f.osc], e.time);
         }
     }
 }
 
-fn one(name: &str, osc: Osc, number: f64, time: f64, run: fn(Osc, f64, f64) -> Option<Osc>) {
+fn one(letter: char, osc: Osc, number: f64, time: f64, run: fn(Osc, f64, f64) -> Option<Osc>) {
     let after = run(osc, number, time).map(|osc| numbers(osc).to_vec());
     let given = [numbers(osc).as_slice(), &[number, time]].concat();
-    osc_line(name, &given, after);
+    osc_line(letter, &given, &numbers(osc), after);
 }
 
 fn swap(before: [Osc; 2], time: f64) {
     let after = swap_phase(before, time).map(|both| both.map(numbers).concat());
     let given = [before.map(numbers).as_flattened(), &[time]].concat();
-    osc_line("swap_phase", &given, after);
+    osc_line('s', &given, before.map(numbers).as_flattened(), after);
 }
 
 fn numbers(osc: Osc) -> [f64; 3] {
     [osc.base, osc.delta, osc.phase]
 }
 
-fn osc_line(name: &str, given: &[f64], after: Option<Vec<f64>>) {
-    let given = words(given);
-    match after {
-        Some(after) if after.iter().all(|x| x.is_finite()) => {
-            println!("{name} {given} -> {}", words(&after));
-        }
-        _ => println!("{name} {given} -> none"),
-    }
+fn osc_line(letter: char, given: &[f64], before: &[f64], after: Option<Vec<f64>>) {
+    let after = after.filter(|after| after.iter().all(|x| x.is_finite()));
+    let code = if after.is_some() { 0 } else { 8 };
+    let after = words(after.as_deref().unwrap_or(before));
+    println!("{letter} {} {code:016x} {after}", words(given));
 }

@@ -1,8 +1,9 @@
 -- The numbers of a line. Assumes nothing.
 use Prim.Native.Nat.{ℕ, _+_}
-use mathlib.Core.Bool.{cond}
+use mathlib.Core.Bool.{Bool, cond}
 use mathlib.Core.List.{List}
 use lib.Dec.{eqb}
+use lib.Ieee.{Float, binary64, isNan, nanBits, toBits}
 use lib.ListN.{getD}
 use Rattle.hex.specs.declared.Word.{Word}
 use Rattle.hex.specs.declared.Word.the-variants.{Bits, Bad}
@@ -16,3 +17,7 @@ numberAt line at = cond (eqb (getD line at 0) 32) (wordAt line (at + 1)) Bad
 abbrev pub given : {A : Type 0} → A → Word → (ℕ → A) → A
 given none (Bits n) f = f n
 given none Bad f = none
+
+-- whether a float has these bits; every NaN equals every NaN
+unfoldable pub sameBits : Float → ℕ → Bool
+sameBits x bits = cond (isNan x) (nanBits binary64 bits) (eqb (toBits binary64 x) bits)

@@ -1,20 +1,15 @@
 -- When an answer counts as the stored one. Assumes nothing.
 use Prim.Native.Nat.{ℕ}
-use mathlib.Core.Bool.{Bool, cond}
 use mathlib.Core.List.{List}
-use lib.Dec.{eqb}
-use lib.Ieee.{Float, binary64, isNan, nanBits, ofBits, toBits}
+use lib.Ieee.{binary64, ofBits}
 use Rattle.ieee.specs.Ceiling.{ceiling}
 use Rattle.ieee.specs.Fused.{fma}
+use Rattle.lines.specs.Field.{sameBits}
 use Rattle.lines.specs.declared.tally.Verdict.{Verdict}
 use Rattle.lines.specs.declared.tally.Verdict.the-variants.{First, Second, Unreadable}
 use Rattle.replay_ieee.specs.declared.cases.Case.{Case}
 use Rattle.replay_ieee.specs.declared.cases.Case.the-variants as Asked
 use Rattle.replay_ieee.specs.Line.{caseOf}
-
--- whether a float has these bits; every NaN equals every NaN
-unfoldable pub sameBits : Float → ℕ → Bool
-sameBits x bits = cond (isNan x) (nanBits binary64 bits) (eqb (toBits binary64 x) bits)
 
 -- the verdict on a case: whether the definition's answer, for the floats that the bits stand for, is the stored one. The first kind is the
 -- fused operation, the second the ceiling

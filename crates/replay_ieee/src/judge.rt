@@ -1,9 +1,9 @@
 // One case judged: the operation worked out anew and compared with the stored answer.
 ghost use mathlib.Core.Path.{_≡_};
-ghost use Rattle.replay_ieee.specs.Verdict.{sameBits, verdictOf};
+ghost use Rattle.replay_ieee.specs.Verdict.{verdictOf};
 use super::cases::Case;
 use lines::field::float_of;
-use lines::field::nan_bits;
+use lines::field::same;
 use lines::tally::Verdict;
 
 // Whether our answer is the stored one. The first kind is the fused operation, the second the ceiling.
@@ -21,14 +21,4 @@ pub(crate) fn judged(case: Case) -> Verdict
         }
         Case::Unreadable => Verdict::Unreadable,
     }
-}
-
-// Whether a double has these bits; every NaN equals every NaN.
-fn same(x: f64, bits: u64) -> bool
-    ensures { λ r. ⌜ r ≡ sameBits x bits ⌝ }
-{
-    if x != x {
-        return nan_bits(bits);
-    }
-    f64::to_bits(x) == bits
 }

@@ -5,7 +5,8 @@ use lib.Ieee.{Float, binary64}
 use Rattle.ieee.specs.Ceiling.{ceiling}
 use Rattle.ieee.specs.Fused.{fma}
 use Rattle.lines.specs.declared.tally.Verdict.the-variants.{First, Second}
-use Rattle.replay_ieee.specs.Verdict.{sameBits, verdictOf}
+use Rattle.lines.specs.Field.{sameBits}
+use Rattle.replay_ieee.specs.Verdict.{verdictOf}
 use Rattle.replay_ieee.proofs.judge.judged.Statement.{statement}
 use Rattle.replay_ieee.proofs.judge.judged.Tie as tie
 

@@ -6,8 +6,8 @@ use borrow.Author.Tests.{eq-eqb, eqb-true}
 use lib.Dec.{T, eqb}
 use lib.Ieee.{Float, nan, inf, fin, binary64, fits, isNan, nanBits, ne, ofBits, toBits}
 use lib.Ieee.Bits.{cond-no, nanBits-is, ofBits-toBits, toBits-ofBits}
 use Rattle.lines.proofs.Nan.{is-not, nan-of-bits}
-use Rattle.replay_ieee.specs.Verdict.{sameBits}
+use Rattle.lines.specs.Field.{sameBits}
 
 pub equals-itself : (x : Float) → ne x x ≡ false → T (not (isNan x))
 unfolding ne isNan

@@ -1,11 +1,11 @@
--- `replay_ieee::judge::same` meets its contract: a NaN is judged by the pattern's kind, any other float by its bits. Assumes nothing.
+-- `lines::field::same` meets its contract: a NaN is judged by the pattern's kind, any other float by its bits. Assumes nothing.
 use mathlib.Core.Path.{_∙_, sym, subst}
 use borrow.Author.Needs.{needs}
 use lib.Dec.{T}
 use lib.Ieee.Compare.{differs-from-itself}
-use Rattle.replay_ieee.proofs.Same.{equals-itself, same-bits, same-nan}
-use Rattle.replay_ieee.proofs.judge.same.Statement.{statement}
-use Rattle.replay_ieee.proofs.judge.same.Tie as tie
+use Rattle.lines.proofs.Same.{equals-itself, same-bits, same-nan}
+use Rattle.lines.proofs.field.same.Statement.{statement}
+use Rattle.lines.proofs.field.same.Tie as tie
 
 nan-bits-requires : tie.Need-nan-bits-requires
 nan-bits-requires c κs = search needs

@@ -1,0 +1,4 @@
+pub mod Words
+pub mod Align
+pub mod Osc
+pub mod Verdict

@@ -1,0 +1,80 @@
+// One line judged: its answer worked out anew and compared with the stored one.
+ghost use mathlib.Core.Path.{_≡_};
+ghost use Rattle.replay_quant.specs.Verdict.{isCommand, wordsOf, caseFits, judgedAs, lineVerdict};
+use super::align::align_right;
+use super::osc::command;
+use super::osc::moved_agrees;
+use super::osc::swap_right;
+use super::words::readable;
+use lines::tally::Verdict;
+
+// The first kind is alignment, the second the oscillators.
+pub(crate) fn judged(line: &[u8]) -> Verdict
+    ensures { λ r. ⌜ r ≡ lineVerdict (now (line .entry)) ⌝ }
+{
+    if line.len() < 1 {
+        return Verdict::Unreadable;
+    }
+    let kind = line[0];
+    if !case_fits(kind, line.len()) {
+        return Verdict::Unreadable;
+    }
+    if !readable(line, words_of(kind)) {
+        return Verdict::Unreadable;
+    }
+    judged_as(kind, line)
+}
+
+fn judged_as(kind: u8, line: &[u8]) -> Verdict
+    ensures { λ r. ⌜ r ≡ judgedAs kind (now (line .entry)) ⌝ }
+{
+    if kind == b'a' {
+        return Verdict::First(align_right(line));
+    }
+    if kind == b's' {
+        return Verdict::Second(swap_right(line));
+    }
+    Verdict::Second(moved_agrees(line, command(kind, line)))
+}
+
+fn case_fits(kind: u8, size: usize) -> bool
+    ensures { λ r. ⌜ r ≡ caseFits kind size ⌝ }
+{
+    if kind == b'a' {
+        return size == 103;
+    }
+    if kind == b's' {
+        return size == 239;
+    }
+    if is_command(kind) {
+        return size == 154;
+    }
+    false
+}
+
+fn words_of(kind: u8) -> usize
+    ensures { λ r. ⌜ r ≡ wordsOf kind ⌝ }
+{
+    if kind == b'a' {
+        return 6;
+    }
+    if kind == b's' {
+        return 14;
+    }
+    9
+}
+
+fn is_command(kind: u8) -> bool
+    ensures { λ r. ⌜ r ≡ isCommand kind ⌝ }
+{
+    if kind == b'p' {
+        return true;
+    }
+    if kind == b'P' {
+        return true;
+    }
+    if kind == b'f' {
+        return true;
+    }
+    kind == b'F'
+}
