@@ -1,5 +1,5 @@
 -- `replay_quant::judge::words_of` meets its contract: what its calls ensure, put together. Assumes nothing.
-use borrow.Author.Tests.{eq-eqb, ne-eqb, le-leb, lt-leb}
+use borrow.Author.Tests.{eq-eqb, ne-eqb}
 use Rattle.replay_quant.proofs.judge.words_of.Statement.{statement}
 use Rattle.replay_quant.proofs.judge.words_of.Tie as tie
 

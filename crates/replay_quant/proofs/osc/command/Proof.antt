@@ -1,6 +1,6 @@
 -- `replay_quant::osc::command` meets its contract: what its calls ensure, put together. Assumes nothing.
 use borrow.Author.Needs.{needs}
-use borrow.Author.Tests.{eq-eqb, ne-eqb, le-leb, lt-leb}
+use borrow.Author.Tests.{eq-eqb, ne-eqb}
 use Rattle.replay_quant.proofs.osc.command.Statement.{statement}
 use Rattle.replay_quant.proofs.osc.command.Tie as tie
 
