@@ -1,0 +1,7 @@
+pub mod Tap
+pub mod Ring
+pub mod Totals
+pub mod Wholes
+pub mod Convolution
+pub mod Calls
+pub mod OneTap

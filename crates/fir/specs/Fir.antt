@@ -1,0 +1,64 @@
+-- Document 01, "FIR: one lane in the Rust's ring order, product and sum rounded apart", with "a ring of 256 numbers, all zero before each
+-- row; the taps doubled as there". Definitions only.
+use mathlib.Core.Path.{_≡_}
+use mathlib.Core.Bool.{Bool, _&&_}
+use mathlib.Core.List.{List, [], _∷_, _++_, reverse}
+use Prim.Native.Nat.{ℕ, zero, suc, _+_, _-_, _%_, _≤_}
+use lib.Dec.{leb}
+use lib.ListN.{length, take, getD, set, replicate}
+use lib.Ieee.{Float, nan, binary64, add, mul, ofBits}
+use Rattle.quant.specs.declared.refusal.Answer.{Answer}
+use Rattle.rows.specs.Rows.{rowsFit, allFinite, answerOf, after}
+
+-- 0.0
+abbrev pub plusZero : Float
+plusZero = ofBits binary64 0
+
+-- ---- the taps: the last first, and all of them once more
+unfoldable pub doubled : List Float → List Float
+doubled taps = reverse taps ++ reverse taps
+
+-- the tap that meets slot j while the newest sample stands in slot s
+unfoldable pub tapAt : List Float → ℕ → ℕ → Float
+tapAt taps s j = getD (doubled taps) (length taps - s - 1 + j) nan
+
+-- ---- the ring: sample k goes to slot k % n, in the place of the one n samples before it
+abbrev pub slotOf : List Float → ℕ → ℕ
+slotOf taps k = k % length taps
+
+abbrev pub put : List Float → ℕ → Float → List Float → List Float
+put taps k x ring = set ring (slotOf taps k) x
+
+-- the sum over the first j slots, slot 0 first: the product is rounded, then the sum
+unfoldable pub sumTo : List Float → List Float → ℕ → ℕ → Float
+sumTo taps ring s zero = plusZero
+sumTo taps ring s (suc j) = add binary64 (mul binary64 (tapAt taps s j) (getD ring j nan)) (sumTo taps ring s j)
+
+-- over as many slots as there are taps
+abbrev pub ringSum : List Float → List Float → ℕ → Float
+ringSum taps ring s = sumTo taps ring s (length taps)
+
+-- ---- the samples from the k-th on, filtered; the ring is as the sample before left it
+unfoldable pub filteredFrom : List Float → ℕ → List Float → List Float → List Float
+filteredFrom taps k ring [] = []
+filteredFrom taps k ring (x ∷ xs) = ringSum taps (put taps k x ring) (slotOf taps k) ∷ filteredFrom taps (suc k) (put taps k x ring) xs
+
+-- a row: the ring is all zero before it
+abbrev pub filteredRow : List Float → List Float → List Float
+filteredRow taps row = filteredFrom taps 0 (replicate 256 plusZero) row
+
+-- the sizes: rows that fit, and 1 to 256 taps
+abbrev pub firFits : ℕ → ℕ → ℕ → ℕ → Bool
+firFits rows i q taps = rowsFit rows i q && leb 1 taps && leb taps 256
+
+-- what `fir` answers and leaves; a second row of no samples has none to filter
+pub record Fir (rows : ℕ) (i q taps : List Float) (r : Answer) (i' q' : List Float) : Type 0 where
+  pub answer : r ≡ answerOf (firFits rows (length i) (length q) (length taps)) (allFinite taps)
+  pub first : i' ≡ after (firFits rows (length i) (length q) (length taps)) (allFinite taps) (filteredRow taps i) i
+  pub second : q' ≡ after (firFits rows (length i) (length q) (length taps)) (allFinite taps) (filteredRow taps q) q
+
+-- ---- inside: the sizes hold, and the store begins with the doubled taps
+pub record Ready (taps store : List Float) : Type 0 where
+  pub some : 1 ≤ length taps
+  pub few : length taps ≤ 256
+  pub stored : take (length taps + length taps) store ≡ doubled taps

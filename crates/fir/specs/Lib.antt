@@ -1,0 +1,2 @@
+pub mod Fir
+pub mod Checks
