@@ -1,5 +1,6 @@
 //! Nanoseconds a call: ours, Rust's as an ordinary release build calls it, and the ratio. The best of several runs over numbers that
 //! fit the cache. The calls do not wait for one another, but in the rows "in turn", where each argument depends on the last answer.
+use crate::fir;
 use crate::host;
 use crate::mixer;
 use crate::rng::Rng;
@@ -44,6 +45,15 @@ pub fn run() {
         host::offset,
         mixer::their_offset,
     );
+    for count in [16, 64, 256] {
+        let taps = fir::steady(count);
+        step(
+            &format!("fir, {count} taps"),
+            &taps,
+            host::fir,
+            theirs::rows::fir,
+        );
+    }
 }
 
 /// Two rows of NUMBERS samples from -1 to 1, stepped in place again and again; the numbers keep them finite.

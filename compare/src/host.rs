@@ -64,6 +64,15 @@ mod c {
             numbers: *const f64,
             numbers_len: usize,
         ) -> usize;
+        pub fn skierralu_fir(
+            rows: usize,
+            i: *mut f64,
+            i_len: usize,
+            q: *mut f64,
+            q_len: usize,
+            taps: *const f64,
+            taps_len: usize,
+        ) -> usize;
     }
 }
 
@@ -159,4 +168,8 @@ pub fn iq(rows: usize, i: &mut [f64], q: &mut [f64], matrix: &[f64]) -> usize {
 
 pub fn offset(rows: usize, i: &mut [f64], q: &mut [f64], numbers: &[f64]) -> usize {
     step(c::skierralu_offset, rows, i, q, numbers)
+}
+
+pub fn fir(rows: usize, i: &mut [f64], q: &mut [f64], taps: &[f64]) -> usize {
+    step(c::skierralu_fir, rows, i, q, taps)
 }

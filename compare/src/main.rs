@@ -1,6 +1,7 @@
 //! Our exported functions beside Rust's, or beside the true value, over many inputs: one file a subject. See compare/run and compare/bench.
 mod bench;
 mod cases;
+mod fir;
 mod fixed;
 mod host;
 mod ieee;
@@ -39,5 +40,6 @@ fn main() -> ExitCode {
     trig::compare(&mut report, scale);
     quant::compare(&mut report, scale);
     mixer::compare(&mut report, scale);
+    fir::compare(&mut report, scale);
     report.close()
 }

@@ -2,6 +2,7 @@
 ghost use mathlib.Core.Path.{_≡_};
 ghost use lib.Ieee.{binary64};
 ghost use Rattle.executor.specs.Osc.{shiftedPhase, setPhaseTo, shiftedFreq, setFreqTo, swappedPhases};
+ghost use Rattle.fir.specs.Fir.{Fir};
 ghost use Rattle.ieee.specs.Ceiling.{ceiling};
 ghost use Rattle.ieee.specs.Fused.{fma};
 ghost use Rattle.host.specs.Coded.{Coded};
@@ -159,5 +160,13 @@ pub extern "C" fn skierralu_offset(
     ensures { λ n. ⌜ Coded (λ (r : Answer). Offset rows (now (i .entry)) (now (q .entry)) (now (numbers .entry)) r (now (i .exit)) (now (q .exit))) n ⌝ }
 {
     let r = mixer::offset(rows, i, q, numbers);
+    quant::refusal::code(r)
+}
+
+#[no_mangle]
+pub extern "C" fn skierralu_fir(rows: usize, i: &mut [f64], q: &mut [f64], taps: &[f64]) -> usize
+    ensures { λ n. ⌜ Coded (λ (r : Answer). Fir rows (now (i .entry)) (now (q .entry)) (now (taps .entry)) r (now (i .exit)) (now (q .exit))) n ⌝ }
+{
+    let r = fir::fir(rows, i, q, taps);
     quant::refusal::code(r)
 }
