@@ -2,6 +2,7 @@
 //! fit the cache. The calls do not wait for one another, but in the rows "in turn", where each argument depends on the last answer.
 use crate::fir;
 use crate::host;
+use crate::iir;
 use crate::mixer;
 use crate::rng::Rng;
 use crate::rows::{Ours, Theirs};
@@ -45,6 +46,10 @@ pub fn run() {
         host::offset,
         mixer::their_offset,
     );
+    for count in [1, 2, 3, 4, 8, 16] {
+        let name = format!("iir, two rows, sections: {count}");
+        step(&name, &iir::level(count), host::iir, theirs::rows::iir);
+    }
     for count in [16, 64, 256] {
         let taps = fir::steady(count);
         step(

@@ -64,6 +64,15 @@ mod c {
             numbers: *const f64,
             numbers_len: usize,
         ) -> usize;
+        pub fn skierralu_iir(
+            rows: usize,
+            i: *mut f64,
+            i_len: usize,
+            q: *mut f64,
+            q_len: usize,
+            sections: *const f64,
+            sections_len: usize,
+        ) -> usize;
         pub fn skierralu_fir(
             rows: usize,
             i: *mut f64,
@@ -172,4 +181,8 @@ pub fn offset(rows: usize, i: &mut [f64], q: &mut [f64], numbers: &[f64]) -> usi
 
 pub fn fir(rows: usize, i: &mut [f64], q: &mut [f64], taps: &[f64]) -> usize {
     step(c::skierralu_fir, rows, i, q, taps)
+}
+
+pub fn iir(rows: usize, i: &mut [f64], q: &mut [f64], sections: &[f64]) -> usize {
+    step(c::skierralu_iir, rows, i, q, sections)
 }

@@ -5,6 +5,7 @@ mod fir;
 mod fixed;
 mod host;
 mod ieee;
+mod iir;
 mod mixer;
 mod quant;
 mod replays;
@@ -40,6 +41,7 @@ fn main() -> ExitCode {
     trig::compare(&mut report, scale);
     quant::compare(&mut report, scale);
     mixer::compare(&mut report, scale);
+    iir::compare(&mut report, scale);
     fir::compare(&mut report, scale);
     report.close()
 }

@@ -7,6 +7,7 @@ ghost use Rattle.ieee.specs.Ceiling.{ceiling};
 ghost use Rattle.ieee.specs.Fused.{fma};
 ghost use Rattle.host.specs.Coded.{Coded};
 ghost use Rattle.host.specs.Places.{indexOf, placeOf, refusedPlace};
+ghost use Rattle.iir.specs.Iir.{Iir};
 ghost use Rattle.mixer.specs.Mixer.{Iq, Offset};
 ghost use Rattle.quant.specs.Aligned.{alignedOf, placedOf};
 ghost use Rattle.quant.specs.declared.refusal.Answer.{Answer};
@@ -160,6 +161,19 @@ pub extern "C" fn skierralu_offset(
     ensures { λ n. ⌜ Coded (λ (r : Answer). Offset rows (now (i .entry)) (now (q .entry)) (now (numbers .entry)) r (now (i .exit)) (now (q .exit))) n ⌝ }
 {
     let r = mixer::offset(rows, i, q, numbers);
+    quant::refusal::code(r)
+}
+
+#[no_mangle]
+pub extern "C" fn skierralu_iir(
+    rows: usize,
+    i: &mut [f64],
+    q: &mut [f64],
+    sections: &[f64],
+) -> usize
+    ensures { λ n. ⌜ Coded (λ (r : Answer). Iir rows (now (i .entry)) (now (q .entry)) (now (sections .entry)) r (now (i .exit)) (now (q .exit))) n ⌝ }
+{
+    let r = iir::iir(rows, i, q, sections);
     quant::refusal::code(r)
 }
 

@@ -1,0 +1,8 @@
+pub mod Sections
+pub mod Cascade
+pub mod Flights
+pub mod Pipeline
+pub mod Zeros
+pub mod Agree
+pub mod Left
+pub mod Examples

@@ -1,0 +1,49 @@
+-- `iir::biquad::section_finite` meets its contract: the five judgements as one. Assumes nothing.
+use borrow.Author.Needs.{needs}
+use Rattle.iir.proofs.biquad.section_finite.Statement.{statement}
+use Rattle.iir.proofs.biquad.section_finite.Tie as tie
+
+is-finite-requires : tie.Need-is-finite-requires
+is-finite-requires c κs = search needs
+
+is-finite-requires-2 : tie.Need-is-finite-requires-2
+is-finite-requires-2 c κs = search needs
+
+both-requires : tie.Need-both-requires
+both-requires c κs = search needs
+
+is-finite-requires-3 : tie.Need-is-finite-requires-3
+is-finite-requires-3 c κs = search needs
+
+both-requires-2 : tie.Need-both-requires-2
+both-requires-2 c κs = search needs
+
+is-finite-requires-4 : tie.Need-is-finite-requires-4
+is-finite-requires-4 c κs = search needs
+
+both-requires-3 : tie.Need-both-requires-3
+both-requires-3 c κs = search needs
+
+is-finite-requires-5 : tie.Need-is-finite-requires-5
+is-finite-requires-5 c κs = search needs
+
+both-requires-4 : tie.Need-both-requires-4
+both-requires-4 c κs = search needs
+
+returns : tie.Need-returns
+returns c = cc
+
+pub section-finite-spec : {M : Type 1} → statement M
+section-finite-spec =
+    tie.close
+    (tie.spec
+    is-finite-requires
+    is-finite-requires-2
+    both-requires
+    is-finite-requires-3
+    both-requires-2
+    is-finite-requires-4
+    both-requires-3
+    is-finite-requires-5
+    both-requires-4
+    returns)

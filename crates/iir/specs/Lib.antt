@@ -1,0 +1,5 @@
+pub mod Section
+pub mod Filter
+pub mod Flight
+pub mod Iir
+pub mod Alike

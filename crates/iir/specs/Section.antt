@@ -1,0 +1,58 @@
+-- Document 01, IIR: a second-order section. "A section is b0 b1 b2, a fourth number not read (nor judged by 2), a1 a2." Definitions only.
+use Prim.Native.Nat.{ℕ, zero, suc, _+_, _*_, _/_}
+use mathlib.Core.Bool.{Bool, true, _&&_}
+use mathlib.Core.List.{List, [], _∷_}
+use lib.ListN.{length, getD}
+use lib.Ieee.{Float, nan, binary64, add, sub, mul, ofBits}
+use lib.Ieee.Scale.{finite}
+use Rattle.iir.specs.declared.biquad.Biquad.{Biquad}
+
+-- 0.0
+abbrev pub nought : Float
+nought = ofBits binary64 0
+
+-- the section whose six numbers stand at 6k; "state zero per row"
+abbrev pub sectionAt : List Float → ℕ → Biquad
+sectionAt l k =
+    record {
+      b0 = getD l (6 * k) nan;
+      b1 = getD l (6 * k + 1) nan;
+      b2 = getD l (6 * k + 2) nan;
+      a1 = getD l (6 * k + 4) nan;
+      a2 = getD l (6 * k + 5) nan;
+      s1 = nought;
+      s2 = nought;
+      y = nought;
+    }
+
+-- n sections from the k-th on
+unfoldable pub sectionsFrom : List Float → ℕ → ℕ → List Biquad
+sectionsFrom l zero k = []
+sectionsFrom l (suc n) k = sectionAt l k ∷ sectionsFrom l n (suc k)
+
+-- all sections
+abbrev pub sectionsOf : List Float → List Biquad
+sectionsOf l = sectionsFrom l (length l / 6) 0
+
+-- the numbers that are read are finite
+abbrev pub finiteSection : Biquad → Bool
+finiteSection b = finite (b .b0) && finite (b .b1) && finite (b .b2) && finite (b .a1) && finite (b .a2)
+
+unfoldable pub finiteSections : List Biquad → Bool
+finiteSections [] = true
+finiteSections (b ∷ bs) = finiteSection b && finiteSections bs
+
+-- a section after a sample: "y = b0*x + s1; s1 = (b1*x - a1*y) + s2; s2 = b2*x - a2*y", each operation rounded
+unfoldable pub ran : Biquad → Float → Biquad
+ran b x =
+    let y = add binary64 (mul binary64 (b .b0) x) (b .s1) in
+    record {
+      b0 = b .b0;
+      b1 = b .b1;
+      b2 = b .b2;
+      a1 = b .a1;
+      a2 = b .a2;
+      s1 = add binary64 (sub binary64 (mul binary64 (b .b1) x) (mul binary64 (b .a1) y)) (b .s2);
+      s2 = sub binary64 (mul binary64 (b .b2) x) (mul binary64 (b .a2) y);
+      y = y;
+    }
