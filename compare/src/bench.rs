@@ -46,7 +46,7 @@ pub fn run() {
         host::offset,
         mixer::their_offset,
     );
-    for count in [1, 2, 3, 4, 8, 16] {
+    for count in [1, 2, 3, 4, 5, 8, 16] {
         let name = format!("iir, two rows, sections: {count}");
         step(&name, &iir::level(count), host::iir, theirs::rows::iir);
     }

@@ -1,6 +1,6 @@
 //! Rows through second-order sections, beside the Rust's `apply_iir_inplace`: its pipeline for one to four sections, its cascade for more.
 use crate::host;
-use crate::report::Report;
+use crate::report::{Class, Report};
 use crate::rng::{float, Rng};
 use crate::rows::{any, call, near, sample, Draw};
 
@@ -28,14 +28,7 @@ pub fn compare(report: &mut Report, scale: u64) {
             let count = rng.below(MOST as u64 + 1) as usize;
             let sections = sections(&mut rng, count, number);
             let before: Vec<f64> = (0..rows * length).map(|_| sample(&mut rng)).collect();
-            call(
-                &mut class,
-                rows,
-                &before,
-                &sections,
-                host::iir,
-                theirs::rows::iir,
-            );
+            run(&mut class, rows, &before, &sections);
         }
         report.add(class);
     }
@@ -45,18 +38,15 @@ pub fn compare(report: &mut Report, scale: u64) {
             for rows in [1, 2] {
                 let sections = sections(&mut rng, count, calm);
                 let before: Vec<f64> = (0..rows * length).map(|_| rng.sample()).collect();
-                call(
-                    &mut class,
-                    rows,
-                    &before,
-                    &sections,
-                    host::iir,
-                    theirs::rows::iir,
-                );
+                run(&mut class, rows, &before, &sections);
             }
         }
     }
     report.add(class);
+}
+
+fn run(class: &mut Class, rows: usize, before: &[f64], sections: &[f64]) {
+    call(class, rows, before, sections, host::iir, theirs::rows::iir);
 }
 
 /// So many sections of six numbers; the fourth, which is not read, may be anything.
