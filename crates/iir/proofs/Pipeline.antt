@@ -1,6 +1,6 @@
 -- The pipeline is the cascade from other states: those in which the turns before the first sample leave the sections. In such a turn a
 -- section takes what the one before it gave the turn before, and the zeros past the end of the row reach no sample. Assumes nothing.
-use Prim.Native.Nat.{suc, _+_}
+use Prim.Native.Nat.{suc, _+_, _/_}
 use native.Mathlib.Omega.{arith}
 use mathlib.Core.Path.{_≡_, refl, sym, ap, _∙_}
 use mathlib.Core.List.{List, [], _∷_, _++_}
@@ -8,8 +8,8 @@ use lib.ListN.{length, take, drop, replicate, length-append, length-replicate}
 use lib.Seq.{take-at, drop-at}
 use lib.Ieee.{Float}
 use Rattle.iir.specs.declared.biquad.Biquad.{Biquad}
-use Rattle.iir.specs.Section.{nought, ran}
-use Rattle.iir.specs.Filter.{given, cascade, pipelined, turns, pipeline}
+use Rattle.iir.specs.Section.{nought, ran, sectionAt, sectionsFrom, sectionsOf}
+use Rattle.iir.specs.Filter.{given, cascade, pipelined, turns, pipeline, filtered}
 use Rattle.iir.specs.Flight.{through}
 use Rattle.iir.proofs.Cascade.{passed, in-turn}
 
@@ -82,3 +82,8 @@ pipeline-cascade bs xs =
     ap (λ (l : List Float). drop (length bs) l) (pipeline-flow bs xs ∙ flow-append bs [] xs)
     ∙ drop-at (flow bs []) (passed (warmed [] bs) xs) (length bs) count
     ∙ sym (in-turn (warmed [] bs) xs)
+
+-- a list of one section
+pub alone : (l xs : List Float) → length l / 6 ≡ 1 → through (sectionAt l 0) xs ≡ filtered (sectionsOf l) xs
+unfolding sectionsFrom
+alone l xs one = let first = sectionAt l 0 in rw one (sym (pipeline-cascade (first ∷ []) xs ∙ in-turn (first ∷ []) xs))

@@ -9,10 +9,26 @@ use super::biquad::Biquad;
 use super::biquad::section;
 use super::flight::four;
 use super::flight::one;
+use super::flight::side_by_side;
 use super::flight::three;
 use super::flight::two;
 
-pub(crate) fn filter(row: &mut [f64], numbers: &[f64])
+// Both rows of a channel. One section keeps a row waiting for it, so two rows of one length go through it side by side.
+pub(crate) fn filter_rows(i: &mut [f64], q: &mut [f64], numbers: &[f64])
+    ensures { λ r. ⌜ now (i .exit) ≡ filtered (sectionsOf (now (numbers .entry))) (now (i .entry)) ⌝ }
+    ensures { λ r. ⌜ now (q .exit) ≡ filtered (sectionsOf (now (numbers .entry))) (now (q .entry)) ⌝ }
+{
+    if i.len() == q.len() {
+        if numbers.len() / 6 == 1 {
+            side_by_side(i, q, section(numbers, 0));
+            return;
+        }
+    }
+    filter(i, numbers);
+    filter(q, numbers);
+}
+
+fn filter(row: &mut [f64], numbers: &[f64])
     ensures { λ r. ⌜ now (row .exit) ≡ filtered (sectionsOf (now (numbers .entry))) (now (row .entry)) ⌝ }
 {
     let count = numbers.len() / 6;

@@ -6,6 +6,7 @@ ghost use mathlib.Core.List.{[], _∷_};
 ghost use Prim.Native.Nat.{_≤_};
 ghost use lib.ListN.{length, drop};
 ghost use Rattle.iir.specs.Filter.{cascade};
+ghost use Rattle.iir.specs.Section.{ran};
 ghost use Rattle.iir.specs.Flight.{through, onward};
 use super::biquad::Biquad;
 
@@ -17,6 +18,39 @@ pub(crate) fn one(row: &mut [f64], a: Biquad)
     while k < row.len() {
         p = p.run(row[k]);
         row[k] = p.y;
+        k += 1;
+    }
+}
+
+// A section for each of two rows.
+pub struct Beside {
+    pub i: Biquad,
+    pub q: Biquad,
+}
+
+impl Beside {
+    fn run(self, x: f64, z: f64) -> Beside
+        ensures { λ r. ⌜ r ≡ record { i = ran (self .i) x; q = ran (self .q) z } ⌝ }
+    {
+        Beside {
+            i: self.i.run(x),
+            q: self.q.run(z),
+        }
+    }
+}
+
+// Two rows side by side, each through a section of its own, alike at the start. So neither row waits for the other.
+pub(crate) fn side_by_side(i: &mut [f64], q: &mut [f64], a: Biquad)
+    requires { ⌜ length (now i) ≡ length (now q) ⌝ }
+    ensures { λ r. ⌜ now (i .exit) ≡ through a (now (i .entry)) ⌝ }
+    ensures { λ r. ⌜ now (q .exit) ≡ through a (now (q .entry)) ⌝ }
+{
+    let mut p = Beside { i: a, q: a };
+    let mut k: usize = 0;
+    while k < i.len() {
+        p = p.run(i[k], q[k]);
+        i[k] = p.i.y;
+        q[k] = p.q.y;
         k += 1;
     }
 }

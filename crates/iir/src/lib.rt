@@ -7,7 +7,7 @@ mod filter;
 mod flight;
 
 use biquad::sections_finite;
-use filter::filter;
+use filter::filter_rows;
 use quant::judge::both;
 use quant::refusal::Answer;
 use rows::answer;
@@ -23,8 +23,7 @@ pub fn iir(rows: usize, i: &mut [f64], q: &mut [f64], sections: &[f64]) -> Answe
     if !sections_finite(sections) {
         return answer(true, false);
     }
-    filter(i, sections);
-    filter(q, sections);
+    filter_rows(i, q, sections);
     answer(true, true)
 }
 

@@ -42,11 +42,8 @@ returns-2 c =
     let a = c .before .before .before .before .before .before .before .before .args in
     settled (a .rows) (a .i .now) (a .q .now) (a .sections .now) (c .answer2 .result) true false (passed _ _ (c .before .before .before .before .sizes-fit .ensures) (c .before .before .before .if1 .left)) (taken _ _ (c .before .before .sections-finite .ensures) (c .before .if2 .taken)) (c .answer2 .ensures)
 
-filter-requires : tie.Need-filter-requires
-filter-requires c κs = search needs
-
-filter-requires-2 : tie.Need-filter-requires-2
-filter-requires-2 c κs = search needs
+filter-rows-requires : tie.Need-filter-rows-requires
+filter-rows-requires c κs = search needs
 
 answer-requires-3 : tie.Need-answer-requires-3
 answer-requires-3 c κs = search needs
@@ -59,9 +56,10 @@ same-length-2 c = search needs
 
 returns-3 : tie.Need-returns-3
 returns-3 c =
-    let a = c .before .before .before .before .before .before .before .before .before .before .before .before .before .before .before .before .args in
-    rw (c .before .before .before .before .before .before .before .filter .ensures, c .before .before .before .filter2 .ensures)
-    (settled (a .rows) (a .i .now) (a .q .now) (a .sections .now) (c .answer3 .result) true true (passed _ _ (c .before .before .before .before .before .before .before .before .before .before .before .before .sizes-fit .ensures) (c .before .before .before .before .before .before .before .before .before .before .before .if1 .left)) (passed _ _ (c .before .before .before .before .before .before .before .before .before .before .sections-finite .ensures) (c .before .before .before .before .before .before .before .before .before .if2 .left)) (c .answer3 .ensures))
+    let a = c .before .before .before .before .before .before .before .before .before .before .before .before .before .before .before .args in
+    let left = c .before .before .before .before .before .filter-rows .ensures in
+    rw (left .0, left .1)
+    (settled (a .rows) (a .i .now) (a .q .now) (a .sections .now) (c .answer3 .result) true true (passed _ _ (c .before .before .before .before .before .before .before .before .before .before .before .sizes-fit .ensures) (c .before .before .before .before .before .before .before .before .before .before .if1 .left)) (passed _ _ (c .before .before .before .before .before .before .before .before .before .sections-finite .ensures) (c .before .before .before .before .before .before .before .before .if2 .left)) (c .answer3 .ensures))
 
 pub iir-spec : {M : Type 1} → statement M
 iir-spec =
@@ -73,8 +71,7 @@ iir-spec =
     sections-finite-requires
     answer-requires-2
     returns-2
-    filter-requires
-    filter-requires-2
+    filter-rows-requires
     answer-requires-3
     same-length
     same-length-2

@@ -10,7 +10,7 @@ use Rattle.iir.specs.Section.{sectionAt, sectionsFrom, sectionsOf}
 use Rattle.iir.specs.Filter.{cascade, filtered}
 use Rattle.iir.proofs.Sections.{count-from}
 use Rattle.iir.proofs.Cascade.{in-turn}
-use Rattle.iir.proofs.Pipeline.{pipeline-cascade}
+use Rattle.iir.proofs.Pipeline.{alone}
 use borrow.Author.Needs.{needs}
 use Rattle.iir.proofs.filter.filter.Statement.{statement}
 use Rattle.iir.proofs.filter.filter.Tie as tie
@@ -35,12 +35,9 @@ same-length : tie.Need-same-length
 same-length c = search needs
 
 returns-2 : tie.Need-returns-2
-unfolding sectionsFrom
 returns-2 c =
     let a = c .before .before .before .before .before .before .before .before .before .args in
-    let first = sectionAt (a .numbers .now) 0 in
-    rw (c .before .before .one .ensures, c .before .before .before .section .ensures, c .before .before .before .before .before .if2 .taken)
-    (sym (pipeline-cascade (first ∷ []) (a .row .now) ∙ in-turn (first ∷ []) (a .row .now)))
+    rw (c .before .before .one .ensures, c .before .before .before .section .ensures) (alone (a .numbers .now) (a .row .now) (c .before .before .before .before .before .if2 .taken))
 
 section-requires-2 : tie.Need-section-requires-2
 section-requires-2 c κs = search needs
