@@ -2,14 +2,13 @@
 use Prim.Native.Nat.{_/_, _<_}
 use native.Mathlib.Omega.{arith}
 use mathlib.Core.Path.{_≡_, sym, _∙_}
-use mathlib.Core.List.{List, [], _∷_}
+use mathlib.Core.List.{List}
 use borrow.Author.Tests.{lt-leb, ne-eqb}
 use lib.ListN.{length}
 use lib.Ieee.{Float}
-use Rattle.iir.specs.Section.{sectionAt, sectionsFrom, sectionsOf}
+use Rattle.iir.specs.Section.{sectionsFrom, sectionsOf}
 use Rattle.iir.specs.Filter.{cascade, filtered}
 use Rattle.iir.proofs.Sections.{count-from}
-use Rattle.iir.proofs.Cascade.{in-turn}
 use Rattle.iir.proofs.Pipeline.{alone}
 use borrow.Author.Needs.{needs}
 use Rattle.iir.proofs.filter.filter.Statement.{statement}
