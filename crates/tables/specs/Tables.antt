@@ -10,7 +10,7 @@ use lib.ListN.{take, getD, set, replicate}
 use Rattle.quant.specs.declared.name.Name.{Name}
 use Rattle.quant.specs.declared.refusal.Answer.the-variants.{Done, Refused}
 use Rattle.quant.specs.declared.refusal.Refusal.{Refusal}
-use Rattle.quant.specs.declared.refusal.Refusal.the-variants.{Unfit, Malformed, Full, UnknownChannel}
+use Rattle.quant.specs.declared.refusal.Refusal.the-variants.{Unfit, Malformed, Full}
 use Rattle.quant.specs.Name.{isName, sameName}
 use Rattle.quant.specs.Settings.{isTolerance}
 use Rattle.executor.specs.declared.osc.OscState.{OscState}

@@ -1,9 +1,9 @@
 -- `tables::has_shape` meets its contract. The invariant: what the names from i on answer is the answer. Assumes nothing.
 use borrow.Author.Needs.{needs}
-use Prim.Native.Nat.{_+_, _-_, _≤_}
+use Prim.Native.Nat.{_-_, _≤_}
 use native.Mathlib.Omega.{arith}
 use mathlib.Core.Path.{_≡_, refl, sym, _∙_}
-use lib.ListN.{length, drop}
+use lib.ListN.{drop}
 use Rattle.tables.specs.Tables.{shapesIn, isIn}
 use Rattle.tables.proofs.Sizes.{eight-shapes}
 use Rattle.tables.proofs.Finding.{none-left, none-over, next-left, is-not, is-here, is-later}
