@@ -3,6 +3,7 @@ ghost use mathlib.Core.Path.{_≡_};
 ghost use Rattle.pulse.specs.Bin.{codeOf, shapeOf, rowOf, binOf, sameRow, placeOf};
 use super::envelope::Envelope;
 use super::envelope::Shape;
+use quant::judge::both;
 use quant::quantity::Frequency;
 use quant::quantity::Time;
 
@@ -17,7 +18,8 @@ pub fn row_of(b: Bin) -> [f64; 5]
     ensures { λ r. ⌜ r ≡ rowOf b ⌝ }
 {
     let e = b.envelope;
-    [code(e.shape), e.width.0, e.plateau.0, b.global.0, b.local.0]
+    let shape = e.shape;
+    [code(shape), e.width.0, e.plateau.0, b.global.0, b.local.0]
 }
 
 // The bin that a row stands for. A row may hold any five numbers.
@@ -52,19 +54,13 @@ pub fn place(row: [f64; 5], rows: &[[f64; 5]]) -> usize
 fn same_row(a: [f64; 5], b: [f64; 5]) -> bool
     ensures { λ r. ⌜ r ≡ sameRow a b ⌝ }
 {
-    if a[0] != b[0] {
-        return false;
-    }
-    if a[1] != b[1] {
-        return false;
-    }
-    if a[2] != b[2] {
-        return false;
-    }
-    if a[3] != b[3] {
-        return false;
-    }
-    a[4] == b[4]
+    both(
+        a[0] == b[0],
+        both(
+            a[1] == b[1],
+            both(a[2] == b[2], both(a[3] == b[3], a[4] == b[4])),
+        ),
+    )
 }
 
 fn code(shape: Shape) -> f64
