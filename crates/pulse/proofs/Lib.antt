@@ -1,0 +1,4 @@
+-- What is proved of no one function.
+pub mod Place
+pub mod Placed
+pub mod Rows

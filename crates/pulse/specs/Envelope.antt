@@ -1,0 +1,18 @@
+-- Document 01, "Lists and merging": "`Envelope`: no shape adds width to plateau and makes width 0; width 0 then drops the shape". Definitions only.
+use mathlib.Core.Bool.{cond}
+use lib.Ieee.{Float, binary64, add, eq, ofBits}
+use Rattle.pulse.specs.declared.envelope.Envelope.{Envelope}
+use Rattle.pulse.specs.declared.envelope.Shape.{Shape}
+use Rattle.pulse.specs.declared.envelope.Shape.the-variants.{Plain, Hann}
+
+-- 0.0
+abbrev pub nought : Float
+nought = ofBits binary64 0
+
+-- an envelope's three parts
+abbrev pub parts : Shape → Float → Float → Envelope
+parts s w p = record { shape = s; width = record { 0 = w }; plateau = record { 0 = p } }
+
+unfoldable pub envelopeOf : Shape → Float → Float → Envelope
+envelopeOf Plain w p = parts Plain nought (add binary64 p w)
+envelopeOf Hann w p = cond (eq w nought) (parts Plain w p) (parts Hann w p)

@@ -1,0 +1,4 @@
+pub mod Envelope
+pub mod Bin
+pub mod Weight
+pub mod List
