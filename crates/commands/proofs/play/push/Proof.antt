@@ -1,0 +1,86 @@
+-- `commands::play::push` meets its contract. Assumes nothing.
+use borrow.Author.Needs.{needs}
+use Rattle.commands.specs.Play.{storedWith}
+use Rattle.quant.proofs.Judging.{taken, passed}
+use lib.Ieee.Scale.{finite}
+use mathlib.Core.Bool.{_&&_}
+use mathlib.Core.Path.{_≡_, sym, _∙_}
+use Rattle.commands.proofs.play.push.Statement.{statement}
+use Rattle.commands.proofs.play.push.Tie as tie
+
+is-finite-requires : tie.Need-is-finite-requires
+is-finite-requires c κs = search needs
+
+is-finite-requires-2 : tie.Need-is-finite-requires-2
+is-finite-requires-2 c κs = search needs
+
+both-requires : tie.Need-both-requires
+both-requires c κs = search needs
+
+module _ (d : tie.After-both) where
+  flag : d .both .result ≡ (finite (d .before .before .before .before .args .b .global .0) && finite (d .before .before .before .before .args .b .envelope .plateau .0))
+  flag = cc
+
+stops-requires : tie.Need-stops-requires
+stops-requires c κs = search needs
+
+returns : tie.Need-returns
+unfolding storedWith
+returns c = rw (c .stops .ensures, taken _ _ (flag (c .before .before)) (c .before .if1 .taken))
+
+is-negligible-requires : tie.Need-is-negligible-requires
+is-negligible-requires c κs = search needs
+
+goes-on-requires : tie.Need-goes-on-requires
+goes-on-requires c κs = search needs
+
+returns-2 : tie.Need-returns-2
+unfolding storedWith
+returns-2 c = rw (c .goes-on .ensures, passed _ _ (flag (c .before .before .before .before)) (c .before .before .before .if1 .left), sym (c .before .before .is-negligible .ensures) ∙ c .before .if2 .taken)
+
+weigh-requires : tie.Need-weigh-requires
+weigh-requires c κs = search needs
+
+enum-known-w : tie.Need-enum-known-w
+enum-known-w c = search needs
+
+row-of-requires : tie.Need-row-of-requires
+row-of-requires c κs = search needs
+
+store-at-requires : tie.Need-store-at-requires
+store-at-requires c κs = search needs
+
+enum-told : tie.Need-enum-told
+enum-told c = search needs
+
+stops-requires-2 : tie.Need-stops-requires-2
+stops-requires-2 c κs = search needs
+
+returns-3 : tie.Need-returns-3
+unfolding storedWith
+returns-3 c = rw (c .store-at .ensures, c .before .row-of .ensures, passed _ _ (flag (c .before .before .before .before .before .before .before .before .before)) (c .before .before .before .before .before .before .before .before .if1 .left), sym (c .before .before .before .before .before .before .before .is-negligible .ensures) ∙ c .before .before .before .before .before .before .if2 .left, sym (c .before .before .before .before .before .weigh .ensures) ∙ c .before .before .before .w .given .1)
+
+returns-4 : tie.Need-returns-4
+unfolding storedWith
+returns-4 c = rw (c .stops2 .ensures, passed _ _ (flag (c .before .before .before .before .before .before .before)) (c .before .before .before .before .before .before .if1 .left), sym (c .before .before .before .before .before .is-negligible .ensures) ∙ c .before .before .before .before .if2 .left, sym (c .before .before .before .weigh .ensures) ∙ c .before .enum-told .given .1)
+
+pub push-spec : {M : Type 1} → statement M
+push-spec =
+    tie.close
+    (tie.spec
+    is-finite-requires
+    is-finite-requires-2
+    both-requires
+    stops-requires
+    returns
+    is-negligible-requires
+    goes-on-requires
+    returns-2
+    weigh-requires
+    enum-known-w
+    row-of-requires
+    store-at-requires
+    enum-told
+    stops-requires-2
+    returns-3
+    returns-4)

@@ -1,0 +1,4 @@
+pub mod Command
+pub mod Step
+pub mod Play
+pub mod Run

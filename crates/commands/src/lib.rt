@@ -1,0 +1,5 @@
+// Commands and the call that carries out a list of them. The Rust's `Executor::execute`, for commands that are already arranged.
+pub mod command;
+mod play;
+mod run;
+pub mod step;

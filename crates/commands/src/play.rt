@@ -1,0 +1,183 @@
+// A play, and the pulse that it stores. The Rust's `execute_play`, `add_pulse` and `ListBuilder::push`.
+ghost use mathlib.Core.Path.{_≡_};
+ghost use Prim.Native.Nat.{_+_, _*_, _<_, _≤_};
+ghost use mathlib.Core.Bool.{true, _&&_, _||_, cond};
+ghost use lib.Dec.{leb, ltb};
+ghost use lib.ListN.{length};
+ghost use Rattle.tables.specs.Tables.{channelAt};
+ghost use Rattle.pulse.specs.Envelope.{nought};
+ghost use Rattle.commands.specs.Play.{rowsOf, isNew, isFull, grown, pulseAt, stores, storedAt, storedWith, plateauOf, envelopeFor, binFor, pushed, playedAt, played};
+use super::command::Play;
+use super::step::Step;
+use super::step::goes_on;
+use super::step::stops;
+use ieee::finite::is_finite;
+use pulse::bin::Bin;
+use pulse::bin::place;
+use pulse::bin::row_of;
+use pulse::envelope::Envelope;
+use pulse::envelope::Shape;
+use pulse::list::Pulse;
+use pulse::weight::Weighed;
+use pulse::weight::Weight;
+use pulse::weight::is_negligible;
+use pulse::weight::weigh;
+use quant::judge::both;
+use quant::quantity::Frequency;
+use quant::quantity::Time;
+use quant::refusal::Refusal;
+use tables::Channel;
+use tables::Found;
+use tables::Tables;
+use tables::find;
+use tables::has_shape;
+use tables::with_channel;
+
+// Refusals 5, 6, 7, 8, 3. The bins are 64 rows a channel.
+pub(crate) fn play(t: Tables, bins: &[[f64; 5]], start: Time, span: Time, p: Play) -> Step
+    requires { ⌜ length (now bins) ≡ 512 ⌝ }
+    ensures { λ r. ⌜ r ≡ played t (now (bins .entry)) (start .0) (span .0) p ⌝ }
+{
+    let shape = p.shape;
+    if both(p.shaped, !has_shape(t, shape)) {
+        return stops(t, Refusal::UnknownShape);
+    }
+    if plateau_of(p, span).0 < 0.0 {
+        return stops(t, Refusal::NegativePlateau);
+    }
+    let channel = p.channel;
+    match find(t, channel) {
+        Found::At(i) => push(t, bins, i, start, p, bin_for(t, i, p, span)),
+        Found::Nowhere => stops(t, Refusal::UnknownChannel),
+    }
+}
+
+fn push(t: Tables, bins: &[[f64; 5]], i: usize, start: Time, p: Play, b: Bin) -> Step
+    requires { ⌜ (i < 8) × (length (now bins) ≡ 512) ⌝ }
+    ensures { λ r. ⌜ r ≡ pushed t (now (bins .entry)) i (start .0) p b ⌝ }
+{
+    let e = b.envelope;
+    if !both(is_finite(b.global.0), is_finite(e.plateau.0)) {
+        return stops(t, Refusal::NotFinite);
+    }
+    if is_negligible(p.amplitude, t.amp) {
+        return goes_on(t);
+    }
+    match weigh(p.amplitude, p.phase, p.drag) {
+        Weighed::Fine(w) => store_at(t, bins, i, start, w, row_of(b)),
+        Weighed::Overflow => stops(t, Refusal::NotFinite),
+    }
+}
+
+fn store_at(t: Tables, bins: &[[f64; 5]], i: usize, start: Time, w: Weight, row: [f64; 5]) -> Step
+    requires { ⌜ (i < 8) × (length (now bins) ≡ 512) ⌝ }
+    ensures { λ r. ⌜ r ≡ storedAt t (now (bins .entry)) i (start .0) w row ⌝ }
+{
+    let c = t.channels[i];
+    let many = at_most_64(c.bins);
+    let first = 64 * i;
+    let at = place(row, &bins[first..first + many]);
+    let new = many <= at;
+    if is_full(new, c.bins, c.pulses) {
+        return stops(t, Refusal::Full);
+    }
+    stores(t, i, at, new, start, w, row)
+}
+
+fn at_most_64(n: usize) -> usize
+    ensures { λ r. ⌜ r ≡ cond (ltb n 64) n 64 ⌝ }
+{
+    if n < 64 {
+        return n;
+    }
+    64
+}
+
+// A 65th bin, or a 1,025th pulse.
+fn is_full(new: bool, bins: usize, pulses: usize) -> bool
+    ensures { λ r. ⌜ r ≡ ((new && leb 64 bins) || leb 1024 pulses) ⌝ }
+{
+    if both(new, 64 <= bins) {
+        return true;
+    }
+    1024 <= pulses
+}
+
+fn stores(t: Tables, i: usize, at: usize, new: bool, start: Time, w: Weight, row: [f64; 5]) -> Step
+    requires { ⌜ (i < 8) × (at ≤ 64) ⌝ }
+    requires { ⌜ (new ≡ true → channelAt t i .bins < 64) × (channelAt t i .pulses < 1024) ⌝ }
+    ensures { λ r. ⌜ r ≡ stores t i at new (start .0) w row ⌝ }
+{
+    let c = t.channels[i];
+    let amp = w.amp;
+    let drag = w.drag;
+    let pulse = Pulse {
+        bin: at,
+        time: start,
+        amp,
+        drag,
+    };
+    let tables = with_channel(t, i, grown(c, new));
+    Step {
+        stop: false,
+        why: Refusal::Unfit,
+        put: true,
+        from: 1024 * i,
+        count: c.pulses,
+        pulse,
+        opens: new,
+        at: 64 * i + at,
+        row,
+        tables,
+    }
+}
+
+// A pulse more, and a bin more where one is opened.
+fn grown(c: Channel, new: bool) -> Channel
+    requires { ⌜ (new ≡ true → c .bins < 64) × (c .pulses < 1024) ⌝ }
+    ensures { λ r. ⌜ r ≡ grown c new ⌝ }
+{
+    let mut d = c;
+    d.pulses = c.pulses + 1;
+    if new {
+        d.bins = c.bins + 1;
+        return d;
+    }
+    d
+}
+
+fn bin_for(t: Tables, i: usize, p: Play, span: Time) -> Bin
+    requires { ⌜ i < 8 ⌝ }
+    ensures { λ r. ⌜ r ≡ binFor t i p (span .0) ⌝ }
+{
+    let c = t.channels[i];
+    let osc = c.osc;
+    let envelope = envelope_for(p, span);
+    let global = osc.total_freq();
+    let local = p.frequency;
+    Bin {
+        envelope,
+        global,
+        local,
+    }
+}
+
+fn envelope_for(p: Play, span: Time) -> Envelope
+    ensures { λ r. ⌜ r ≡ envelopeFor p (span .0) ⌝ }
+{
+    let width = p.width;
+    let plateau = plateau_of(p, span);
+    if p.shaped {
+        return Envelope::new(Shape::Hann, width, plateau);
+    }
+    Envelope::new(Shape::Plain, width, plateau)
+}
+
+fn plateau_of(p: Play, span: Time) -> Time
+    ensures { λ r. ⌜ r .0 ≡ plateauOf p (span .0) ⌝ }
+{
+    if p.flexible {
+        return span.sub(p.width);
+    }
+    p.plateau
+}

@@ -1,0 +1,64 @@
+// One command, with what it writes into the bins.
+ghost use mathlib.Core.Path.{_≡_};
+ghost use lib.ListN.{length};
+ghost use Rattle.commands.specs.Step.{binsAfter};
+ghost use Rattle.commands.specs.Run.{acted, stepOf};
+use super::command::Arranged;
+use super::command::Command;
+use super::command::is_too_long;
+use super::command::well_formed;
+use super::play::play;
+use super::step::Step;
+use super::step::goes_on;
+use super::step::stops;
+use super::step::swap;
+use super::step::turn;
+use quant::quantity::Time;
+use quant::refusal::Refusal;
+use tables::Tables;
+
+// A bin is written once nothing can refuse any more.
+pub(crate) fn act(t: Tables, bins: &mut [[f64; 5]], a: Arranged) -> Step
+    requires { ⌜ length (now bins) ≡ 512 ⌝ }
+    ensures { λ r. ⌜ r ≡ stepOf t (now (bins .entry)) a ⌝ }
+    ensures { λ r. ⌜ now (bins .exit) ≡ binsAfter (stepOf t (now (bins .entry)) a) (now (bins .entry)) ⌝ }
+{
+    let s = step(t, bins, a);
+    if s.opens {
+        let at = s.at;
+        let row = s.row;
+        bins[at] = row;
+        return s;
+    }
+    s
+}
+
+// Refusals 2 and 4, then those of each command.
+fn step(t: Tables, bins: &[[f64; 5]], a: Arranged) -> Step
+    requires { ⌜ length (now bins) ≡ 512 ⌝ }
+    ensures { λ r. ⌜ r ≡ stepOf t (now (bins .entry)) a ⌝ }
+{
+    if !well_formed(a) {
+        return stops(t, Refusal::Malformed);
+    }
+    if is_too_long(t, a) {
+        return stops(t, Refusal::Oversize);
+    }
+    let command = a.command;
+    carry_out(t, bins, a.start, a.span, command)
+}
+
+fn carry_out(t: Tables, bins: &[[f64; 5]], start: Time, span: Time, c: Command) -> Step
+    requires { ⌜ length (now bins) ≡ 512 ⌝ }
+    ensures { λ r. ⌜ r ≡ acted t (now (bins .entry)) (start .0) (span .0) c ⌝ }
+{
+    match c {
+        Command::Play(p) => play(t, bins, start, span, p),
+        Command::ShiftPhase(n, _) => turn(t, n, c, start),
+        Command::SetPhase(n, _) => turn(t, n, c, start),
+        Command::ShiftFreq(n, _) => turn(t, n, c, start),
+        Command::SetFreq(n, _) => turn(t, n, c, start),
+        Command::SwapPhase(n, m) => swap(t, n, m, start),
+        Command::Barrier => goes_on(t),
+    }
+}
