@@ -2,3 +2,4 @@
 pub mod Place
 pub mod Placed
 pub mod Rows
+pub mod Walk
