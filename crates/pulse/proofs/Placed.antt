@@ -63,3 +63,20 @@ module _ (from : ℕ) (p : Pulse) (s : List Pulse) where
     among-before e =
         let k : from + n + 1 ≡ from + suc n = omega arith in
         rw (window, placed-before p last e (take n (drop from s)), after, take-set-le from s (from + suc n) last (omega arith), drop-set-add from s (suc n) last, take-set-le n (drop from s) (suc n) last (omega arith), k, slot) (simp append-assoc)
+
+  -- the same at the slot i, which comes after the records from `from` up to it
+  pub at-from : (i : ℕ) → i ≡ from → i < length s → set s i p ≡ among from (i - from) p s
+  at-from i e h = let z : i - from ≡ 0 = omega arith in rw (z, e) (sym (among-none (rw e at h)))
+
+  module _ (i n : ℕ) (is : i ≡ from + suc n) (h : i < length s) where
+    prior : i - 1 ≡ from + n
+    prior = omega arith
+
+    upto : i - from ≡ suc n
+    upto = omega arith
+
+    pub behind : staysBefore (getD s (i - 1) none) p ≡ true → set s i p ≡ among from (i - from) p s
+    behind e = rw (upto, is) (sym (among-behind n (rw is at h) (rw prior at e)))
+
+    pub before : staysBefore (getD s (i - 1) none) p ≡ false → among from (i - 1 - from) p (set s i (getD s (i - 1) none)) ≡ among from (i - from) p s
+    before e = let k : i - 1 - from ≡ n = omega arith in rw (k, prior, upto, is) (sym (among-before n (rw is at h) (rw prior at e)))

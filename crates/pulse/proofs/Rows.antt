@@ -4,10 +4,13 @@ use mathlib.Core.Path.{_≡_}
 use mathlib.Core.Bool.{_&&_, and-true}
 use mathlib.Core.List.{List, []}
 use native.Mathlib.Omega.{arith}
-use lib.Ieee.{Float, eq, nan}
+use lib.Ieee.{Float, eq, nan, ofBits}
 use lib.ListN.{length, getD, drop, drop-of-length-le}
 use lib.Seq.{drop-cons}
-use Rattle.pulse.specs.Bin.{sameRow}
+use Rattle.pulse.specs.declared.bin.Bin.{Bin}
+use Rattle.pulse.specs.declared.envelope.Shape.{Shape}
+use Rattle.pulse.specs.declared.envelope.Shape.the-variants.{Plain, Hann}
+use Rattle.pulse.specs.Bin.{codeOf, shapeOf, rowOf, binOf, sameRow}
 
 empty : (a : List Float) → length a ≡ 5 → drop 5 a ≡ []
 empty a h = let le : length a ≤ 5 = omega arith in drop-of-length-le a le
@@ -24,3 +27,12 @@ module _ (a b : List Float) where
   unfolding sameRow
   five h g =
       rw (next 0 (omega arith) (omega arith), next 1 (omega arith) (omega arith), next 2 (omega arith) (omega arith), next 3 (omega arith) (omega arith), next 4 (omega arith) (omega arith), empty a h, empty b g, and-true (eq (getD a 4 nan) (getD b 4 nan)))
+
+-- a bin, written as a row and read again, is the bin
+shape-again : (s : Shape) → shapeOf (codeOf s) ≡ s
+unfolding eq ofBits
+shape-again Plain = refl
+shape-again Hann = refl
+
+pub bin-again : (b : Bin) → binOf (rowOf b) ≡ b
+bin-again b = rw (shape-again (b .envelope .shape))
