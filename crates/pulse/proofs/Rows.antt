@@ -1,6 +1,6 @@
 -- Rows of five numbers are the same where each number is: `sameRow`, one number taken off at a time. Assumes nothing.
 use Prim.Native.Nat.{ℕ, suc, _<_, _≤_}
-use mathlib.Core.Path.{_≡_}
+use mathlib.Core.Path.{_≡_, refl}
 use mathlib.Core.Bool.{_&&_, and-true}
 use mathlib.Core.List.{List, []}
 use native.Mathlib.Omega.{arith}

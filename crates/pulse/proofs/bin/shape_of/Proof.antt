@@ -1,4 +1,5 @@
 -- `pulse::shape_of` meets its contract. Assumes nothing.
+use borrow.Author.Needs.{needs}
 use Rattle.pulse.proofs.bin.shape_of.Statement.{statement}
 use Rattle.pulse.proofs.bin.shape_of.Tie as tie
 use Rattle.pulse.proofs.bin.shape_of.Reads as reads

@@ -1,5 +1,6 @@
 -- `pulse::stays_before` meets its contract. Assumes nothing.
 use borrow.Author.Tests.{lt-ltb, le-ltb, eq-eqb, ne-eqb}
+use borrow.Author.Needs.{needs}
 use Rattle.pulse.proofs.list.stays_before.Statement.{statement}
 use Rattle.pulse.proofs.list.stays_before.Tie as tie
 use Rattle.pulse.proofs.list.stays_before.Reads as reads
