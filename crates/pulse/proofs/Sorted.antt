@@ -1,8 +1,8 @@
 -- What `placed` does to a list. p parts the records that it finds into two runs, in their old order, and none of the second stays before
 -- it: so equal times stand in order of pushing. A sorted list stays sorted. By the records in turn. Assumes nothing.
-use Prim.Native.Nat.{ℕ, suc}
+use Prim.Native.Nat.{suc}
 use mathlib.Core.Path.{_≡_, refl, sym, ap, _∙_}
-use mathlib.Core.Bool.{Bool, true, false, _&&_, _||_, not, cond, or-false}
+use mathlib.Core.Bool.{Bool, true, false, not, cond, or-false}
 use mathlib.Core.List.{List, [], _∷_, _++_}
 use borrow.Author.Tests.{not-true}
 use lib.Ieee.{isNan}
@@ -11,7 +11,7 @@ use Rattle.pulse.specs.declared.list.Pulse.{Pulse}
 use Rattle.pulse.specs.List.{staysBefore, anyBefore, placed}
 use Rattle.pulse.specs.Sorted.{sorted, timed}
 use Rattle.quant.proofs.Places.{both}
-use Rattle.pulse.proofs.Order.{none-left, none-right, other-stays}
+use Rattle.pulse.proofs.Order.{none-left, other-stays}
 
 -- where p came to stand
 pub record Parted (p : Pulse) (xs : List Pulse) : Type 0 where
