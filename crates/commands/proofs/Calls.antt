@@ -24,14 +24,14 @@ use Rattle.commands.specs.Words.{further, countedFrom, secondCall}
 
 -- ---- sizes
 
-bins-size : (s : Step) (bins : List (List Float)) → length (binsAfter s bins) ≡ length bins
+pub bins-size : (s : Step) (bins : List (List Float)) → length (binsAfter s bins) ≡ length bins
 bins-size s bins = go (s .opens)
   where
     go : (b : Bool) → length (cond b (set bins (s .at) (s .row)) bins) ≡ length bins
     go true = length-set bins (s .at) (s .row)
     go false = refl
 
-pulses-size : (s : Step) (pulses : List Pulse) → length (pulsesAfter s pulses) ≡ length pulses
+pub pulses-size : (s : Step) (pulses : List Pulse) → length (pulsesAfter s pulses) ≡ length pulses
 pulses-size s pulses = go (s .put)
   where
     go : (b : Bool) → length (cond b (stored (s .from) (s .count) (s .pulse) pulses) pulses) ≡ length pulses

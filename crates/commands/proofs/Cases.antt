@@ -138,10 +138,10 @@ module _ (t : Tables) (bins : List (List Float)) where
         one-of t (isFull t bins i place) (stops t Full) (stores t i place new start w row)
         (λ _. refuses Full)
         (λ e.
-          let room = not-full new (channelAt t i .bins) (channelAt t i .pulses) e in
-          let within = place-first row (rowsOf t bins i) .within in
-          let few = few-rows in
-          puts n i place new start w row there known (omega arith) (λ old. let under = leb-false (length (rowsOf t bins i)) place old in omega arith) (room .0) (room .1))
+        let room = not-full new (channelAt t i .bins) (channelAt t i .pulses) e in
+        let within = place-first row (rowsOf t bins i) .within in
+        let few = few-rows in
+        puts n i place new start w row there known (omega arith) (λ old. let under = leb-false (length (rowsOf t bins i)) place old in omega arith) (room .0) (room .1))
 
     stored-with-kind : (w : Weighed) → Kind t (storedWith t bins i start w row)
     unfolding storedWith

@@ -2,3 +2,5 @@ pub mod Rows
 pub mod Cases
 pub mod Calls
 pub mod Full
+pub mod Zones
+pub mod Sound

@@ -3,3 +3,4 @@ pub mod Step
 pub mod Play
 pub mod Run
 pub mod Words
+pub mod Sound

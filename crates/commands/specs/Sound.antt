@@ -1,0 +1,52 @@
+-- Words for the law of what our calls leave: a channel's list as it stands, and what can be reached from made tables by adding channels
+-- and shapes and by calls of commands, accepted or refused. Definitions only.
+use Prim.Native.Nat.{ℕ, _*_, _≤_, _<_}
+use mathlib.Core.Path.{_≡_}
+use mathlib.Core.Bool.{Bool, true, _&&_}
+use mathlib.Core.List.{List, [], _∷_}
+use lib.Dec.{ltb}
+use lib.Ieee.{Float}
+use lib.ListN.{length, take, drop}
+use Rattle.quant.specs.declared.name.Name.{Name}
+use Rattle.executor.specs.declared.osc.OscState.{OscState}
+use Rattle.pulse.specs.declared.list.Pulse.{Pulse}
+use Rattle.pulse.specs.Sorted.{sorted, timed}
+use Rattle.tables.specs.declared.Tables.{Tables}
+use Rattle.tables.specs.Tables.{made, withAdded, withAddedShape, channelAt}
+use Rattle.commands.specs.declared.command.Arranged.{Arranged}
+use Rattle.commands.specs.Run.{executed}
+
+-- the records of the channel at a place
+abbrev pub listOf : Tables → List Pulse → ℕ → List Pulse
+listOf t pulses i = take (channelAt t i .pulses) (drop (1024 * i) pulses)
+
+-- whether every record belongs to one of so many bins
+unfoldable pub binned : ℕ → List Pulse → Bool
+binned many [] = true
+binned many (q ∷ qs) = ltb (q .bin) many && binned many qs
+
+-- a channel's list stands by bin and time, and its counts are right
+pub record Stands (t : Tables) (pulses : List Pulse) (i : ℕ) : Type 0 where
+  pub most-bins : channelAt t i .bins ≤ 64
+  pub most-pulses : channelAt t i .pulses ≤ 1024
+  pub in-order : sorted (listOf t pulses i) ≡ true
+  pub in-time : timed (listOf t pulses i) ≡ true
+  pub in-bins : binned (channelAt t i .bins) (listOf t pulses i) ≡ true
+
+pub record Sound (t : Tables) (bins : List (List Float)) (pulses : List Pulse) : Type 0 where
+  pub eight : length (t .channels) ≡ 8
+  pub rows : length bins ≡ 512
+  pub records : length pulses ≡ 8192
+  pub few : t .count ≤ 8
+  pub each : (i : ℕ) → i < t .count → Stands t pulses i
+
+-- after any run of calls, from made tables and whatever rows and records are lent
+pub data Reached : Tables → List (List Float) → List Pulse → Type 0 where
+  start : (a time : Float) (oversize : Bool) (bins : List (List Float)) (pulses : List Pulse) → length bins ≡ 512 → length pulses ≡ 8192
+      → Reached (made a time oversize .tables) bins pulses
+  channel : (t : Tables) (bins : List (List Float)) (pulses : List Pulse) (n : Name) (o : OscState) → Reached t bins pulses
+      → Reached (withAdded t n o .tables) bins pulses
+  shape : (t : Tables) (bins : List (List Float)) (pulses : List Pulse) (n : Name) → Reached t bins pulses
+      → Reached (withAddedShape t n .tables) bins pulses
+  call : (t : Tables) (bins : List (List Float)) (pulses : List Pulse) (commands : List Arranged) → Reached t bins pulses
+      → Reached (executed t commands bins pulses .result .tables) (executed t commands bins pulses .bins) (executed t commands bins pulses .pulses)
