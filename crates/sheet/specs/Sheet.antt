@@ -321,14 +321,18 @@ unfoldable pub allFinite : List Float → Bool
 allFinite [] = true
 allFinite (x ∷ xs) = finite x && allFinite xs
 
--- the sizes: 1..8 names, a number for each pair, and room for the longest text that a sheet may have
-unfoldable pub printFits : ℕ → ℕ → ℕ → Bool
-printFits count numbers room = leb 1 count && leb count 8 && leb (count * count) numbers && leb 4096 room
+-- the sizes: 1..8 names and a number for each pair, and room for the text
+unfoldable pub printFits : ℕ → List Name → List Float → ℕ → Bool
+printFits count names matrix room =
+    leb 1 count
+    && leb count 8
+    && leb (count * count) (length matrix)
+    && leb (length (sheetText (sheetOf count names matrix))) room
 
 -- 13, then 2, then 14; else how many bytes are printed
 unfoldable pub printedOf : ℕ → List Name → List Float → ℕ → Printed
 printedOf count names matrix room =
-    cond (not (printFits count (length matrix) room)) (Printed.Refused WrongSize)
+    cond (not (printFits count names matrix room)) (Printed.Refused WrongSize)
     (cond (not (goodNames (take count names) && allFinite (take (count * count) matrix))) (Printed.Refused Malformed)
     (cond (not (single (take count names))) (Printed.Refused Crosstalk)
     (Printed.Bytes (length (sheetText (sheetOf count names matrix))))))
