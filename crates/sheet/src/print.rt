@@ -1,10 +1,15 @@
 // A sheet printed, with its rows in column order.
-ghost use Rattle.sheet.specs.Sheet.{Print};
-use super::line::is_finite;
-use super::read::stands_in;
+ghost use mathlib.Core.Path.{_≡_};
+ghost use Prim.Native.Nat.{_+_, _*_, _≤_};
+ghost use lib.ListN.{take};
+ghost use Rattle.sheet.specs.Sheet.{Print, goodNames, single, printFits};
+ghost use Rattle.sheet.specs.Puts.{twoLines, namesSize};
+use super::names::stands_in;
+use super::put::put_sheet;
 use quant::name::Name;
 use quant::name::is_name;
 use quant::refusal::Refusal;
+use rows::all_finite;
 
 // How many bytes were printed, or the refusal. Refused, the bytes stay as they came.
 pub enum Printed {
@@ -12,41 +17,67 @@ pub enum Printed {
     Refused(Refusal),
 }
 
-// Prints the first `count` names and the first count * count numbers. The room is 4,096 bytes, as a sheet's limit, else 13.
+// Prints the first `count` names and the first count * count numbers.
 pub fn print(count: usize, names: [Name; 8], matrix: &[f64], out: &mut [u8]) -> Printed
     ensures { λ r. ⌜ Print count names (now (matrix .entry)) (now (out .entry)) r (now (out .exit)) ⌝ }
 {
-    if !sizes_fit(count, matrix.len(), out.len()) {
+    if !sizes_fit(count, names, matrix, out.len()) {
         return Printed::Refused(Refusal::WrongSize);
     }
     if !names_fit(names, count) {
         return Printed::Refused(Refusal::Malformed);
     }
-    if !numbers_fit(&matrix[..count * count]) {
+    if !all_finite(&matrix[..count * count]) {
         return Printed::Refused(Refusal::Malformed);
     }
-    if doubled(names, count) {
+    if !singles(names, count) {
         return Printed::Refused(Refusal::Crosstalk);
     }
-    let head = put_head(count, out);
-    let columns = put_columns(names, count, out, head);
-    Printed::Bytes(put_rows(names, count, matrix, out, columns))
+    Printed::Bytes(put_sheet(count, names, matrix, out))
 }
 
-fn sizes_fit(count: usize, numbers: usize, room: usize) -> bool {
+fn sizes_fit(count: usize, names: [Name; 8], matrix: &[f64], room: usize) -> bool
+    ensures { λ r. ⌜ r ≡ printFits count names (now (matrix .entry)) room ⌝ }
+{
     if count < 1 {
         return false;
     }
     if 8 < count {
         return false;
     }
-    if numbers < count * count {
+    if matrix.len() < count * count {
         return false;
     }
-    4096 <= room
+    needed(count, names) <= room
 }
 
-fn names_fit(names: [Name; 8], count: usize) -> bool {
+// The bytes of the text: 11 of the first line, 24 of each factor, and the lines of the names.
+fn needed(count: usize, names: [Name; 8]) -> usize
+    requires { ⌜ count ≤ 8 ⌝ }
+    ensures { λ r. ⌜ r ≡ 11 + 24 * (count * count) + namesSize (take count names) ⌝ }
+{
+    let mut size = 11 + 24 * (count * count);
+    let mut i: usize = 0;
+    while i < count {
+        size += two_lines(names[i]);
+        i += 1;
+    }
+    size
+}
+
+fn two_lines(n: Name) -> usize
+    ensures { λ r. ⌜ r ≡ twoLines n ⌝ }
+{
+    if 16 < n.len {
+        return 45;
+    }
+    13 + 2 * n.len
+}
+
+fn names_fit(names: [Name; 8], count: usize) -> bool
+    requires { ⌜ count ≤ 8 ⌝ }
+    ensures { λ r. ⌜ r ≡ goodNames (take count names) ⌝ }
+{
     let mut i: usize = 0;
     while i < count {
         if !is_name(names[i]) {
@@ -57,96 +88,17 @@ fn names_fit(names: [Name; 8], count: usize) -> bool {
     true
 }
 
-fn numbers_fit(numbers: &[f64]) -> bool {
+// Whether none of the names stands again behind itself.
+fn singles(names: [Name; 8], count: usize) -> bool
+    requires { ⌜ count ≤ 8 ⌝ }
+    ensures { λ r. ⌜ r ≡ single (take count names) ⌝ }
+{
     let mut i: usize = 0;
-    while i < numbers.len() {
-        if !finite(numbers[i]) {
+    while i < count {
+        if stands_in(names[i], names, i + 1, count) {
             return false;
         }
         i += 1;
     }
     true
-}
-
-fn finite(x: f64) -> bool {
-    if x != x {
-        return false;
-    }
-    is_finite(f64::to_bits(x))
-}
-
-// Whether one of the names stands before itself.
-fn doubled(names: [Name; 8], count: usize) -> bool {
-    let mut i: usize = 0;
-    while i < count {
-        if stands_in(names[i], names, i) {
-            return true;
-        }
-        i += 1;
-    }
-    false
-}
-
-// Each of the following puts something at a place and answers the place behind it.
-fn put_head(count: usize, out: &mut [u8]) -> usize {
-    let at = put(b"channels=", out, 0);
-    out[at] = b'0' + count as u8;
-    out[at + 1] = b'\n';
-    at + 2
-}
-
-fn put_columns(names: [Name; 8], count: usize, out: &mut [u8], from: usize) -> usize {
-    let mut at = from;
-    let mut i: usize = 0;
-    while i < count {
-        at = put_name(b"column=", names[i], out, at);
-        i += 1;
-    }
-    at
-}
-
-fn put_rows(names: [Name; 8], count: usize, matrix: &[f64], out: &mut [u8], from: usize) -> usize {
-    let mut at = from;
-    let mut i: usize = 0;
-    while i < count {
-        let row = i * count;
-        at = put_name(b"row=", names[i], out, at);
-        at = put_factors(&matrix[row..row + count], out, at);
-        i += 1;
-    }
-    at
-}
-
-fn put_factors(numbers: &[f64], out: &mut [u8], from: usize) -> usize {
-    let mut at = from;
-    let mut i: usize = 0;
-    while i < numbers.len() {
-        at = put_factor(numbers[i], out, at);
-        i += 1;
-    }
-    at
-}
-
-fn put_factor(x: f64, out: &mut [u8], from: usize) -> usize {
-    let at = put(b"factor=", out, from);
-    hex::write(f64::to_bits(x), out, at);
-    out[at + 16] = b'\n';
-    at + 17
-}
-
-fn put_name(key: &[u8], n: Name, out: &mut [u8], from: usize) -> usize {
-    let at = put(key, out, from);
-    quant::name::write(n, out, at);
-    let end = at + n.len;
-    out[end] = b'\n';
-    end + 1
-}
-
-fn put(key: &[u8], out: &mut [u8], at: usize) -> usize {
-    let mut i: usize = 0;
-    while i < key.len() {
-        out[at + i] = key[i];
-        i += 1;
-    }
-    at + key.len()
 }

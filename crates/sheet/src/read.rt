@@ -1,17 +1,22 @@
-// A sheet read: each line is judged, then taken. The matrix is written after the last line.
-ghost use Rattle.sheet.specs.Sheet.{Read};
-use super::line::Count;
-use super::line::count_of;
-use super::line::factor_of;
-use super::line::is_finite;
-use super::line::name_behind;
-use super::line::starts;
-use hex::Word;
+// A sheet read: line by line, and the matrix is written after the last one.
+ghost use mathlib.Core.Path.{_≡_};
+ghost use mathlib.Core.Bool.{true};
+ghost use mathlib.Core.List.{[]};
+ghost use Prim.Native.Nat.{_+_, _*_, _≤_};
+ghost use lib.ListN.{length, take, drop};
+ghost use Rattle.sheet.specs.Sheet.{Read, nothing, complete, accepts, refuses, readFrom, matrixOf, doubles};
+ghost use Rattle.sheet.specs.Reader.{soFar, Fits, readText, Parses, Answers};
+ghost use Rattle.sheet.specs.Puts.{pasted};
+use super::names::blank;
+use super::names::place;
+use super::state::State;
+use super::state::Verdict;
+use super::state::complete;
+use super::state::fresh;
+use super::state::step;
 use lines::field::float_of;
 use lines::text::line_end;
 use quant::name::Name;
-use quant::name::Naming;
-use quant::name::same;
 use quant::refusal::Answer;
 use quant::refusal::Refusal;
 
@@ -21,29 +26,11 @@ pub struct Reading {
     pub names: [Name; 8],
 }
 
-// What the lines so far have said. A count of 0: the first line is still to come.
-pub struct State {
-    pub count: usize,
-    pub columns: [Name; 8],
-    pub column_count: usize,
-    pub rows: [Name; 8],
-    pub row_count: usize,
-    pub factors: [u64; 64],
-    pub factor_count: usize,
-}
-
-// The kinds of lines; `next` says which is due. `Nothing`: the sheet is complete.
-pub enum Kind {
-    Channels,
-    Column,
-    Row,
-    Factor,
-    Nothing,
-}
-
-pub enum Verdict {
-    Good,
-    Bad(Refusal),
+// What the lines of a text say, or the refusal and its line.
+pub struct Parsed {
+    pub verdict: Verdict,
+    pub line: usize,
+    pub state: State,
 }
 
 // Reads a sheet. The matrix has at least 64 numbers.
@@ -56,44 +43,32 @@ pub fn read(text: &[u8], matrix: &mut [f64]) -> Reading
     if matrix.len() < 64 {
         return refused(Refusal::WrongSize, 0);
     }
-    let mut s = start();
-    let mut line: usize = 1;
-    let mut at: usize = 0;
-    while at < text.len() {
-        let end = line_end(text, at);
-        if end == text.len() {
-            return refused(Refusal::Layout, line);
-        }
-        let verdict = judged(s, &text[at..end]);
-        if let Verdict::Bad(r) = verdict {
-            return refused(r, line);
-        }
-        s = taken(s, &text[at..end]);
-        at = end + 1;
-        line += 1;
-    }
-    match next(s) {
-        Kind::Nothing => {
+    let parsed = lines_of(text);
+    let verdict = parsed.verdict;
+    match verdict {
+        Verdict::Good => {
+            let s = parsed.state;
             fill(s, matrix);
-            let names = s.columns;
-            Reading {
-                answer: Answer::Done(s.count),
-                names,
-            }
+            accepted(s)
         }
-        _ => refused(Refusal::Layout, line),
+        Verdict::Bad(r) => refused(r, parsed.line),
     }
 }
 
-pub fn blank() -> Name {
-    Name {
-        first: 0,
-        second: 0,
-        len: 0,
+fn accepted(s: State) -> Reading
+    requires { ⌜ Fits s ⌝ }
+    ensures { λ r. ⌜ Answers r (accepts (soFar s)) ⌝ }
+{
+    let names = s.columns;
+    Reading {
+        answer: Answer::Done(s.count),
+        names,
     }
 }
 
-fn refused(r: Refusal, line: usize) -> Reading {
+fn refused(r: Refusal, line: usize) -> Reading
+    ensures { λ t. ⌜ Answers t (refuses r line) ⌝ }
+{
     let names = [blank(); 8];
     Reading {
         answer: Answer::Refused(r, line),
@@ -101,197 +76,78 @@ fn refused(r: Refusal, line: usize) -> Reading {
     }
 }
 
-// No line read.
-fn start() -> State {
-    let names = [blank(); 8];
-    let factors = [0u64; 64];
-    State {
-        count: 0,
-        columns: names,
-        column_count: 0,
-        rows: names,
-        row_count: 0,
-        factors,
-        factor_count: 0,
-    }
-}
-
-// The order of the lines. A row's factors are complete before the next row.
-fn next(s: State) -> Kind {
-    if s.count == 0 {
-        return Kind::Channels;
-    }
-    if s.column_count < s.count {
-        return Kind::Column;
-    }
-    if s.factor_count < s.row_count * s.count {
-        return Kind::Factor;
-    }
-    if s.row_count < s.count {
-        return Kind::Row;
-    }
-    Kind::Nothing
-}
-
-// On one line 15, then 2, then 14.
-fn judged(s: State, line: &[u8]) -> Verdict {
-    match next(s) {
-        Kind::Channels => judged_count(line),
-        Kind::Column => judged_column(s, line),
-        Kind::Row => judged_row(s, line),
-        Kind::Factor => judged_factor(line),
-        Kind::Nothing => Verdict::Bad(Refusal::Layout),
-    }
-}
-
-fn judged_count(line: &[u8]) -> Verdict {
-    match count_of(line) {
-        Count::Of(_) => Verdict::Good,
-        Count::Bad => Verdict::Bad(Refusal::Layout),
-    }
-}
-
-fn judged_column(s: State, line: &[u8]) -> Verdict {
-    if !starts(line, b"column=") {
-        return Verdict::Bad(Refusal::Layout);
-    }
-    match name_behind(line, 7) {
-        Naming::Named(n) => {
-            let columns = s.columns;
-            if stands_in(n, columns, s.column_count) {
-                return Verdict::Bad(Refusal::Crosstalk);
-            }
-            Verdict::Good
+// The first bad line decides. A last line without its line feed is bad.
+fn lines_of(text: &[u8]) -> Parsed
+    ensures { λ r. ⌜ Parses r (readText 1 nothing (now (text .entry))) ⌝ }
+{
+    let mut s = fresh(0);
+    let mut line: usize = 1;
+    let mut at: usize = 0;
+    while at < text.len() {
+        let end = line_end(text, at);
+        if end == text.len() {
+            return stopped_at(Refusal::Layout, line);
         }
-        Naming::Bad => Verdict::Bad(Refusal::Malformed),
-    }
-}
-
-fn judged_row(s: State, line: &[u8]) -> Verdict {
-    if !starts(line, b"row=") {
-        return Verdict::Bad(Refusal::Layout);
-    }
-    match name_behind(line, 4) {
-        Naming::Named(n) => {
-            let rows = s.rows;
-            if stands_in(n, rows, s.row_count) {
-                return Verdict::Bad(Refusal::Crosstalk);
-            }
-            let columns = s.columns;
-            if !stands_in(n, columns, s.column_count) {
-                return Verdict::Bad(Refusal::Crosstalk);
-            }
-            Verdict::Good
+        let stepped = step(s, &text[at..end]);
+        let verdict = stepped.verdict;
+        if let Verdict::Bad(r) = verdict {
+            return stopped_at(r, line);
         }
-        Naming::Bad => Verdict::Bad(Refusal::Malformed),
+        s = stepped.state;
+        at = end + 1;
+        line += 1;
     }
+    ended(s, line)
 }
 
-fn judged_factor(line: &[u8]) -> Verdict {
-    match factor_of(line) {
-        Word::Bits(bits) => {
-            if is_finite(bits) {
-                return Verdict::Good;
-            }
-            Verdict::Bad(Refusal::Malformed)
-        }
-        Word::Bad => Verdict::Bad(Refusal::Layout),
+// Where the lines end, the sheet has to be complete.
+fn ended(s: State, line: usize) -> Parsed
+    requires { ⌜ Fits s ⌝ }
+    ensures { λ r. ⌜ Parses r (readFrom line (soFar s) [] []) ⌝ }
+{
+    if complete(s) {
+        return Parsed {
+            verdict: Verdict::Good,
+            line,
+            state: s,
+        };
     }
+    stopped_at(Refusal::Layout, line)
 }
 
-// A state with a good line more.
-fn taken(s: State, line: &[u8]) -> State {
-    match next(s) {
-        Kind::Channels => with_count(s, line),
-        Kind::Column => with_column(s, line),
-        Kind::Row => with_row(s, line),
-        Kind::Factor => with_factor(s, line),
-        Kind::Nothing => s,
+fn stopped_at(r: Refusal, line: usize) -> Parsed
+    ensures { λ p. ⌜ Parses p (refuses r line) ⌝ }
+{
+    let state = fresh(0);
+    Parsed {
+        verdict: Verdict::Bad(r),
+        line,
+        state,
     }
-}
-
-fn with_count(s: State, line: &[u8]) -> State {
-    match count_of(line) {
-        Count::Of(n) => {
-            let mut t = s;
-            t.count = n;
-            t
-        }
-        Count::Bad => s,
-    }
-}
-
-fn with_column(s: State, line: &[u8]) -> State {
-    match name_behind(line, 7) {
-        Naming::Named(n) => {
-            let mut t = s;
-            let at = t.column_count;
-            t.columns[at] = n;
-            t.column_count = at + 1;
-            t
-        }
-        Naming::Bad => s,
-    }
-}
-
-fn with_row(s: State, line: &[u8]) -> State {
-    match name_behind(line, 4) {
-        Naming::Named(n) => {
-            let mut t = s;
-            let at = t.row_count;
-            t.rows[at] = n;
-            t.row_count = at + 1;
-            t
-        }
-        Naming::Bad => s,
-    }
-}
-
-fn with_factor(s: State, line: &[u8]) -> State {
-    match factor_of(line) {
-        Word::Bits(bits) => {
-            let mut t = s;
-            let at = t.factor_count;
-            t.factors[at] = bits;
-            t.factor_count = at + 1;
-            t
-        }
-        Word::Bad => s,
-    }
-}
-
-// Where a name stands among the first so many; `many` where it does not.
-pub fn position(n: Name, names: [Name; 8], many: usize) -> usize {
-    let mut i: usize = 0;
-    while i < many {
-        if same(names[i], n) {
-            return i;
-        }
-        i += 1;
-    }
-    many
-}
-
-pub fn stands_in(n: Name, names: [Name; 8], many: usize) -> bool {
-    position(n, names, many) < many
 }
 
 // The rows go to the matrix in column order.
-fn fill(s: State, matrix: &mut [f64]) {
+fn fill(s: State, matrix: &mut [f64])
+    requires { ⌜ Fits s × (complete (soFar s) ≡ true) × (64 ≤ length (now matrix)) ⌝ }
+    ensures { λ r. ⌜ now (matrix .exit) ≡ matrixOf (accepts (soFar s)) (now (matrix .entry)) ⌝ }
+{
     let columns = s.columns;
     let rows = s.rows;
     let factors = s.factors;
     let count = s.count;
     let mut c: usize = 0;
     while c < count {
-        let r = position(columns[c], rows, count);
+        let r = place(columns[c], rows, 0, count);
         copy_row(factors, r * count, matrix, c * count, count);
         c += 1;
     }
 }
 
 // One row: so many factors from one place to another.
-fn copy_row(factors: [u64; 64], from: usize, matrix: &mut [f64], to: usize, count: usize) {
+fn copy_row(factors: [u64; 64], from: usize, matrix: &mut [f64], to: usize, count: usize)
+    requires { ⌜ (from + count ≤ 64) × (to + count ≤ length (now matrix)) ⌝ }
+    ensures { λ r. ⌜ now (matrix .exit) ≡ pasted (now (matrix .entry)) to (doubles (take count (drop from factors))) ⌝ }
+{
     let mut k: usize = 0;
     while k < count {
         matrix[to + k] = float_of(factors[from + k]);

@@ -1,0 +1,5 @@
+pub mod Parts
+pub mod Keys
+pub mod Among
+pub mod Each
+pub mod Steps

@@ -1,0 +1,15 @@
+use borrow.Author.Needs.{needs}
+use Rattle.sheet.proofs.read.refused.Statement.{statement}
+use Rattle.sheet.proofs.read.refused.Tie as tie
+use Rattle.sheet.proofs.read.refused.Reads as reads
+use Rattle.sheet.proofs.read.refused.Lts as lts
+use Rattle.sheet.proofs.names.blank.Reads as blank-reads
+
+blank-requires : tie.Need-blank-requires
+blank-requires c κs = search needs
+
+returns : tie.Need-returns
+returns c = ?
+
+pub refused-spec : {M : Type 1} → statement M
+refused-spec = tie.close (tie.spec blank-requires returns)

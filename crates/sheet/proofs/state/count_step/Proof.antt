@@ -1,0 +1,106 @@
+-- `sheet::state::count_step` meets its contract: its tests are those of one digit 1..8 behind the key. Assumes nothing.
+use Rattle.sheet.proofs.Steps.{count-long, count-low, count-high, count-digit}
+use Rattle.sheet.specs.Reader.{Steps}
+use Rattle.sheet.specs.Sheet.{channelsKey, behind, value, countStep, goes, SoFar}
+use lib.ListN.{drop, getD}
+use Prim.Native.Nat.{_-_}
+use mathlib.Core.Path.{_≡_, subst}
+use native.Mathlib.Omega.{arith}
+use Rattle.sheet.proofs.Keys.{missing, there, reaches}
+use borrow.Author.Needs.{needs}
+use Rattle.sheet.proofs.state.count_step.Statement.{statement}
+use Rattle.sheet.proofs.state.count_step.Tie as tie
+use Rattle.sheet.proofs.state.count_step.Reads as reads
+use Rattle.sheet.proofs.state.count_step.Lts as lts
+use Rattle.sheet.proofs.line.starts.Reads as starts-reads
+use Rattle.sheet.proofs.state.fresh.Reads as fresh-reads
+use Rattle.sheet.proofs.state.stopped.Reads as stopped-reads
+use Rattle.sheet.proofs.state.went.Reads as went-reads
+
+slice-aggregate-starts : tie.Need-slice-aggregate-starts
+slice-aggregate-starts c = search needs
+
+starts-requires : tie.Need-starts-requires
+starts-requires c κs = search needs
+
+stopped-requires : tie.Need-stopped-requires
+stopped-requires c κs = search needs
+
+returns : tie.Need-returns
+unfolding channelsKey countStep
+returns c = rw (missing channelsKey (c .before .before .before .before .before .args .line .now) _ (c .before .before .starts .ensures) (c .before .if1 .taken)) (c .stopped .ensures)
+
+stopped-requires-2 : tie.Need-stopped-requires-2
+stopped-requires-2 c κs = search needs
+
+returns-2 : tie.Need-returns-2
+unfolding channelsKey
+returns-2 c =
+    let line = c .before .before .before .before .before .before .args .line .now in
+    let e : behind channelsKey line ≡ value (drop 9 line) = there channelsKey line _ (c .before .before .before .starts .ensures) (c .before .before .if1 .left) in
+    let long = reaches channelsKey line _ (c .before .before .before .starts .ensures) (c .before .before .if1 .left) in
+    rw (e, count-long line (c .before .if2 .taken) long) (c .stopped2 .ensures)
+
+shared-slice-read-digit : tie.Need-shared-slice-read-digit
+shared-slice-read-digit c = search needs
+
+stopped-requires-3 : tie.Need-stopped-requires-3
+stopped-requires-3 c κs = search needs
+
+returns-3 : tie.Need-returns-3
+unfolding channelsKey
+returns-3 c =
+    let line = c .before .before .before .before .before .before .before .before .args .line .now in
+    let e : behind channelsKey line ≡ value (drop 9 line) = there channelsKey line _ (c .before .before .before .before .before .starts .ensures) (c .before .before .before .before .if1 .left) in
+    rw (e, count-low line (omega arith) (c .before .if3 .taken)) (c .stopped3 .ensures)
+
+stopped-requires-4 : tie.Need-stopped-requires-4
+stopped-requires-4 c κs = search needs
+
+returns-4 : tie.Need-returns-4
+unfolding channelsKey
+returns-4 c =
+    let line = c .before .before .before .before .before .before .before .before .before .args .line .now in
+    let e : behind channelsKey line ≡ value (drop 9 line) = there channelsKey line _ (c .before .before .before .before .before .before .starts .ensures) (c .before .before .before .before .before .if1 .left) in
+    rw (e, count-high line (omega arith) (c .before .before .if3 .left) (c .before .if4 .taken)) (c .stopped4 .ensures)
+
+sub-count : tie.Need-sub-count
+sub-count c = search needs
+
+cast-count : tie.Need-cast-count
+cast-count c = search needs
+
+fresh-requires : tie.Need-fresh-requires
+fresh-requires c κs = search needs
+
+went-requires : tie.Need-went-requires
+went-requires c κs = search needs
+
+returns-5 : tie.Need-returns-5
+unfolding channelsKey
+returns-5 c =
+    let line = c .before .before .before .before .before .before .before .before .before .before .args .line .now in
+    let e : behind channelsKey line ≡ value (drop 9 line) = there channelsKey line _ (c .before .before .before .before .before .before .before .starts .ensures) (c .before .before .before .before .before .before .if1 .left) in
+    rw (e, count-digit line (omega arith) (c .before .before .before .if3 .left) (c .before .before .if4 .left))
+    (subst (λ (s : SoFar). Steps (c .went .result) (goes s)) (c .before .fresh .ensures .0) (c .went .ensures))
+
+pub count-step-spec : {M : Type 1} → statement M
+count-step-spec =
+    tie.close
+    (tie.spec
+    slice-aggregate-starts
+    starts-requires
+    stopped-requires
+    returns
+    stopped-requires-2
+    returns-2
+    shared-slice-read-digit
+    stopped-requires-3
+    returns-3
+    stopped-requires-4
+    returns-4
+    sub-count
+    cast-count
+    fresh-requires
+    went-requires
+    returns-5)

@@ -1,0 +1,21 @@
+-- `sheet::state::fresh` meets its contract. Assumes nothing.
+use native.Mathlib.Omega.{arith}
+use mathlib.Core.Path.{refl}
+use Rattle.sheet.specs.Sheet.{blank, single, among}
+use borrow.Author.Needs.{needs}
+use Rattle.sheet.proofs.state.fresh.Statement.{statement}
+use Rattle.sheet.proofs.state.fresh.Tie as tie
+use Rattle.sheet.proofs.state.fresh.Reads as reads
+use Rattle.sheet.proofs.state.fresh.Lts as lts
+use Rattle.sheet.proofs.names.blank.Reads as blank-reads
+
+blank-requires : tie.Need-blank-requires
+blank-requires c κs = search needs
+
+returns : tie.Need-returns
+unfolding blank single among
+returns c =
+    (refl, record { most = c .before .pre; columns-most = omega arith; rows-most = omega arith; factors-most = omega arith; columns-long = refl; rows-long = refl; factors-long = refl; blanks = rw (c .blank .ensures); single-rows = refl; rows-columns = refl })
+
+pub fresh-spec : {M : Type 1} → statement M
+fresh-spec = tie.close (tie.spec blank-requires returns)

@@ -1,0 +1,58 @@
+-- `sheet::state::with_column` meets its contract. Assumes nothing.
+use Rattle.sheet.proofs.Steps.{column-goes, column-fits}
+use Rattle.sheet.specs.Sheet.{isIn, columnNamed}
+use lib.ListN.{take}
+use mathlib.Core.Bool.{true, false}
+use mathlib.Core.Path.{_≡_, sym, _∙_}
+use borrow.Author.Needs.{needs}
+use Rattle.sheet.proofs.state.with_column.Statement.{statement}
+use Rattle.sheet.proofs.state.with_column.Tie as tie
+use Rattle.sheet.proofs.state.with_column.Reads as reads
+use Rattle.sheet.proofs.state.with_column.Lts as lts
+use Rattle.sheet.proofs.names.stands_in.Reads as stands-in-reads
+use Rattle.sheet.proofs.state.stopped.Reads as stopped-reads
+use Rattle.sheet.proofs.state.went.Reads as went-reads
+
+stands-in-requires : tie.Need-stands-in-requires
+stands-in-requires c κs = search needs
+
+stopped-requires : tie.Need-stopped-requires
+stopped-requires c κs = search needs
+
+returns : tie.Need-returns
+unfolding columnNamed
+returns c =
+    let s = c .before .before .before .before .args .s in
+    let e : isIn (c .before .before .before .before .args .n) (take (s .column) (s .columns)) ≡ true = sym (c .before .before .stands-in .ensures) ∙ c .before .if1 .taken in
+    rw e (c .stopped .ensures)
+
+mul-n : tie.Need-mul-n
+mul-n c = search needs
+
+element-set-from-n : tie.Need-element-set-from-n
+element-set-from-n c = search needs
+
+add-t : tie.Need-add-t
+add-t c = search needs
+
+went-requires : tie.Need-went-requires
+went-requires c κs = column-fits (c .before .before .before .args .s) (c .before .before .before .pre .0) (c .before .before .before .pre .1) (c .before .before .before .args .n)
+
+returns-2 : tie.Need-returns-2
+returns-2 c =
+    let s = c .before .before .before .before .args .s in
+    let e : isIn (c .before .before .before .before .args .n) (take (s .column) (s .columns)) ≡ false = sym (c .before .before .stands-in .ensures) ∙ c .before .if1 .left in
+    rw (column-goes s (c .before .before .before .before .pre .0) (c .before .before .before .before .pre .1) (c .before .before .before .before .args .n) e) (c .went .ensures)
+
+pub with-column-spec : {M : Type 1} → statement M
+with-column-spec =
+    tie.close
+    (tie.spec
+    stands-in-requires
+    stopped-requires
+    returns
+    mul-n
+    element-set-from-n
+    add-t
+    went-requires
+    returns-2)

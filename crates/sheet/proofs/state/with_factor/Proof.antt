@@ -1,0 +1,64 @@
+-- `sheet::state::with_factor` meets its contract. Assumes nothing.
+use Rattle.sheet.proofs.Steps.{few-factors, factor-goes, factor-fits}
+use Rattle.quant.proofs.Judging.{taken, passed}
+use Rattle.sheet.specs.Sheet.{factorBits}
+use lib.Ieee.Scale.{finite}
+use lib.Ieee.{binary64, ofBits}
+use mathlib.Core.Bool.{true, false}
+use native.Mathlib.Omega.{arith}
+use mathlib.Core.Path.{_≡_, sym, _∙_}
+use borrow.Author.Needs.{needs}
+use Rattle.sheet.proofs.state.with_factor.Statement.{statement}
+use Rattle.sheet.proofs.state.with_factor.Tie as tie
+use Rattle.sheet.proofs.state.with_factor.Reads as reads
+use Rattle.sheet.proofs.state.with_factor.Lts as lts
+use Rattle.ieee.proofs.finite.is_finite.Reads as is-finite-reads
+use Rattle.lines.proofs.field.float_of.Reads as float-of-reads
+use Rattle.sheet.proofs.state.stopped.Reads as stopped-reads
+use Rattle.sheet.proofs.state.went.Reads as went-reads
+
+float-of-requires : tie.Need-float-of-requires
+float-of-requires c κs = search needs
+
+is-finite-requires : tie.Need-is-finite-requires
+is-finite-requires c κs = search needs
+
+stopped-requires : tie.Need-stopped-requires
+stopped-requires c κs = search needs
+
+returns : tie.Need-returns
+unfolding factorBits
+returns c =
+    let e : finite (ofBits binary64 (c .before .before .before .before .args .bits)) ≡ false = taken _ _ (c .before .before .is-finite .ensures ∙ rw (c .before .before .before .float-of .ensures)) (c .before .if1 .taken) in
+    rw e (c .stopped .ensures)
+
+mul-t : tie.Need-mul-t
+mul-t c = omega (arith, few-factors (c .before .before .before .args .s) (c .before .before .before .pre .0) (c .before .before .before .pre .1) 0)
+
+element-write-t : tie.Need-element-write-t
+element-write-t c = omega (arith, few-factors (c .before .before .before .args .s) (c .before .before .before .pre .0) (c .before .before .before .pre .1) 0)
+
+add-t : tie.Need-add-t
+add-t c = omega (arith, few-factors (c .before .before .before .args .s) (c .before .before .before .pre .0) (c .before .before .before .pre .1) 0)
+
+went-requires : tie.Need-went-requires
+went-requires c κs = factor-fits (c .before .before .before .args .s) (c .before .before .before .pre .0) (c .before .before .before .pre .1) (c .before .before .before .args .bits)
+
+returns-2 : tie.Need-returns-2
+returns-2 c =
+    let e : finite (ofBits binary64 (c .before .before .before .before .args .bits)) ≡ true = passed _ _ (c .before .before .is-finite .ensures ∙ rw (c .before .before .before .float-of .ensures)) (c .before .if1 .left) in
+    rw (factor-goes (c .before .before .before .before .args .s) (c .before .before .before .before .pre .0) (c .before .before .before .before .pre .1) (c .before .before .before .before .args .bits) e) (c .went .ensures)
+
+pub with-factor-spec : {M : Type 1} → statement M
+with-factor-spec =
+    tie.close
+    (tie.spec
+    float-of-requires
+    is-finite-requires
+    stopped-requires
+    returns
+    mul-t
+    element-write-t
+    add-t
+    went-requires
+    returns-2)
