@@ -1,23 +1,27 @@
 -- One line more: what the definition says of a line, in the cases that the code tells apart, and that the state goes on to fit.
 -- Assumes nothing.
-use Prim.Native.Nat.{ℕ, suc, _+_, _-_, _*_, _≤_, _<_}
+use Prim.Native.Nat.{ℕ, zero, suc, _+_, _-_, _*_, _≤_, _<_}
 use mathlib.Core.Path.{_≡_, refl, sym, ap, _∙_}
-use mathlib.Core.Bool.{Bool, true, false, not}
+use mathlib.Core.Bool.{Bool, true, false, _&&_, not, cond, true≢false}
 use mathlib.Core.List.{List, [], _∷_, _++_}
 use native.Mathlib.Omega.{arith}
-use native.Mathlib.Nat.{mul-le-mul}
+use native.Mathlib.Nat.{le-refl, mul-le-mul}
 use native.Mathlib.Numerals.{add-one}
-use borrow.Author.Tests.{eq-eqb, ne-eqb, le-leb, lt-leb}
+use borrow.Author.Tests.{eq-eqb, ne-eqb, le-leb, lt-leb, lt-ltb, le-ltb}
+use lib.Dec.{leb, eqb}
 use lib.Ieee.{binary64, ofBits}
 use lib.Ieee.Scale.{finite}
-use lib.ListN.{length, getD, take, drop, set, replicate, length-set, length-drop}
-use lib.Seq.{drop-cons, drop-length, drop-set-lt, length-take-le, take-suc-set}
+use lib.ListN.{length, getD, take, drop, set, replicate, length-set, length-drop, take-append-drop}
+use lib.Seq.{drop-cons, drop-length, drop-set-lt, length-take-le, take-all, take-append-add, take-suc-set}
+use Rattle.hex.specs.Hex.{allDigits, number, room, field, wordAt}
+use Rattle.hex.specs.declared.Word.{Word}
+use Rattle.hex.specs.declared.Word.the-variants as word
 use Rattle.quant.specs.Name.{namingOf}
 use Rattle.quant.specs.declared.name.Name.{Name}
 use Rattle.quant.specs.declared.name.Naming.{Naming}
 use Rattle.quant.specs.declared.name.Naming.the-variants.{Named, Bad}
 use Rattle.quant.specs.declared.refusal.Refusal.the-variants.{Malformed, Crosstalk, Layout}
-use Rattle.sheet.specs.Sheet.{Behind, value, other, SoFar, Step, goes, stops, countStep, columnNamed, columnStep, rowNamed, rowStep, factorBits, factorStep, isIn, blank, single, among}
+use Rattle.sheet.specs.Sheet.{channelsKey, columnKey, rowKey, factorKey, behind, eight, step, complete, value, other, SoFar, Step, goes, stops, countStep, columnNamed, columnStep, rowNamed, rowStep, factorBits, factorStep, isIn, blank, single, among}
 use Rattle.sheet.specs.Reader.{soFar, begun, Fits}
 use Rattle.sheet.specs.declared.state.State.{State}
 use Rattle.sheet.proofs.Each.{among-append, among-more, single-more}
@@ -175,3 +179,117 @@ module _ (s : State) (f : Fits s) where
           single-rows = f .single-rows;
           rows-columns = f .rows-columns;
         }
+
+-- ---- which line is due
+
+part-long : {A : Type 0} (l : List A) (k n : ℕ) → k ≤ length l → take (length l - k) (drop k l) ≡ drop k l
+part-long l k n h = take-all (length l - k) (drop k l) (rw length-drop (le-refl (length l - k)))
+
+module _ (s : SoFar) (line : List ℕ) (m : Naming) where
+  pub column-read : behind columnKey line ≡ value (drop 7 line) → 7 ≤ length line → m ≡ namingOf (take (length line - 7) (drop 7 line)) → columnStep s (behind columnKey line) ≡ columnNamed s m
+  unfolding columnStep
+  column-read e h n = rw (e, n, part-long line 7 0 h)
+
+  pub row-read : behind rowKey line ≡ value (drop 4 line) → 4 ≤ length line → m ≡ namingOf (take (length line - 4) (drop 4 line)) → rowStep s (behind rowKey line) ≡ rowNamed s m
+  unfolding rowStep
+  row-read e h n = rw (e, n, part-long line 4 0 h)
+
+module _ (s : SoFar) (line : List ℕ) (e : behind factorKey line ≡ value (drop 7 line)) where
+  pub factor-short : (length line ≡ 23 → ⊥) → 7 ≤ length line → factorStep s (behind factorKey line) ≡ stops Layout
+  unfolding factorStep
+  factor-short n h = rw (e, ne-eqb (length (drop 7 line)) 16 (λ k. n (omega (arith, length-drop 7 line))))
+
+  module _ (h : length line ≡ 23) where
+    sixteen-long : length (drop 7 line) ≡ 16
+    sixteen-long = length-drop 7 line ∙ omega arith
+
+    there-is-room : room line 7 ≡ true
+    unfolding room
+    there-is-room = le-leb (7 + 16) (length line) (omega arith)
+
+    whole-field : field line 7 ≡ drop 7 line
+    unfolding field
+    whole-field = take-all 16 (drop 7 line) (omega (arith, sixteen-long))
+
+    told-by : (t : Bool) → allDigits (drop 7 line) ≡ t → (wordAt line 7 ≡ cond t (word.Bits (number (drop 7 line))) word.Bad) × (factorStep s (behind factorKey line) ≡ cond t (factorBits s (number (drop 7 line))) (stops Layout))
+    unfolding wordAt factorStep
+    told-by t d = (rw (there-is-room, whole-field, d), rw (e, eq-eqb (length (drop 7 line)) 16 sixteen-long, d))
+
+    pub factor-read : (bits : ℕ) → wordAt line 7 ≡ word.Bits bits → factorStep s (behind factorKey line) ≡ factorBits s bits
+    factor-read bits w = by (allDigits (drop 7 line)) refl
+      where
+        by : (t : Bool) → allDigits (drop 7 line) ≡ t → factorStep s (behind factorKey line) ≡ factorBits s bits
+        by true d = let b : number (drop 7 line) ≡ bits = cc (told-by true d .0) in told-by true d .1 ∙ ap (factorBits s) b
+        by false d = let z : true ≡ false = cc (told-by false d .0) in absurd (true≢false z)
+
+    pub factor-bad : wordAt line 7 ≡ word.Bad → factorStep s (behind factorKey line) ≡ stops Layout
+    factor-bad w = by (allDigits (drop 7 line)) refl
+      where
+        by : (t : Bool) → allDigits (drop 7 line) ≡ t → factorStep s (behind factorKey line) ≡ stops Layout
+        by true d = let z : true ≡ false = cc (told-by true d .0) in absurd (true≢false z)
+        by false d = told-by false d .1
+
+module _ (s : State) (f : Fits s) where
+  pub columns-read : length (take (s .column) (s .columns)) ≡ s .column
+  columns-read = length-take-le (s .column) (s .columns) (omega (arith, f))
+
+  pub rows-read : length (take (s .row) (s .rows)) ≡ s .row
+  rows-read = length-take-le (s .row) (s .rows) (omega (arith, f))
+
+  pub rows-few : s .row * s .count ≤ 64
+  rows-few = omega (arith, mul-le-mul {n₁ = s .row} {m₁ = s .count} {n₂ = 8} {m₂ = 8} (omega (arith, f)) (f .most))
+
+  pub square-few : s .count * s .count ≤ 64
+  square-few = omega (arith, mul-le-mul {n₁ = s .count} {m₁ = s .count} {n₂ = 8} {m₂ = 8} (f .most) (f .most))
+
+  pub factors-read : length (take (s .factor) (s .factors)) ≡ s .factor
+  factors-read = length-take-le (s .factor) (s .factors) (omega (arith, f .factors-most, rows-few, f .factors-long))
+
+  module _ (line : List ℕ) where
+    pub step-count : s .count ≡ 0 → step (soFar s) line ≡ countStep (behind channelsKey line)
+    unfolding step
+    step-count e = rw (eq-eqb (s .count) 0 e)
+
+    module _ (some : s .count ≡ 0 → ⊥) where
+      pub step-column : s .column < s .count → step (soFar s) line ≡ columnStep (soFar s) (behind columnKey line)
+      unfolding step
+      step-column h = rw (ne-eqb (s .count) 0 some, columns-read, lt-ltb (s .column) (s .count) h)
+
+      module _ (named : s .count ≤ s .column) where
+        pub step-factor : s .factor < s .row * s .count → step (soFar s) line ≡ factorStep (soFar s) (behind factorKey line)
+        unfolding step
+        step-factor h = rw (ne-eqb (s .count) 0 some, columns-read, le-ltb (s .column) (s .count) named, factors-read, rows-read, lt-ltb (s .factor) (s .row * s .count) h)
+
+        module _ (full : s .row * s .count ≤ s .factor) where
+          pub step-row : s .row < s .count → step (soFar s) line ≡ rowStep (soFar s) (behind rowKey line)
+          unfolding step
+          step-row h = simp (ne-eqb (s .count) 0 some, columns-read, le-ltb (s .column) (s .count) named, factors-read, rows-read, le-ltb (s .factor) (s .row * s .count) full, lt-ltb (s .row) (s .count) h)
+
+          pub step-none : s .count ≤ s .row → step (soFar s) line ≡ stops Layout
+          unfolding step
+          step-none h = simp (ne-eqb (s .count) 0 some, columns-read, le-ltb (s .column) (s .count) named, factors-read, rows-read, le-ltb (s .factor) (s .row * s .count) full, le-ltb (s .row) (s .count) h)
+
+  -- ---- where the lines end
+
+  pub complete-is : complete (soFar s) ≡ (leb 1 (s .count) && eqb (s .column) (s .count) && eqb (s .row) (s .count) && eqb (s .factor) (s .count * s .count))
+  unfolding complete
+  complete-is = rw (columns-read, rows-read, factors-read)
+
+  take-replicate : (k n : ℕ) → k ≤ n → take k (replicate n blank) ≡ replicate k blank
+  take-replicate zero n h = refl
+  take-replicate (suc k) zero h = absurd (none h)
+    where
+      none : suc k ≤ 0 → ⊥
+      none j = omega arith
+  take-replicate (suc k) (suc n) h = ap (λ (l : List Name). blank ∷ l) (take-replicate k n (omega arith))
+
+  pub names-eight : s .columns ≡ eight (take (s .column) (s .columns))
+  unfolding eight
+  names-eight =
+      let read : List Name = take (s .column) (s .columns) in
+      let size : length read + (8 - s .column) ≡ 8 = rw columns-read (omega (arith, f)) in
+      sym
+      (ap (λ (k : ℕ). take k (read ++ replicate 8 blank)) (sym size)
+      ∙ take-append-add read (replicate 8 blank) (8 - s .column)
+      ∙ ap (λ (l : List Name). read ++ l) (take-replicate (8 - s .column) 8 (omega arith) ∙ sym (f .blanks))
+      ∙ take-append-drop (s .column) (s .columns))

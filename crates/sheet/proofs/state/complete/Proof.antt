@@ -1,3 +1,7 @@
+-- `sheet::state::complete` meets its contract: each array has as many elements as are counted. Assumes nothing.
+use Rattle.sheet.proofs.Steps.{square-few, complete-is}
+use borrow.Author.Tests.{eq-eqb, ne-eqb, le-leb, lt-leb}
+use native.Mathlib.Omega.{arith}
 use borrow.Author.Needs.{needs}
 use Rattle.sheet.proofs.state.complete.Statement.{statement}
 use Rattle.sheet.proofs.state.complete.Tie as tie
@@ -5,19 +9,19 @@ use Rattle.sheet.proofs.state.complete.Reads as reads
 use Rattle.sheet.proofs.state.complete.Lts as lts
 
 returns : tie.Need-returns
-returns c = ?
+returns c = rw (complete-is (c .before .before .args .s) (c .before .before .pre), lt-leb 1 (c .before .before .args .s .count) (c .if1 .taken))
 
 returns-2 : tie.Need-returns-2
-returns-2 c = ?
+returns-2 c = rw (complete-is (c .before .before .before .before .args .s) (c .before .before .before .before .pre), le-leb 1 (c .before .before .before .before .args .s .count) (c .before .before .if1 .left), ne-eqb _ _ (c .if2 .taken))
 
 returns-3 : tie.Need-returns-3
-returns-3 c = ?
+returns-3 c = rw (complete-is (c .before .before .before .before .before .before .args .s) (c .before .before .before .before .before .before .pre), le-leb 1 (c .before .before .before .before .before .before .args .s .count) (c .before .before .before .before .if1 .left), eq-eqb _ _ (c .before .before .if2 .left), ne-eqb _ _ (c .if3 .taken))
 
 mul-result : tie.Need-mul-result
-mul-result c = search needs
+mul-result c = omega (arith, square-few (c .before .before .before .before .before .before .before .args .s) (c .before .before .before .before .before .before .before .pre))
 
 returns-4 : tie.Need-returns-4
-returns-4 c = ?
+returns-4 c = rw (complete-is (c .before .before .before .before .before .before .before .before .args .s) (c .before .before .before .before .before .before .before .before .pre), le-leb 1 (c .before .before .before .before .before .before .before .before .args .s .count) (c .before .before .before .before .before .before .if1 .left), eq-eqb _ _ (c .before .before .before .before .if2 .left), eq-eqb _ _ (c .before .before .if3 .left))
 
 pub complete-spec : {M : Type 1} → statement M
 complete-spec = tie.close (tie.spec returns returns-2 returns-3 mul-result returns-4)

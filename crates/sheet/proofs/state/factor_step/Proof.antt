@@ -1,3 +1,10 @@
+-- `sheet::state::factor_step` meets its contract: 16 bytes behind the key, all of them digits. Assumes nothing.
+use Rattle.sheet.proofs.Steps.{factor-short, factor-read, factor-bad}
+use Rattle.sheet.specs.Sheet.{factorKey, behind, value, factorStep}
+use lib.ListN.{drop}
+use mathlib.Core.Path.{_≡_, refl, sym, _∙_}
+use native.Mathlib.Omega.{arith}
+use Rattle.sheet.proofs.Keys.{missing, there, reaches}
 use borrow.Author.Needs.{needs}
 use Rattle.sheet.proofs.state.factor_step.Statement.{statement}
 use Rattle.sheet.proofs.state.factor_step.Tie as tie
@@ -18,13 +25,19 @@ stopped-requires : tie.Need-stopped-requires
 stopped-requires c κs = search needs
 
 returns : tie.Need-returns
-returns c = ?
+unfolding factorKey factorStep
+returns c = rw (missing factorKey (c .before .before .before .before .before .args .line .now) _ (c .before .before .starts .ensures) (c .before .if1 .taken)) (c .stopped .ensures)
 
 stopped-requires-2 : tie.Need-stopped-requires-2
 stopped-requires-2 c κs = search needs
 
 returns-2 : tie.Need-returns-2
-returns-2 c = ?
+unfolding factorKey
+returns-2 c =
+    let line = c .before .before .before .before .before .before .args .line .now in
+    let e : behind factorKey line ≡ value (drop 7 line) = there factorKey line _ (c .before .before .before .starts .ensures) (c .before .before .if1 .left) in
+    let long = reaches factorKey line _ (c .before .before .before .starts .ensures) (c .before .before .if1 .left) in
+    rw (factor-short _ line e (c .before .if2 .taken) long) (c .stopped2 .ensures)
 
 read-requires : tie.Need-read-requires
 read-requires c κs = search needs
@@ -42,10 +55,18 @@ stopped-requires-3 : tie.Need-stopped-requires-3
 stopped-requires-3 c κs = search needs
 
 returns-3 : tie.Need-returns-3
-returns-3 c = ?
+unfolding factorKey
+returns-3 c =
+    let line = c .before .before .before .before .before .before .before .before .before .before .args .line .now in
+    let e : behind factorKey line ≡ value (drop 7 line) = there factorKey line _ (c .before .before .before .before .before .before .before .starts .ensures) (c .before .before .before .before .before .before .if1 .left) in
+    rw (factor-read _ line e (omega arith) _ (sym (c .before .before .before .before .read .ensures) ∙ c .before .before .bits .given .1)) (c .with-factor .ensures)
 
 returns-4 : tie.Need-returns-4
-returns-4 c = ?
+unfolding factorKey
+returns-4 c =
+    let line = c .before .before .before .before .before .before .before .before .before .args .line .now in
+    let e : behind factorKey line ≡ value (drop 7 line) = there factorKey line _ (c .before .before .before .before .before .before .starts .ensures) (c .before .before .before .before .before .if1 .left) in
+    rw (factor-bad _ line e (omega arith) (sym (c .before .before .before .read .ensures) ∙ c .before .enum-told .given .1)) (c .stopped3 .ensures)
 
 pub factor-step-spec : {M : Type 1} → statement M
 factor-step-spec =
