@@ -3,3 +3,5 @@ pub mod Keys
 pub mod Among
 pub mod Each
 pub mod Steps
+pub mod Cutting
+pub mod Pasting

@@ -1,3 +1,7 @@
+-- `sheet::read::accepted` meets its contract: the columns array is the columns, then blanks. Assumes nothing.
+use Rattle.sheet.proofs.Steps.{names-eight}
+use Rattle.sheet.specs.Sheet.{answerOf, namesOf}
+use mathlib.Core.Path.{refl}
 use borrow.Author.Needs.{needs}
 use Rattle.sheet.proofs.read.accepted.Statement.{statement}
 use Rattle.sheet.proofs.read.accepted.Tie as tie
@@ -5,7 +9,8 @@ use Rattle.sheet.proofs.read.accepted.Reads as reads
 use Rattle.sheet.proofs.read.accepted.Lts as lts
 
 returns : tie.Need-returns
-returns c = ?
+unfolding answerOf namesOf
+returns c = record { answered = refl; named = names-eight (c .before .args .s) (c .before .pre) }
 
 pub accepted-spec : {M : Type 1} → statement M
 accepted-spec = tie.close (tie.spec returns)

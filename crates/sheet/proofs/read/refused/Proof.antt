@@ -1,3 +1,6 @@
+-- `sheet::read::refused` meets its contract. Assumes nothing.
+use Rattle.sheet.specs.Sheet.{answerOf, namesOf, eight, blank}
+use mathlib.Core.Path.{refl}
 use borrow.Author.Needs.{needs}
 use Rattle.sheet.proofs.read.refused.Statement.{statement}
 use Rattle.sheet.proofs.read.refused.Tie as tie
@@ -9,7 +12,8 @@ blank-requires : tie.Need-blank-requires
 blank-requires c κs = search needs
 
 returns : tie.Need-returns
-returns c = ?
+unfolding answerOf namesOf eight blank
+returns c = record { answered = refl; named = rw (c .blank .ensures) }
 
 pub refused-spec : {M : Type 1} → statement M
 refused-spec = tie.close (tie.spec blank-requires returns)

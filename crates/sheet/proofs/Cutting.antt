@@ -1,0 +1,59 @@
+-- A text cut at its line feeds beside `lineLength`: where the first line ends, and what reading it comes to. Assumes nothing.
+use Prim.Native.Nat.{ℕ, suc, _≤_, _<_}
+use mathlib.Core.Path.{_≡_, refl, ap, _∙_}
+use mathlib.Core.Bool.{Bool, true, false, _&&_, cond, and-false}
+use mathlib.Core.List.{List, [], _∷_}
+use native.Mathlib.Omega.{arith}
+use borrow.Author.Tests.{ne-eqb}
+use lib.Dec.{eqb}
+use lib.ListN.{length, take, drop}
+use Rattle.lines.specs.Text.{lineLength}
+use Rattle.quant.specs.declared.refusal.Refusal.the-variants.{Layout}
+use Rattle.sheet.specs.Sheet.{Cut, onto, cut, SoFar, step, onward, complete, refuses, readFrom}
+use Rattle.sheet.specs.Reader.{readText}
+
+-- no line feed: nothing but the rest
+unended : (text : List ℕ) → lineLength text ≡ length text → cut text ≡ record { whole = []; rest = text }
+unfolding cut onto lineLength
+unended [] e = refl
+unended (b ∷ bs) e = by (eqb b 10) refl (unended bs)
+  where
+    by : (t : Bool) → eqb b 10 ≡ t → (lineLength bs ≡ length bs → cut bs ≡ record { whole = []; rest = bs })
+        → cond t (record { whole = [] ∷ cut bs .whole; rest = cut bs .rest }) (onto b (cut bs .whole) (cut bs .rest)) ≡ record { whole = []; rest = b ∷ bs }
+    by true s rest = absurd (none (rw s at e))
+      where
+        none : 0 ≡ suc (length bs) → ⊥
+        none k = omega arith
+    by false s rest = let k = rw s at e in rw (rest (omega arith))
+
+-- the first line, and the cut of what follows its line feed
+ended : (text : List ℕ) → lineLength text < length text
+    → cut text
+    ≡ record { whole = take (lineLength text) text ∷ cut (drop (suc (lineLength text)) text) .whole; rest = cut (drop (suc (lineLength text)) text) .rest }
+unfolding cut onto lineLength
+ended [] h = absurd (none h)
+  where
+    none : 0 < 0 → ⊥
+    none k = omega arith
+ended (b ∷ bs) h = by (eqb b 10) refl (ended bs)
+  where
+    line : Bool → ℕ
+    line t = cond t 0 (suc (lineLength bs))
+
+    by : (t : Bool) → eqb b 10 ≡ t
+        → (lineLength bs < length bs
+        → cut bs ≡ record { whole = take (lineLength bs) bs ∷ cut (drop (suc (lineLength bs)) bs) .whole; rest = cut (drop (suc (lineLength bs)) bs) .rest })
+        → cond t (record { whole = [] ∷ cut bs .whole; rest = cut bs .rest }) (onto b (cut bs .whole) (cut bs .rest))
+        ≡ record { whole = take (line t) (b ∷ bs) ∷ cut (drop (line t) bs) .whole; rest = cut (drop (line t) bs) .rest }
+    by true s rest = refl
+    by false s rest = let k = rw s at h in rw (rest (omega arith))
+
+module _ (place : ℕ) (s : SoFar) (text : List ℕ) where
+  pub read-open : 0 < length text → lineLength text ≡ length text → readText place s text ≡ refuses Layout place
+  unfolding readFrom
+  read-open h e = rw (unended text e, ne-eqb (length text) 0 (λ k. omega arith), and-false (complete s))
+
+  pub read-line : lineLength text < length text
+      → readText place s text ≡ onward place (step s (take (lineLength text) text)) (λ t. readText (suc place) t (drop (suc (lineLength text)) text))
+  unfolding readFrom
+  read-line h = rw (ended text h)
