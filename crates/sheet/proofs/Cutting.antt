@@ -1,16 +1,24 @@
 -- A text cut at its line feeds beside `lineLength`: where the first line ends, and what reading it comes to. Assumes nothing.
-use Prim.Native.Nat.{ℕ, suc, _≤_, _<_}
-use mathlib.Core.Path.{_≡_, refl, ap, _∙_}
+use Prim.Native.Nat.{ℕ, suc, _+_, _-_, _≤_, _<_}
+use mathlib.Core.Path.{_≡_, refl, sym, ap, _∙_}
 use mathlib.Core.Bool.{Bool, true, false, _&&_, cond, and-false}
 use mathlib.Core.List.{List, [], _∷_}
 use native.Mathlib.Omega.{arith}
 use borrow.Author.Tests.{ne-eqb}
 use lib.Dec.{eqb}
-use lib.ListN.{length, take, drop}
+use lib.ListN.{length, take, drop, length-drop}
+use lib.Seq.{drop-drop}
+use native.Mathlib.Nat.{add-suc}
+use native.Mathlib.Numerals.{add-one}
 use Rattle.lines.specs.Text.{lineLength}
+use Rattle.lines.proofs.Lines.{line-ends-within}
+use Rattle.quant.specs.declared.refusal.Refusal.{Refusal}
 use Rattle.quant.specs.declared.refusal.Refusal.the-variants.{Layout}
-use Rattle.sheet.specs.Sheet.{Cut, onto, cut, SoFar, step, onward, complete, refuses, readFrom}
-use Rattle.sheet.specs.Reader.{readText}
+use Rattle.sheet.specs.Sheet.{Cut, onto, cut, SoFar, Step, goes, stops, step, onward, complete, refuses, readFrom}
+use Rattle.sheet.specs.Reader.{soFar, told, readText}
+use Rattle.sheet.specs.declared.state.State.{State}
+use Rattle.sheet.specs.declared.state.Verdict.{Verdict}
+use Rattle.sheet.specs.declared.state.Verdict.the-variants.{Good, Bad}
 
 -- no line feed: nothing but the rest
 unended : (text : List ℕ) → lineLength text ≡ length text → cut text ≡ record { whole = []; rest = text }
@@ -57,3 +65,33 @@ module _ (place : ℕ) (s : SoFar) (text : List ℕ) where
       → readText place s text ≡ onward place (step s (take (lineLength text) text)) (λ t. readText (suc place) t (drop (suc (lineLength text)) text))
   unfolding readFrom
   read-line h = rw (ended text h)
+
+-- ---- the same from a place on
+
+module _ (place : ℕ) (s : SoFar) (text : List ℕ) (at : ℕ) (h : at < length text) where
+  some : 0 < length (drop at text)
+  some = rw length-drop (omega arith)
+
+  pub open-from : length text ≡ at + lineLength (drop at text) → readText place s (drop at text) ≡ refuses Layout place
+  open-from e = read-open place s (drop at text) some (rw length-drop (omega arith))
+
+  pub line-from : (end : ℕ) → end ≡ at + lineLength (drop at text) → (end ≡ length text → ⊥)
+      → readText place s (drop at text) ≡ onward place (step s (take (end - at) (drop at text))) (λ t. readText (place + 1) t (drop (end + 1) text))
+  line-from end e n =
+      let size : lineLength (drop at text) ≡ end - at = omega arith in
+      let behind : at + suc (lineLength (drop at text)) ≡ end + 1 = rw add-suc (omega arith) in
+      let within : lineLength (drop at text) < length (drop at text) =
+      rw length-drop (omega (arith, line-ends-within text at h)) in
+      let next : drop (suc (lineLength (drop at text))) (drop at text) ≡ drop (end + 1) text =
+      drop-drop (suc (lineLength (drop at text))) at text ∙ ap (λ (k : ℕ). drop k text) behind in
+      read-line place s (drop at text) within
+      ∙ rw (next, size)
+      ∙ ap (λ (k : ℕ). onward place (step s (take (end - at) (drop at text))) (λ t. readText k t (drop (end + 1) text))) (sym (add-one place))
+
+-- what a verdict makes of a step
+module _ (v : Verdict) (t : State) (to : Step) (e : told v t ≡ to) where
+  pub bad-line : (r : Refusal) → v ≡ Bad r → to ≡ stops r
+  bad-line r k = sym e ∙ ap (λ (w : Verdict). told w t) k
+
+  pub good-line : v ≡ Good → to ≡ goes (soFar t)
+  good-line k = sym e ∙ ap (λ (w : Verdict). told w t) k

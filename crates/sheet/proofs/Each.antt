@@ -17,7 +17,7 @@ neither : (a b : Bool) → (a || b) ≡ false → (a ≡ false) × (b ≡ false)
 neither true b e = absurd (true≢false e)
 neither false b e = (refl, e)
 
-same-self : (n : Name) → sameName n n ≡ true
+pub same-self : (n : Name) → sameName n n ≡ true
 same-self n = same-exactly n n .1 refl
 
 swap : (a b : Name) → sameName a b ≡ false → sameName b a ≡ false

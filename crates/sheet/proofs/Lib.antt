@@ -5,3 +5,4 @@ pub mod Each
 pub mod Steps
 pub mod Cutting
 pub mod Pasting
+pub mod Filling

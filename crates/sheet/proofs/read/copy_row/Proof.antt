@@ -1,3 +1,13 @@
+-- `sheet::read::copy_row` meets its contract. The invariant: the first k numbers of the row stand in the matrix that came. Assumes nothing.
+use Rattle.sheet.proofs.Filling.{row-long, row-at}
+use lib.Ieee.{nan}
+use native.Mathlib.Numerals.{add-one}
+use Rattle.sheet.specs.Sheet.{doubles}
+use lib.Seq.{paste, paste-zero, paste-suc, take-length}
+use lib.ListN.{length, take, drop, length-set}
+use mathlib.Core.Path.{_≡_, refl, sym, _∙_, ap}
+use native.Mathlib.Omega.{arith}
+use Prim.Native.Nat.{_-_, _≤_}
 use borrow.Author.Needs.{needs}
 use Rattle.sheet.proofs.read.copy_row.Statement.{statement}
 use Rattle.sheet.proofs.read.copy_row.Tie as tie
@@ -6,13 +16,15 @@ use Rattle.sheet.proofs.read.copy_row.Lts as lts
 use Rattle.lines.proofs.field.float_of.Reads as float-of-reads
 
 abbrev Inv-loop : tie.InvT-loop
-Inv-loop from matrix₀ to count factors k₀ matrix k = ?
+Inv-loop from matrix₀ to count factors k₀ matrix k = (k ≤ count) × (length matrix ≡ length matrix₀) × (matrix ≡ paste matrix₀ to (doubles (take count (drop from factors))) k)
 
 abbrev μ-loop : tie.MeasureT-loop
-μ-loop from matrix₀ to count factors k₀ matrix k = ?
+μ-loop from matrix₀ to count factors k₀ matrix k = count - k
 
 loop-holds : tie.Need-loop-holds Inv-loop μ-loop
-loop-holds c = search needs
+loop-holds c =
+    let p = c .before .args in
+    (omega arith, refl, paste-zero (p .matrix .now) (p .to) (doubles (take (p .count) (drop (p .from) (p .t1)))))
 
 add-float-of : tie.Need-add-float-of Inv-loop μ-loop
 add-float-of c = search needs
@@ -42,13 +54,29 @@ loop-less : tie.Need-loop-less Inv-loop μ-loop
 loop-less c = search needs
 
 loop-again : tie.Need-loop-again Inv-loop μ-loop
-loop-again c = search needs
+loop-again c =
+    let p = c .before .before .before .before .args in
+    let at = c .before .before .loop in
+    let row = doubles (take (p .count) (drop (p .from) (p .t1))) in
+    let size = row-long (p .t1) (p .from) (p .count) (omega arith) in
+    let here = row-at (p .t1) (p .from) (p .count) (omega arith) (at .k) nan (omega arith) in
+    (
+      omega arith,
+      simp length-set (at .inv .1),
+      rw (at .inv .2, c .float-of .ensures, ← here, add-one)
+      (paste-suc (p .matrix .now) (p .to) row (at .k) nan (omega arith) (omega (arith, size))),
+    )
 
 same-length : tie.Need-same-length Inv-loop μ-loop
-same-length c = search needs
+same-length c = c .before .loop .inv .1
 
 returns : tie.Need-returns Inv-loop μ-loop
-returns c = search needs
+returns c =
+    let p = c .before .before .before .args in
+    let at = c .before .loop in
+    let row = doubles (take (p .count) (drop (p .from) (p .t1))) in
+    let end : at .k ≡ length row = omega (arith, row-long (p .t1) (p .from) (p .count) (omega arith)) in
+    at .inv .2 ∙ rw (end, take-length row)
 
 pub copy-row-spec : {M : Type 1} → statement M
 copy-row-spec =

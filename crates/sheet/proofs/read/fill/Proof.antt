@@ -1,3 +1,12 @@
+-- `sheet::read::fill` meets its contract. The invariant: pasting the rows of the columns that are left gives what pasting them all gave. Assumes nothing.
+use native.Mathlib.Nat.{zero-add}
+use Rattle.sheet.specs.Sheet.{blank, matrixOf, SoFar, accepts}
+use Rattle.sheet.proofs.Filling.{Ready, left, Filled, filled-none, filled-more, filled-end, column-found, row-within, whole-is}
+use Rattle.sheet.specs.Puts.{pasted}
+use lib.ListN.{length, getD, take}
+use mathlib.Core.Path.{_≡_, refl, sym, _∙_, ap}
+use native.Mathlib.Omega.{arith}
+use Prim.Native.Nat.{_+_, _*_, _-_, _≤_, _<_}
 use borrow.Author.Needs.{needs}
 use Rattle.sheet.proofs.read.fill.Statement.{statement}
 use Rattle.sheet.proofs.read.fill.Tie as tie
@@ -7,13 +16,13 @@ use Rattle.sheet.proofs.names.place.Reads as place-reads
 use Rattle.sheet.proofs.read.copy_row.Reads as copy-row-reads
 
 abbrev Inv-loop : tie.InvT-loop
-Inv-loop matrix₀ columns rows factors count c₀ matrix c = ?
+Inv-loop matrix₀ columns rows factors count c₀ matrix c = Filled count columns rows factors matrix₀ matrix c
 
 abbrev μ-loop : tie.MeasureT-loop
-μ-loop matrix₀ columns rows factors count c₀ matrix c = ?
+μ-loop matrix₀ columns rows factors count c₀ matrix c = count - c
 
 loop-holds : tie.Need-loop-holds Inv-loop μ-loop
-loop-holds c = search needs
+loop-holds c = filled-none (c .before .before .before .before .args .s) (c .before .before .before .before .pre .0) (c .before .before .before .before .pre .1) (c .before .before .before .before .args .matrix .now) (c .before .before .before .before .pre .2)
 
 mul-place : tie.Need-mul-place Inv-loop μ-loop
 mul-place c = search needs
@@ -24,14 +33,32 @@ array-copy-out-place c = search needs
 place-requires : tie.Need-place-requires Inv-loop μ-loop
 place-requires c κs = search needs
 
+-- a row's factors are within the array, and its place is within the matrix
+row-fits : (c : tie.After-place Inv-loop μ-loop) → c .place .result * c .before .before .before .before .before .before .before .before .args .s .count + c .before .before .before .before .before .before .before .before .args .s .count ≤ 64
+unfolding blank
+row-fits c =
+    let s = c .before .before .before .before .before .before .before .before .args .s in
+    let at = c .before .before .before .loop in
+    let ready = at .inv .ready in
+    let found = column-found (s .count) (s .columns) (s .rows) (s .factors) ready (at .c) blank (omega arith) in
+    let here : c .place .result < s .count = omega (arith, c .place .ensures) in
+    omega (arith, ready .square, row-within (s .count) (s .columns) (s .rows) (s .factors) ready (c .place .result) here)
+
+place-fits : (c : tie.After-place Inv-loop μ-loop) → c .before .before .before .loop .c * c .before .before .before .before .before .before .before .before .args .s .count + c .before .before .before .before .before .before .before .before .args .s .count ≤ length (c .before .before .before .loop .matrix)
+place-fits c =
+    let s = c .before .before .before .before .before .before .before .before .args .s in
+    let at = c .before .before .before .loop in
+    let ready = at .inv .ready in
+    omega (arith, ready .square, at .inv .room, at .inv .long, row-within (s .count) (s .columns) (s .rows) (s .factors) ready (at .c) (omega arith))
+
 mul-copy-row : tie.Need-mul-copy-row Inv-loop μ-loop
-mul-copy-row c = search needs
+mul-copy-row c = omega (arith, row-fits c, c .before .before .before .before .before .before .before .before .pre)
 
 mul-copy-row-2 : tie.Need-mul-copy-row-2 Inv-loop μ-loop
-mul-copy-row-2 c = search needs
+mul-copy-row-2 c = omega (arith, place-fits (c .before))
 
 copy-row-requires : tie.Need-copy-row-requires Inv-loop μ-loop
-copy-row-requires c κs = search needs
+copy-row-requires c κs = (omega (arith, row-fits (c .before)), omega (arith, place-fits (c .before)))
 
 add-c : tie.Need-add-c Inv-loop μ-loop
 add-c c = search needs
@@ -40,13 +67,27 @@ loop-less : tie.Need-loop-less Inv-loop μ-loop
 loop-less c = search needs
 
 loop-again : tie.Need-loop-again Inv-loop μ-loop
-loop-again c = search needs
+unfolding blank
+loop-again c =
+    let s = c .before .before .before .before .before .before .before .before .before .before .before .before .args .s in
+    let at = c .before .before .before .before .before .before .before .loop in
+    filled-more (s .count) (s .columns) (s .rows) (s .factors) (at .inv .ready) (c .before .before .before .before .before .before .before .before .before .before .before .before .args .matrix .now) (at .matrix) (at .c) blank _ _ (at .inv) (omega arith)
+    (c .before .before .before .before .place .ensures ∙ zero-add _)
+    (c .before .before .copy-row .ensures)
+    (c .before .before .copy-row .kept .1 .1 .0)
 
 same-length : tie.Need-same-length Inv-loop μ-loop
-same-length c = search needs
+same-length c = c .before .loop .inv .long
 
 returns : tie.Need-returns Inv-loop μ-loop
-returns c = search needs
+unfolding matrixOf
+returns c =
+    let s = c .before .before .before .before .before .before .args .s in
+    let p = c .before .before .before .before .before .before .pre in
+    let before = c .before .before .before .before .before .before .args .matrix .now in
+    let at = c .before .loop in
+    filled-end (s .count) (s .columns) (s .rows) (s .factors) (at .inv .ready) before (at .matrix) (at .c) (at .inv) (omega arith)
+    ∙ ap (λ (t : SoFar). matrixOf (accepts t) before) (sym (whole-is s (p .0) (p .1)))
 
 pub fill-spec : {M : Type 1} → statement M
 fill-spec =

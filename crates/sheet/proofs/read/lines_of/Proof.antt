@@ -1,3 +1,14 @@
+-- `sheet::read::lines_of` meets its contract. The invariant: reading from here on comes to what reading the whole text comes to. Assumes nothing.
+use mathlib.Core.List.{[]}
+use Rattle.sheet.proofs.Cutting.{open-from, line-from, bad-line, good-line}
+use Rattle.lines.proofs.Lines.{line-ends-within}
+use native.Mathlib.Numerals.{add-one}
+use Rattle.sheet.specs.Reader.{soFar, Fits, readText, Parses}
+use Rattle.sheet.specs.Sheet.{nothing, Outcome, cut, step, onward, SoFar}
+use lib.ListN.{length, drop, take, drop-of-length-le}
+use mathlib.Core.Path.{_≡_, refl, sym, _∙_, subst, ap}
+use native.Mathlib.Omega.{arith}
+use Prim.Native.Nat.{_+_, _-_, _≤_}
 use borrow.Author.Needs.{needs}
 use Rattle.sheet.proofs.read.lines_of.Statement.{statement}
 use Rattle.sheet.proofs.read.lines_of.Tie as tie
@@ -10,16 +21,17 @@ use Rattle.sheet.proofs.state.fresh.Reads as fresh-reads
 use Rattle.sheet.proofs.state.step.Reads as step-reads
 
 abbrev Inv-loop : tie.InvT-loop
-Inv-loop text s₀ line₀ at₀ s line at = ?
+Inv-loop text s₀ line₀ at₀ s line at = (at ≤ length text) × (line ≤ at + 1) × Fits s × (readText line (soFar s) (drop at text) ≡ readText 1 nothing text)
 
 abbrev μ-loop : tie.MeasureT-loop
-μ-loop text s₀ line₀ at₀ s line at = ?
+μ-loop text s₀ line₀ at₀ s line at = length text - at
 
 fresh-requires : tie.Need-fresh-requires Inv-loop μ-loop
 fresh-requires c κs = search needs
 
 loop-holds : tie.Need-loop-holds Inv-loop μ-loop
-loop-holds c = search needs
+unfolding nothing
+loop-holds c = (omega arith, omega arith, c .fresh .ensures .1, ap (λ (s : SoFar). readText 1 s (c .before .before .args .text .now)) (c .fresh .ensures .0))
 
 line-end-requires : tie.Need-line-end-requires Inv-loop μ-loop
 line-end-requires c κs = search needs
@@ -28,7 +40,12 @@ stopped-at-requires : tie.Need-stopped-at-requires Inv-loop μ-loop
 stopped-at-requires c κs = search needs
 
 returns : tie.Need-returns Inv-loop μ-loop
-returns c = search needs
+returns c =
+    let text = c .before .before .before .before .before .before .before .args .text .now in
+    let at = c .before .before .before .before .loop in
+    subst (λ (o : Outcome). Parses (c .stopped-at .result) o)
+    (sym (open-from (at .line) (soFar (at .s)) text (at .at) (omega arith) (omega (arith, c .before .before .line-end .ensures))) ∙ at .inv .3)
+    (c .stopped-at .ensures)
 
 sub-step : tie.Need-sub-step Inv-loop μ-loop
 sub-step c = search needs
@@ -37,7 +54,7 @@ part-step-start : tie.Need-part-step-start Inv-loop μ-loop
 part-step-start c = search needs
 
 part-step-end : tie.Need-part-step-end Inv-loop μ-loop
-part-step-end c = search needs
+part-step-end c = omega (arith, c .before .line-end .ensures, line-ends-within (c .before .before .before .before .before .before .args .text .now) (c .before .before .before .loop .at) (omega arith))
 
 step-requires : tie.Need-step-requires Inv-loop μ-loop
 step-requires c κs = search needs
@@ -49,28 +66,46 @@ stopped-at-requires-2 : tie.Need-stopped-at-requires-2 Inv-loop μ-loop
 stopped-at-requires-2 c κs = search needs
 
 returns-2 : tie.Need-returns-2 Inv-loop μ-loop
-returns-2 c = search needs
+unfolding onward
+returns-2 c =
+    let text = c .before .before .before .before .before .before .before .before .before .before .before .before .args .text .now in
+    let at = c .before .before .before .before .before .before .before .before .before .loop in
+    let from = line-from (at .line) (soFar (at .s)) text (at .at) (omega arith) (c .before .before .before .before .before .before .before .line-end .result) (c .before .before .before .before .before .before .before .line-end .ensures) (c .before .before .before .before .before .before .if1 .left) in
+    let bad = bad-line _ _ _ (c .before .before .before .before .step .ensures .is) _ (c .before .before .verdict .given .1) in
+    subst (λ (o : Outcome). Parses (c .stopped-at2 .result) o) (sym (from ∙ rw bad) ∙ at .inv .3) (c .stopped-at2 .ensures)
 
 enum-told : tie.Need-enum-told Inv-loop μ-loop
 enum-told c = search needs
 
 add-at : tie.Need-add-at Inv-loop μ-loop
-add-at c = search needs
+add-at c = omega (arith, c .before .before .before .before .before .before .line-end .ensures, line-ends-within (c .before .before .before .before .before .before .before .before .before .before .before .args .text .now) (c .before .before .before .before .before .before .before .before .loop .at) (omega arith))
 
 add-line : tie.Need-add-line Inv-loop μ-loop
 add-line c = search needs
 
 loop-less : tie.Need-loop-less Inv-loop μ-loop
-loop-less c = search needs
+loop-less c = omega (arith, c .before .before .before .before .before .before .line-end .ensures, line-ends-within (c .before .before .before .before .before .before .before .before .before .before .before .args .text .now) (c .before .before .before .before .before .before .before .before .loop .at) (omega arith))
 
 loop-again : tie.Need-loop-again Inv-loop μ-loop
-loop-again c = search needs
+unfolding onward
+loop-again c =
+    let text = c .before .before .before .before .before .before .before .before .before .before .before .args .text .now in
+    let at = c .before .before .before .before .before .before .before .before .loop in
+    let end = line-ends-within text (at .at) (omega arith) in
+    let from = line-from (at .line) (soFar (at .s)) text (at .at) (omega arith) (c .before .before .before .before .before .before .line-end .result) (c .before .before .before .before .before .before .line-end .ensures) (c .before .before .before .before .before .if1 .left) in
+    let good = good-line _ _ _ (c .before .before .before .step .ensures .is) (c .before .enum-told .given .1) in
+    (omega (arith, c .before .before .before .before .before .before .line-end .ensures), omega (arith, c .before .before .before .before .before .before .line-end .ensures), c .before .before .before .step .ensures .fits, sym (from ∙ rw good) ∙ at .inv .3)
 
 ended-requires : tie.Need-ended-requires Inv-loop μ-loop
 ended-requires c κs = search needs
 
 returns-3 : tie.Need-returns-3 Inv-loop μ-loop
-returns-3 c = search needs
+unfolding cut
+returns-3 c =
+    let text = c .before .before .before .before .before .args .text .now in
+    let at = c .before .before .loop in
+    let none : drop (at .at) text ≡ [] = drop-of-length-le text {i = at .at} (omega arith) in
+    subst (λ (o : Outcome). Parses (c .ended .result) o) (sym (rw none) ∙ at .inv .3) (c .ended .ensures)
 
 pub lines-of-spec : {M : Type 1} → statement M
 lines-of-spec =
