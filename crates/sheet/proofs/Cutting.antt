@@ -84,8 +84,9 @@ module _ (place : ℕ) (s : SoFar) (text : List ℕ) (at : ℕ) (h : at < length
       rw length-drop (omega (arith, line-ends-within text at h)) in
       let next : drop (suc (lineLength (drop at text))) (drop at text) ≡ drop (end + 1) text =
       drop-drop (suc (lineLength (drop at text))) at text ∙ ap (λ (k : ℕ). drop k text) behind in
-      read-line place s (drop at text) within
-      ∙ rw (next, size)
+      let first : readText place s (drop at text) ≡ onward place (step s (take (end - at) (drop at text))) (λ t. readText (suc place) t (drop (end + 1) text)) =
+      rw (next, size) at (read-line place s (drop at text) within) in
+      first
       ∙ ap (λ (k : ℕ). onward place (step s (take (end - at) (drop at text))) (λ t. readText k t (drop (end + 1) text))) (sym (add-one place))
 
 -- what a verdict makes of a step
