@@ -6,3 +6,4 @@ pub mod Steps
 pub mod Cutting
 pub mod Pasting
 pub mod Filling
+pub mod Printing

@@ -6,7 +6,7 @@ ghost use Prim.Native.Nat.{_+_, _≤_};
 ghost use lib.Ieee.Scale.{finite};
 ghost use lib.ListN.{length, take};
 ghost use Rattle.quant.specs.Name.{isName};
-ghost use Rattle.sheet.specs.Sheet.{goodNames, allFinite, patterns, countText, columnsText, factorsText, blocksText, blocksOf, sheetOf, sheetText};
+ghost use Rattle.sheet.specs.Sheet.{columnKey, goodNames, allFinite, patterns, countText, columnsText, factorsText, blocksText, blocksOf, sheetOf, sheetText};
 ghost use Rattle.sheet.specs.Puts.{Put, Printable, blockText, nameLine, factorLine};
 use quant::name::Name;
 
@@ -36,10 +36,17 @@ fn put_columns(names: [Name; 8], count: usize, out: &mut [u8], from: usize) -> u
     let mut at = from;
     let mut i: usize = 0;
     while i < count {
-        at = put_name(b"column=", names[i], out, at);
+        at = put_column(names[i], out, at);
         i += 1;
     }
     at
+}
+
+fn put_column(n: Name, out: &mut [u8], from: usize) -> usize
+    requires { ⌜ (isName n ≡ true) × (from + length (nameLine columnKey n) ≤ length (now out)) ⌝ }
+    ensures { λ r. ⌜ Put (nameLine columnKey n) (now (out .entry)) from r (now (out .exit)) ⌝ }
+{
+    put_name(b"column=", n, out, from)
 }
 
 fn put_blocks(names: [Name; 8], count: usize, matrix: &[f64], out: &mut [u8], from: usize) -> usize

@@ -1,3 +1,10 @@
+-- `sheet::put::put_block` meets its contract: two puts, one behind the other. Assumes nothing.
+use Rattle.sheet.specs.Puts.{nameLine}
+use Rattle.sheet.specs.Sheet.{rowKey, factorsText, patterns}
+use lib.ListN.{length-append}
+use mathlib.Core.Path.{_∙_}
+use Rattle.sheet.proofs.Pasting.{then}
+use native.Mathlib.Omega.{arith}
 use borrow.Author.Needs.{needs}
 use Rattle.sheet.proofs.put.put_block.Statement.{statement}
 use Rattle.sheet.proofs.put.put_block.Tie as tie
@@ -10,16 +17,21 @@ slice-aggregate-put-name : tie.Need-slice-aggregate-put-name
 slice-aggregate-put-name c = search needs
 
 put-name-requires : tie.Need-put-name-requires
-put-name-requires c κs = search needs
+unfolding rowKey
+put-name-requires c κs = (c .before .before .before .before .pre .0, omega (arith, c .before .before .before .before .pre .2, length-append (nameLine rowKey (c .before .before .before .before .args .n)) (factorsText (patterns (c .before .before .before .before .args .numbers .now)))))
 
 put-factors-requires : tie.Need-put-factors-requires
-put-factors-requires c κs = search needs
+unfolding rowKey
+put-factors-requires c κs = (c .before .before .before .before .before .before .before .before .pre .1, omega (arith, c .before .before .before .before .before .before .before .before .pre .2, c .before .before .before .put-name .ensures .next, c .before .before .before .put-name .kept .1 .1 .0, length-append (nameLine rowKey (c .before .before .before .before .before .before .before .before .args .n)) (factorsText (patterns (c .before .before .before .before .before .before .before .before .args .numbers .now)))))
 
 same-length : tie.Need-same-length
-same-length c = search needs
+same-length c = c .before .before .put-factors .kept .1 .0 ∙ c .before .before .before .before .before .before .put-name .kept .1 .1 .0
 
 returns : tie.Need-returns
-returns c = search needs
+unfolding rowKey
+returns c =
+    let size = length-append (nameLine rowKey (c .before .before .before .before .before .before .before .before .before .before .before .args .n)) (factorsText (patterns (c .before .before .before .before .before .before .before .before .before .before .before .args .numbers .now))) in
+    then (omega (arith, c .before .before .before .before .before .before .before .before .before .before .before .pre .2)) (c .before .before .before .before .before .before .put-name .ensures) (c .before .before .put-factors .ensures)
 
 pub put-block-spec : {M : Type 1} → statement M
 put-block-spec =

@@ -1,3 +1,7 @@
+-- `sheet::put::put_byte` meets its contract. Assumes nothing.
+use Rattle.sheet.proofs.Pasting.{one-pasted}
+use mathlib.Core.Path.{refl}
+use native.Mathlib.Omega.{arith}
 use borrow.Author.Needs.{needs}
 use Rattle.sheet.proofs.put.put_byte.Statement.{statement}
 use Rattle.sheet.proofs.put.put_byte.Tie as tie
@@ -14,7 +18,7 @@ same-length : tie.Need-same-length
 same-length c = search needs
 
 returns : tie.Need-returns
-returns c = search needs
+returns c = record { next = refl; left = one-pasted (c .args .out .now) (c .args .at) (c .args .b) (omega arith) }
 
 pub put-byte-spec : {M : Type 1} → statement M
 put-byte-spec = tie.close (tie.spec slice-write-out add-result same-length returns)

@@ -3,28 +3,25 @@ use Rattle.sheet.proofs.put.put_columns.Statement.{statement}
 use Rattle.sheet.proofs.put.put_columns.Tie as tie
 use Rattle.sheet.proofs.put.put_columns.Reads as reads
 use Rattle.sheet.proofs.put.put_columns.Lts as lts
-use Rattle.sheet.proofs.put.put_name.Reads as put-name-reads
+use Rattle.sheet.proofs.put.put_column.Reads as put-column-reads
 
 abbrev Inv-loop : tie.InvT-loop
-Inv-loop count out₀ from names at₀ i₀ t8 out at i = ?
+Inv-loop count out₀ from names at₀ i₀ out at i = ?
 
 abbrev μ-loop : tie.MeasureT-loop
-μ-loop count out₀ from names at₀ i₀ t8 out at i = ?
+μ-loop count out₀ from names at₀ i₀ out at i = ?
 
 loop-holds : tie.Need-loop-holds Inv-loop μ-loop
 loop-holds c = search needs
 
-slice-aggregate-put-name : tie.Need-slice-aggregate-put-name Inv-loop μ-loop
-slice-aggregate-put-name c = search needs
+mul-put-column : tie.Need-mul-put-column Inv-loop μ-loop
+mul-put-column c = search needs
 
-mul-put-name : tie.Need-mul-put-name Inv-loop μ-loop
-mul-put-name c = search needs
+array-copy-out-put-column : tie.Need-array-copy-out-put-column Inv-loop μ-loop
+array-copy-out-put-column c = search needs
 
-array-copy-out-put-name : tie.Need-array-copy-out-put-name Inv-loop μ-loop
-array-copy-out-put-name c = search needs
-
-put-name-requires : tie.Need-put-name-requires Inv-loop μ-loop
-put-name-requires c κs = search needs
+put-column-requires : tie.Need-put-column-requires Inv-loop μ-loop
+put-column-requires c κs = search needs
 
 add-i : tie.Need-add-i Inv-loop μ-loop
 add-i c = search needs
@@ -48,10 +45,9 @@ put-columns-spec =
     Inv-loop
     μ-loop
     loop-holds
-    slice-aggregate-put-name
-    mul-put-name
-    array-copy-out-put-name
-    put-name-requires
+    mul-put-column
+    array-copy-out-put-column
+    put-column-requires
     add-i
     loop-less
     loop-again

@@ -1,3 +1,9 @@
+-- `sheet::put::put_factor` meets its contract: three puts, one behind the other. Assumes nothing.
+use Rattle.sheet.specs.Sheet.{factorKey}
+use mathlib.Core.Path.{_∙_}
+use Rattle.sheet.proofs.Printing.{word-put, no-nan}
+use Rattle.sheet.proofs.Pasting.{then}
+use native.Mathlib.Omega.{arith}
 use borrow.Author.Needs.{needs}
 use Rattle.sheet.proofs.put.put_factor.Statement.{statement}
 use Rattle.sheet.proofs.put.put_factor.Tie as tie
@@ -11,25 +17,28 @@ slice-aggregate-put : tie.Need-slice-aggregate-put
 slice-aggregate-put c = search needs
 
 put-requires : tie.Need-put-requires
-put-requires c κs = search needs
+put-requires c κs = omega (arith, c .before .before .before .pre .1)
 
 float-to-bits-write : tie.Need-float-to-bits-write
-float-to-bits-write c = search needs
+float-to-bits-write c = no-nan (c .before .before .before .before .before .before .args .x) (c .before .before .before .before .before .before .pre .0)
 
 write-requires : tie.Need-write-requires
 write-requires c κs = search needs
 
 add-put-byte : tie.Need-add-put-byte
-add-put-byte c = search needs
+add-put-byte c = omega (arith, c .before .before .before .before .before .before .before .before .before .before .before .pre .1, c .before .before .before .before .before .before .before .put .ensures .next)
 
 put-byte-requires : tie.Need-put-byte-requires
-put-byte-requires c κs = search needs
+put-byte-requires c κs = omega (arith, c .before .before .before .before .before .before .before .before .before .before .before .pre .1, c .before .before .before .before .before .before .before .put .ensures .next, c .before .before .before .before .before .before .before .put .kept .1 .0, c .before .before .before .write .kept .1 .0)
 
 same-length : tie.Need-same-length
-same-length c = search needs
+same-length c = c .before .before .put-byte .kept .1 .0 ∙ c .before .before .before .before .before .before .write .kept .1 .0 ∙ c .before .before .before .before .before .before .before .before .before .before .put .kept .1 .0
 
 returns : tie.Need-returns
-returns c = ?
+unfolding factorKey
+returns c =
+    let worded = word-put (omega (arith, c .before .before .before .before .before .before .before .before .before .before .before .before .before .before .pre .1, c .before .before .before .before .before .before .before .before .before .before .put .ensures .next, c .before .before .before .before .before .before .before .before .before .before .put .kept .1 .0)) (c .before .before .before .before .before .before .write .ensures) in
+    then (omega (arith, c .before .before .before .before .before .before .before .before .before .before .before .before .before .before .pre .1)) (then (omega (arith, c .before .before .before .before .before .before .before .before .before .before .before .before .before .before .pre .1)) (c .before .before .before .before .before .before .before .before .before .before .put .ensures) worded) (c .before .before .put-byte .ensures)
 
 pub put-factor-spec : {M : Type 1} → statement M
 put-factor-spec =

@@ -1,3 +1,18 @@
+-- `sheet::read::read` meets its contract: its answer and its matrix are those of the outcome. Assumes nothing.
+use Rattle.sheet.specs.declared.state.Verdict.{Verdict}
+use Rattle.sheet.specs.declared.read.Reading.{Reading}
+use Rattle.sheet.specs.Reader.{soFar, ends, readText, Answers}
+use Rattle.sheet.specs.Sheet.{Read, Outcome, accepts, refuses, nothing, outcome, matrixOf}
+use Rattle.quant.specs.declared.refusal.Refusal.the-variants.{WrongSize}
+use lib.ListN.{length}
+use lib.Ieee.{Float}
+use lib.Dec.{leb}
+use borrow.Author.Tests.{le-leb, lt-leb}
+use mathlib.Core.List.{List}
+use mathlib.Core.Bool.{and-false}
+use mathlib.Core.Path.{_≡_, refl, sym, ap, _∙_}
+use Prim.Native.Nat.{ℕ, _≤_, _<_}
+use native.Mathlib.Omega.{arith}
 use borrow.Author.Needs.{needs}
 use Rattle.sheet.proofs.read.read.Statement.{statement}
 use Rattle.sheet.proofs.read.read.Tie as tie
@@ -8,17 +23,36 @@ use Rattle.sheet.proofs.read.fill.Reads as fill-reads
 use Rattle.sheet.proofs.read.lines_of.Reads as lines-of-reads
 use Rattle.sheet.proofs.read.refused.Reads as refused-reads
 
+of-outcome : {text : List ℕ} {before : List Float} {r : Reading} {after : List Float} {o : Outcome} → outcome text (length before) ≡ o → Answers r o → after ≡ matrixOf o before
+    → Read text before r after
+of-outcome e a m = record { answered = rw e (a .answered); named = rw e (a .named); left = rw e m }
+
+module _ (text : List ℕ) (before : List Float) where
+  long : 4096 < length text → outcome text (length before) ≡ refuses WrongSize 0
+  unfolding outcome
+  long h = rw (lt-leb (length text) 4096 h)
+
+  short : length before < 64 → outcome text (length before) ≡ refuses WrongSize 0
+  unfolding outcome
+  short h = rw (lt-leb 64 (length before) h, and-false (leb (length text) 4096))
+
+  fits : length text ≤ 4096 → 64 ≤ length before → outcome text (length before) ≡ readText 1 nothing text
+  unfolding outcome
+  fits h k = rw (le-leb (length text) 4096 h, le-leb 64 (length before) k)
+
 refused-requires : tie.Need-refused-requires
 refused-requires c κs = search needs
 
 returns : tie.Need-returns
-returns c = search needs
+unfolding matrixOf
+returns c = of-outcome (long _ _ (c .before .if1 .taken)) (c .refused .ensures) refl
 
 refused-requires-2 : tie.Need-refused-requires-2
 refused-requires-2 c κs = search needs
 
 returns-2 : tie.Need-returns-2
-returns-2 c = search needs
+unfolding matrixOf
+returns-2 c = of-outcome (short _ _ (c .before .if2 .taken)) (c .refused2 .ensures) refl
 
 lines-of-requires : tie.Need-lines-of-requires
 lines-of-requires c κs = search needs
@@ -27,10 +61,10 @@ enum-told : tie.Need-enum-told
 enum-told c = search needs
 
 fill-requires : tie.Need-fill-requires
-fill-requires c κs = search needs
+fill-requires c κs = (c .before .before .before .before .lines-of .ensures .fits, c .before .before .before .before .lines-of .ensures .whole (c .before .before .enum-told .given .1), omega arith)
 
 accepted-requires : tie.Need-accepted-requires
-accepted-requires c κs = search needs
+accepted-requires c κs = c .before .before .before .before .before .before .before .lines-of .ensures .fits
 
 enum-known-verdict : tie.Need-enum-known-verdict
 enum-known-verdict c = search needs
@@ -39,13 +73,18 @@ refused-requires-3 : tie.Need-refused-requires-3
 refused-requires-3 c κs = search needs
 
 same-length : tie.Need-same-length
-same-length c = search needs
+same-length c = c .before .before .before .fill .kept .1 .0
 
 returns-3 : tie.Need-returns-3
-returns-3 c = search needs
+returns-3 c =
+    let made = ap (λ (v : Verdict). ends v (c .before .before .before .before .before .before .before .before .lines-of .result .line) (c .before .before .before .before .before .before .before .before .lines-of .result .state)) (sym (c .before .before .before .before .before .before .enum-told .given .1)) in
+    of-outcome (fits _ _ (omega arith) (omega arith) ∙ sym (made ∙ c .before .before .before .before .before .before .before .before .lines-of .ensures .is)) (c .accepted .ensures) (c .before .before .before .fill .ensures)
 
 returns-4 : tie.Need-returns-4
-returns-4 c = search needs
+unfolding matrixOf
+returns-4 c =
+    let made = ap (λ (v : Verdict). ends v (c .before .before .before .before .lines-of .result .line) (c .before .before .before .before .lines-of .result .state)) (sym (c .before .before .verdict .given .1)) in
+    of-outcome (fits _ _ (omega arith) (omega arith) ∙ sym (made ∙ c .before .before .before .before .lines-of .ensures .is)) (c .refused3 .ensures) refl
 
 pub read-spec : {M : Type 1} → statement M
 read-spec =

@@ -1,0 +1,22 @@
+use borrow.Author.Needs.{needs}
+use Rattle.sheet.proofs.put.put_column.Statement.{statement}
+use Rattle.sheet.proofs.put.put_column.Tie as tie
+use Rattle.sheet.proofs.put.put_column.Reads as reads
+use Rattle.sheet.proofs.put.put_column.Lts as lts
+use Rattle.sheet.proofs.put.put_name.Reads as put-name-reads
+
+slice-aggregate-put-name : tie.Need-slice-aggregate-put-name
+slice-aggregate-put-name c = search needs
+
+put-name-requires : tie.Need-put-name-requires
+put-name-requires c κs = search needs
+
+same-length : tie.Need-same-length
+same-length c = search needs
+
+returns : tie.Need-returns
+returns c = search needs
+
+pub put-column-spec : {M : Type 1} → statement M
+put-column-spec =
+    tie.close (tie.spec slice-aggregate-put-name put-name-requires same-length returns)
