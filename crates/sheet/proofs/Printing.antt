@@ -47,6 +47,12 @@ word-put {word} {text} {at} room w =
 pub name-line-long : (key : List ℕ) (n : Name) → length (nameLine key n) ≡ length key + length (bytesOf n) + 1
 name-line-long key n = length-append (key ++ bytesOf n) (10 ∷ []) ∙ ap (λ (k : ℕ). k + 1) (length-append key (bytesOf n))
 
+pub factor-line-long : (x : Float) → length (factorLine x) ≡ 24
+unfolding factorKey
+factor-line-long x =
+    length-append (factorKey ++ hex.digits 16 (toBits binary64 x)) (10 ∷ [])
+    ∙ rw (length-append factorKey (hex.digits 16 (toBits binary64 x)), length-digits 16 (toBits binary64 x))
+
 -- ---- the lines of some names
 
 module _ (names : List Name) (count : ℕ) (within : count ≤ length names) (i : ℕ) (d : Name) (h : i < count) where
@@ -122,6 +128,12 @@ bytes-most n = omega (arith, length-sixteen (n .first) (n .second), short (n .le
     short zero l = omega arith
     short (suc k) [] = omega arith
     short (suc k) (x ∷ l) = omega (arith, short k l)
+
+pub bytes-cut : (n : Name) → 16 < n .len → length (bytesOf n) ≡ 16
+unfolding bytesOf
+bytes-cut n h =
+    ap length (take-all (n .len) (sixteen (n .first) (n .second)) (omega (arith, length-sixteen (n .first) (n .second))))
+    ∙ length-sixteen (n .first) (n .second)
 
 pub two-most : (n : Name) → twoLines n ≤ 45
 unfolding twoLines

@@ -1,3 +1,14 @@
+-- `sheet::print::names_fit` meets its contract. The invariant: whether all are names is whether those from i on are. Assumes nothing.
+use Rattle.sheet.proofs.Printing.{good-next}
+use Rattle.sheet.proofs.Parts.{part-end}
+use Rattle.sheet.specs.Sheet.{blank, goodNames}
+use Rattle.quant.proofs.Judging.{taken, passed}
+use lib.ListN.{take, drop}
+use native.Mathlib.Numerals.{add-one}
+use mathlib.Core.Bool.{true, false}
+use mathlib.Core.Path.{_≡_, refl, sym, ap, _∙_}
+use native.Mathlib.Omega.{arith}
+use Prim.Native.Nat.{_-_, _≤_}
 use borrow.Author.Needs.{needs}
 use Rattle.sheet.proofs.print.names_fit.Statement.{statement}
 use Rattle.sheet.proofs.print.names_fit.Tie as tie
@@ -6,13 +17,13 @@ use Rattle.sheet.proofs.print.names_fit.Lts as lts
 use Rattle.quant.proofs.name.is_name.Reads as is-name-reads
 
 abbrev Inv-loop : tie.InvT-loop
-Inv-loop count names i₀ i = ?
+Inv-loop count names i₀ i = (i ≤ count) × (goodNames (take count names) ≡ goodNames (drop i (take count names)))
 
 abbrev μ-loop : tie.MeasureT-loop
-μ-loop count names i₀ i = ?
+μ-loop count names i₀ i = count - i
 
 loop-holds : tie.Need-loop-holds Inv-loop μ-loop
-loop-holds c = search needs
+loop-holds c = (omega arith, refl)
 
 mul-is-name : tie.Need-mul-is-name Inv-loop μ-loop
 mul-is-name c = search needs
@@ -24,7 +35,11 @@ is-name-requires : tie.Need-is-name-requires Inv-loop μ-loop
 is-name-requires c κs = search needs
 
 returns : tie.Need-returns Inv-loop μ-loop
-returns c = search needs
+unfolding blank
+returns c =
+    let p = c .before .before .before .before .before .args in
+    let at = c .before .before .before .before .loop in
+    sym (at .inv .1 ∙ good-next (p .t1) (p .count) (omega arith) (at .i) blank (omega arith) ∙ rw (taken _ _ (c .before .is-name .ensures) (c .if1 .taken)))
 
 add-i : tie.Need-add-i Inv-loop μ-loop
 add-i c = search needs
@@ -33,10 +48,18 @@ loop-less : tie.Need-loop-less Inv-loop μ-loop
 loop-less c = search needs
 
 loop-again : tie.Need-loop-again Inv-loop μ-loop
-loop-again c = search needs
+unfolding blank
+loop-again c =
+    let p = c .before .before .before .before .before .args in
+    let at = c .before .before .before .before .loop in
+    (omega arith, at .inv .1 ∙ good-next (p .t1) (p .count) (omega arith) (at .i) blank (omega arith) ∙ rw (passed _ _ (c .before .is-name .ensures) (c .if1 .left), add-one))
 
 returns-2 : tie.Need-returns-2 Inv-loop μ-loop
-returns-2 c = search needs
+unfolding goodNames
+returns-2 c =
+    let p = c .before .before .args in
+    let at = c .before .loop in
+    sym (at .inv .1 ∙ rw (part-end (p .t1) (p .count) (omega arith) (at .i) (omega arith)))
 
 pub names-fit-spec : {M : Type 1} → statement M
 names-fit-spec =

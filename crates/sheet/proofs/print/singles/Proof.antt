@@ -1,3 +1,13 @@
+-- `sheet::print::singles` meets its contract. The invariant: whether no name is doubled is whether none from i on is. Assumes nothing.
+use Rattle.sheet.proofs.Printing.{single-next}
+use Rattle.sheet.proofs.Parts.{part-end}
+use Rattle.sheet.specs.Sheet.{blank, single}
+use lib.ListN.{take, drop}
+use native.Mathlib.Numerals.{add-one}
+use mathlib.Core.Bool.{true, false}
+use mathlib.Core.Path.{_≡_, refl, sym, ap, _∙_}
+use native.Mathlib.Omega.{arith}
+use Prim.Native.Nat.{_-_, _≤_}
 use borrow.Author.Needs.{needs}
 use Rattle.sheet.proofs.print.singles.Statement.{statement}
 use Rattle.sheet.proofs.print.singles.Tie as tie
@@ -6,13 +16,13 @@ use Rattle.sheet.proofs.print.singles.Lts as lts
 use Rattle.sheet.proofs.names.stands_in.Reads as stands-in-reads
 
 abbrev Inv-loop : tie.InvT-loop
-Inv-loop count names i₀ i = ?
+Inv-loop count names i₀ i = (i ≤ count) × (single (take count names) ≡ single (drop i (take count names)))
 
 abbrev μ-loop : tie.MeasureT-loop
-μ-loop count names i₀ i = ?
+μ-loop count names i₀ i = count - i
 
 loop-holds : tie.Need-loop-holds Inv-loop μ-loop
-loop-holds c = search needs
+loop-holds c = (omega arith, refl)
 
 mul-stands-in : tie.Need-mul-stands-in Inv-loop μ-loop
 mul-stands-in c = search needs
@@ -27,7 +37,12 @@ stands-in-requires : tie.Need-stands-in-requires Inv-loop μ-loop
 stands-in-requires c κs = search needs
 
 returns : tie.Need-returns Inv-loop μ-loop
-returns c = search needs
+unfolding blank
+returns c =
+    let p = c .before .before .before .before .before .args in
+    let at = c .before .before .before .before .loop in
+    let next = rw (← add-one) at (single-next (p .t1) (p .count) (omega arith) (at .i) blank (omega arith)) in
+    sym (at .inv .1 ∙ next ∙ rw (sym (c .before .stands-in .ensures) ∙ c .if1 .taken))
 
 add-i : tie.Need-add-i Inv-loop μ-loop
 add-i c = search needs
@@ -36,10 +51,19 @@ loop-less : tie.Need-loop-less Inv-loop μ-loop
 loop-less c = search needs
 
 loop-again : tie.Need-loop-again Inv-loop μ-loop
-loop-again c = search needs
+unfolding blank
+loop-again c =
+    let p = c .before .before .before .before .before .args in
+    let at = c .before .before .before .before .loop in
+    let next = rw (← add-one) at (single-next (p .t1) (p .count) (omega arith) (at .i) blank (omega arith)) in
+    (omega arith, at .inv .1 ∙ next ∙ rw (sym (c .before .stands-in .ensures) ∙ c .if1 .left))
 
 returns-2 : tie.Need-returns-2 Inv-loop μ-loop
-returns-2 c = search needs
+unfolding single
+returns-2 c =
+    let p = c .before .before .args in
+    let at = c .before .loop in
+    sym (at .inv .1 ∙ rw (part-end (p .t1) (p .count) (omega arith) (at .i) (omega arith)))
 
 pub singles-spec : {M : Type 1} → statement M
 singles-spec =

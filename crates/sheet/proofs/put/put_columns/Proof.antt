@@ -1,3 +1,18 @@
+-- `sheet::put::put_columns` meets its contract. The invariant: putting the lines that are left comes to putting them all. Assumes nothing.
+use Rattle.sheet.proofs.Printing.{columns-line, good-next}
+use Rattle.sheet.proofs.Pasting.{Left, left-all, left-more, left-none, left-room}
+use Rattle.sheet.proofs.Parts.{part-end}
+use Rattle.sheet.specs.Puts.{nameLine}
+use Rattle.sheet.specs.Sheet.{blank, columnKey, goodNames, columnsText}
+use Rattle.quant.specs.declared.name.Name.{Name}
+use Rattle.quant.proofs.Places.{both}
+use lib.ListN.{length, getD, take, drop}
+use mathlib.Core.List.{List}
+use native.Mathlib.Numerals.{add-one}
+use mathlib.Core.Bool.{true, false}
+use mathlib.Core.Path.{_≡_, refl, sym, ap, _∙_}
+use native.Mathlib.Omega.{arith}
+use Prim.Native.Nat.{_-_, _≤_}
 use borrow.Author.Needs.{needs}
 use Rattle.sheet.proofs.put.put_columns.Statement.{statement}
 use Rattle.sheet.proofs.put.put_columns.Tie as tie
@@ -6,13 +21,13 @@ use Rattle.sheet.proofs.put.put_columns.Lts as lts
 use Rattle.sheet.proofs.put.put_column.Reads as put-column-reads
 
 abbrev Inv-loop : tie.InvT-loop
-Inv-loop count out₀ from names at₀ i₀ out at i = ?
+Inv-loop count out₀ from names at₀ i₀ out at i = (i ≤ count) × (goodNames (drop i (take count names)) ≡ true) × Left (columnsText (drop i (take count names))) (columnsText (take count names)) out₀ from at out
 
 abbrev μ-loop : tie.MeasureT-loop
-μ-loop count out₀ from names at₀ i₀ out at i = ?
+μ-loop count out₀ from names at₀ i₀ out at i = count - i
 
 loop-holds : tie.Need-loop-holds Inv-loop μ-loop
-loop-holds c = search needs
+loop-holds c = (omega arith, c .before .pre .1, left-all _ _ _ (c .before .pre .2))
 
 mul-put-column : tie.Need-mul-put-column Inv-loop μ-loop
 mul-put-column c = search needs
@@ -33,7 +48,7 @@ loop-again : tie.Need-loop-again Inv-loop μ-loop
 loop-again c = search needs
 
 same-length : tie.Need-same-length Inv-loop μ-loop
-same-length c = search needs
+same-length c = c .before .loop .inv .2 .long
 
 returns : tie.Need-returns Inv-loop μ-loop
 returns c = search needs

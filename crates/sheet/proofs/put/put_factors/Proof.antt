@@ -1,3 +1,18 @@
+-- `sheet::put::put_factors` meets its contract. The invariant: putting the lines that are left comes to putting them all. Assumes nothing.
+use mathlib.Core.List.{List}
+use Rattle.sheet.proofs.Printing.{factors-line, finite-next, factor-line-long}
+use Rattle.sheet.proofs.Pasting.{Left, left-all, left-more, left-none, left-room}
+use Rattle.sheet.specs.Puts.{factorLine}
+use Rattle.sheet.specs.Sheet.{allFinite, factorsText, patterns}
+use Rattle.quant.proofs.Places.{both}
+use lib.Ieee.Scale.{finite}
+use lib.Ieee.{nan, Float}
+use lib.ListN.{length, getD, drop, drop-of-length-le}
+use native.Mathlib.Numerals.{add-one}
+use mathlib.Core.Bool.{true, false}
+use mathlib.Core.Path.{_≡_, refl, sym, ap, _∙_}
+use native.Mathlib.Omega.{arith}
+use Prim.Native.Nat.{_-_, _≤_}
 use borrow.Author.Needs.{needs}
 use Rattle.sheet.proofs.put.put_factors.Statement.{statement}
 use Rattle.sheet.proofs.put.put_factors.Tie as tie
@@ -6,13 +21,13 @@ use Rattle.sheet.proofs.put.put_factors.Lts as lts
 use Rattle.sheet.proofs.put.put_factor.Reads as put-factor-reads
 
 abbrev Inv-loop : tie.InvT-loop
-Inv-loop numbers out₀ from at₀ i₀ out at i = ?
+Inv-loop numbers out₀ from at₀ i₀ out at i = (i ≤ length numbers) × (allFinite (drop i numbers) ≡ true) × Left (factorsText (patterns (drop i numbers))) (factorsText (patterns numbers)) out₀ from at out
 
 abbrev μ-loop : tie.MeasureT-loop
-μ-loop numbers out₀ from at₀ i₀ out at i = ?
+μ-loop numbers out₀ from at₀ i₀ out at i = length numbers - i
 
 loop-holds : tie.Need-loop-holds Inv-loop μ-loop
-loop-holds c = search needs
+loop-holds c = (omega arith, c .before .before .pre .0, left-all _ _ _ (c .before .before .pre .1))
 
 mul-put-factor : tie.Need-mul-put-factor Inv-loop μ-loop
 mul-put-factor c = search needs
@@ -21,7 +36,11 @@ shared-slice-read-put-factor : tie.Need-shared-slice-read-put-factor Inv-loop μ
 shared-slice-read-put-factor c = search needs
 
 put-factor-requires : tie.Need-put-factor-requires Inv-loop μ-loop
-put-factor-requires c κs = search needs
+put-factor-requires c κs =
+    let numbers = c .before .before .before .before .before .before .args .numbers .now in
+    let at = c .before .before .before .loop in
+    let room = left-room (factorLine (getD numbers (at .i) nan)) _ (factors-line numbers (at .i) (omega arith)) (at .inv .2) in
+    (both _ _ (sym (finite-next numbers (at .i) (omega arith)) ∙ at .inv .1) .0, omega (arith, room, factor-line-long (getD numbers (at .i) nan)))
 
 add-i : tie.Need-add-i Inv-loop μ-loop
 add-i c = search needs
@@ -30,13 +49,24 @@ loop-less : tie.Need-loop-less Inv-loop μ-loop
 loop-less c = search needs
 
 loop-again : tie.Need-loop-again Inv-loop μ-loop
-loop-again c = search needs
+loop-again c =
+    let numbers = c .before .before .before .before .before .before .before .before .before .args .numbers .now in
+    let at = c .before .before .before .before .before .before .loop in
+    (
+      omega arith,
+      rw add-one (both _ _ (sym (finite-next numbers (at .i) (omega arith)) ∙ at .inv .1) .1),
+      rw add-one (left-more (factors-line numbers (at .i) (omega arith)) (at .inv .2) (c .before .before .put-factor .ensures) (c .before .before .put-factor .kept .1 .0)),
+    )
 
 same-length : tie.Need-same-length Inv-loop μ-loop
-same-length c = search needs
+same-length c = c .before .loop .inv .2 .long
 
 returns : tie.Need-returns Inv-loop μ-loop
-returns c = search needs
+unfolding factorsText patterns
+returns c =
+    let numbers = c .before .before .before .before .args .numbers .now in
+    let at = c .before .loop in
+    left-none (ap (λ (l : List Float). factorsText (patterns l)) (drop-of-length-le numbers {i = at .i} (omega arith))) (at .inv .2)
 
 pub put-factors-spec : {M : Type 1} → statement M
 put-factors-spec =

@@ -45,14 +45,14 @@ refused-requires c κs = search needs
 
 returns : tie.Need-returns
 unfolding matrixOf
-returns c = of-outcome (long _ _ (c .before .if1 .taken)) (c .refused .ensures) refl
+returns c = of-outcome (long (c .before .before .before .before .args .text .now) (c .before .before .before .before .args .matrix .now) (c .before .if1 .taken)) (c .refused .ensures) refl
 
 refused-requires-2 : tie.Need-refused-requires-2
 refused-requires-2 c κs = search needs
 
 returns-2 : tie.Need-returns-2
 unfolding matrixOf
-returns-2 c = of-outcome (short _ _ (c .before .if2 .taken)) (c .refused2 .ensures) refl
+returns-2 c = of-outcome (short (c .before .before .before .before .before .args .text .now) (c .before .before .before .before .before .args .matrix .now) (c .before .if2 .taken)) (c .refused2 .ensures) refl
 
 lines-of-requires : tie.Need-lines-of-requires
 lines-of-requires c κs = search needs
@@ -77,14 +77,16 @@ same-length c = c .before .before .before .fill .kept .1 .0
 
 returns-3 : tie.Need-returns-3
 returns-3 c =
+    let p = c .before .before .before .before .before .before .before .before .before .before .before .before .before .args in
     let made = ap (λ (v : Verdict). ends v (c .before .before .before .before .before .before .before .before .lines-of .result .line) (c .before .before .before .before .before .before .before .before .lines-of .result .state)) (sym (c .before .before .before .before .before .before .enum-told .given .1)) in
-    of-outcome (fits _ _ (omega arith) (omega arith) ∙ sym (made ∙ c .before .before .before .before .before .before .before .before .lines-of .ensures .is)) (c .accepted .ensures) (c .before .before .before .fill .ensures)
+    of-outcome (fits (p .text .now) (p .matrix .now) (omega arith) (omega arith) ∙ sym (made ∙ c .before .before .before .before .before .before .before .before .lines-of .ensures .is)) (c .accepted .ensures) (c .before .before .before .fill .ensures)
 
 returns-4 : tie.Need-returns-4
 unfolding matrixOf
 returns-4 c =
+    let p = c .before .before .before .before .before .before .before .before .before .args in
     let made = ap (λ (v : Verdict). ends v (c .before .before .before .before .lines-of .result .line) (c .before .before .before .before .lines-of .result .state)) (sym (c .before .before .verdict .given .1)) in
-    of-outcome (fits _ _ (omega arith) (omega arith) ∙ sym (made ∙ c .before .before .before .before .lines-of .ensures .is)) (c .refused3 .ensures) refl
+    of-outcome (fits (p .text .now) (p .matrix .now) (omega arith) (omega arith) ∙ sym (made ∙ c .before .before .before .before .lines-of .ensures .is)) (c .refused3 .ensures) refl
 
 pub read-spec : {M : Type 1} → statement M
 read-spec =
