@@ -21,7 +21,7 @@ use Rattle.sheet.specs.Puts.{pasted}
 use Rattle.sheet.specs.declared.state.State.{State}
 use Rattle.sheet.proofs.Among.{is-in}
 use Rattle.sheet.proofs.Each.{each, same-self}
-use Rattle.sheet.proofs.Parts.{part-cons, part-end, part-of}
+use Rattle.sheet.proofs.Parts.{part-cons, part-end, part-of, row-within}
 use Rattle.sheet.proofs.Pasting.{none-pasted, two-pasted}
 use Rattle.sheet.proofs.Steps.{complete-is, columns-read, rows-read}
 
@@ -163,20 +163,16 @@ module _ (count : ℕ) (columns rows : List Name) (factors : List ℕ) (r : Read
       found (getD columns c d)
       (rw (getD-take count columns c d h) at (among-at (take count rows) (take count columns) c d (r .all) (rw within h)))
 
-  -- a row's factors are all there
-  pub row-within : (p : ℕ) → p < count → p * count + count ≤ count * count
-  row-within p h = omega (arith, suc-mul p count, mul-le-mul {n₁ = suc p} {m₁ = count} {n₂ = count} {m₂ = count} h (omega arith))
-
   pub under-is : (n : Name) → position n (take count rows) < count
       → under (whole count columns rows factors) n ≡ take count (drop (position n (take count rows) * count) factors)
   unfolding under
-  under-is n h = part-of factors (position n (take count rows) * count) count (count * count) (row-within (position n (take count rows)) h)
+  under-is n h = part-of factors (position n (take count rows) * count) count (count * count) (row-within count (position n (take count rows)) h)
 
   under-long : (n : Name) → position n (take count rows) < count → length (under (whole count columns rows factors) n) ≡ count
   under-long n h =
       ap length (under-is n h)
       ∙ length-take-le count (drop (position n (take count rows) * count) factors)
-      (rw length-drop (omega (arith, r .factors-long, r .square, row-within (position n (take count rows)) h)))
+      (rw length-drop (omega (arith, r .factors-long, r .square, row-within count (position n (take count rows)) h)))
 
   rows-long : (ns : List Name) → among (take count rows) ns ≡ true → length (rowsFor (whole count columns rows factors) ns) ≡ length ns * count
   unfolding among rowsFor
@@ -211,9 +207,9 @@ module _ (count : ℕ) (columns rows : List Name) (factors : List ℕ) (r : Read
       ∙ doubles-append (under (whole count columns rows factors) n) rest
       ∙ ap (λ (l : List ℕ). doubles l ++ doubles rest) (under-is n p) in
       let size : length row ≡ count =
-      row-long factors (position n (take count rows) * count) count (omega (arith, r .factors-long, r .square, row-within (position n (take count rows)) p)) in
+      row-long factors (position n (take count rows) * count) count (omega (arith, r .factors-long, r .square, row-within count (position n (take count rows)) p)) in
       let place : c * count + length row ≡ (c + 1) * count = rw (size, add-one) (omega (arith, suc-mul c count)) in
-      let start : c * count ≤ length matrix = omega (arith, r .square, row-within c h) in
+      let start : c * count ≤ length matrix = omega (arith, r .square, row-within count c h) in
       ap (λ (l : List Float). pasted matrix (c * count) l) split
       ∙ sym (two-pasted matrix (c * count) start row (doubles rest))
       ∙ ap (λ (k : ℕ). pasted (pasted matrix (c * count) row) k (doubles rest)) place

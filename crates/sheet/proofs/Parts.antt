@@ -1,8 +1,9 @@
 -- The first so many elements of a list, walked from a place on; and a part of a part. Assumes nothing.
-use Prim.Native.Nat.{ℕ, zero, suc, _+_, _≤_, _<_}
+use Prim.Native.Nat.{ℕ, zero, suc, _+_, _*_, _≤_, _<_}
 use mathlib.Core.Path.{_≡_, refl, ap, _∙_}
 use mathlib.Core.List.{List, [], _∷_}
 use native.Mathlib.Omega.{arith}
+use native.Mathlib.Nat.{mul-le-mul, suc-mul}
 use lib.ListN.{length, getD, take, drop, drop-of-length-le}
 use lib.Seq.{drop-cons, getD-take, length-take-le, take-take}
 
@@ -24,3 +25,7 @@ module _ {A : Type 0} where
       never k = omega arith
   part-of [] (suc from) n (suc m) h = refl
   part-of (x ∷ l) (suc from) n (suc m) h = part-of l from n m (omega arith)
+
+-- a row of a square is within it
+pub row-within : (count row : ℕ) → row < count → row * count + count ≤ count * count
+row-within count row h = omega (arith, suc-mul row count, mul-le-mul {n₁ = suc row} {m₁ = count} {n₂ = count} {m₂ = count} h (omega arith))

@@ -12,14 +12,14 @@ slice-aggregate-put-name c = search needs
 
 put-name-requires : tie.Need-put-name-requires
 unfolding columnKey
-put-name-requires c κs = c .before .before .before .before .pre
+put-name-requires c κs = c .before .before .before .pre
 
 same-length : tie.Need-same-length
 same-length c = search needs
 
 returns : tie.Need-returns
 unfolding columnKey
-returns c = ?
+returns c = c .before .before .put-name .ensures
 
 pub put-column-spec : {M : Type 1} → statement M
 put-column-spec =

@@ -1,4 +1,5 @@
 -- `sheet::put::put_columns` meets its contract. The invariant: putting the lines that are left comes to putting them all. Assumes nothing.
+use Rattle.quant.specs.Name.{isName}
 use Rattle.sheet.proofs.Printing.{columns-line, good-next}
 use Rattle.sheet.proofs.Pasting.{Left, left-all, left-more, left-none, left-room}
 use Rattle.sheet.proofs.Parts.{part-end}
@@ -36,7 +37,15 @@ array-copy-out-put-column : tie.Need-array-copy-out-put-column Inv-loop μ-loop
 array-copy-out-put-column c = search needs
 
 put-column-requires : tie.Need-put-column-requires Inv-loop μ-loop
-put-column-requires c κs = search needs
+unfolding blank
+put-column-requires c κs =
+    let p = c .before .before .before .before .before .args in
+    let at = c .before .before .before .loop in
+    let n = getD (p .t1) (at .i) blank in
+    (
+      both (isName n) _ (sym (good-next (p .t1) (p .count) (omega arith) (at .i) blank (omega arith)) ∙ at .inv .1) .0,
+      left-room (nameLine columnKey n) _ (columns-line (p .t1) (p .count) (omega arith) (at .i) blank (omega arith)) (at .inv .2),
+    )
 
 add-i : tie.Need-add-i Inv-loop μ-loop
 add-i c = search needs
@@ -45,13 +54,27 @@ loop-less : tie.Need-loop-less Inv-loop μ-loop
 loop-less c = search needs
 
 loop-again : tie.Need-loop-again Inv-loop μ-loop
-loop-again c = search needs
+unfolding blank
+loop-again c =
+    let p = c .before .before .before .before .before .before .before .before .args in
+    let at = c .before .before .before .before .before .before .loop in
+    let n = getD (p .t1) (at .i) blank in
+    (
+      omega arith,
+      rw add-one (both (isName n) _ (sym (good-next (p .t1) (p .count) (omega arith) (at .i) blank (omega arith)) ∙ at .inv .1) .1),
+      rw add-one
+      (left-more (columns-line (p .t1) (p .count) (omega arith) (at .i) blank (omega arith)) (at .inv .2) (c .before .before .put-column .ensures) (c .before .before .put-column .kept .1 .0)),
+    )
 
 same-length : tie.Need-same-length Inv-loop μ-loop
 same-length c = c .before .loop .inv .2 .long
 
 returns : tie.Need-returns Inv-loop μ-loop
-returns c = search needs
+unfolding columnsText
+returns c =
+    let p = c .before .before .before .args in
+    let at = c .before .loop in
+    left-none (ap columnsText (part-end (p .t1) (p .count) (omega arith) (at .i) (omega arith))) (at .inv .2)
 
 pub put-columns-spec : {M : Type 1} → statement M
 put-columns-spec =

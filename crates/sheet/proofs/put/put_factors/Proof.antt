@@ -9,7 +9,7 @@ use lib.Ieee.Scale.{finite}
 use lib.Ieee.{nan, Float}
 use lib.ListN.{length, getD, drop, drop-of-length-le}
 use native.Mathlib.Numerals.{add-one}
-use mathlib.Core.Bool.{true, false}
+use mathlib.Core.Bool.{true, false, _&&_}
 use mathlib.Core.Path.{_≡_, refl, sym, ap, _∙_}
 use native.Mathlib.Omega.{arith}
 use Prim.Native.Nat.{_-_, _≤_}
@@ -39,8 +39,12 @@ put-factor-requires : tie.Need-put-factor-requires Inv-loop μ-loop
 put-factor-requires c κs =
     let numbers = c .before .before .before .before .before .before .args .numbers .now in
     let at = c .before .before .before .loop in
-    let room = left-room (factorLine (getD numbers (at .i) nan)) _ (factors-line numbers (at .i) (omega arith)) (at .inv .2) in
-    (both _ _ (sym (finite-next numbers (at .i) (omega arith)) ∙ at .inv .1) .0, omega (arith, room, factor-line-long (getD numbers (at .i) nan)))
+    let x = getD numbers (at .i) nan in
+    let room = left-room (factorLine x) _ (factors-line numbers (at .i) (omega arith)) (at .inv .2) in
+    (
+      both (finite x) _ (sym (finite-next numbers (at .i) (omega arith)) ∙ at .inv .1) .0,
+      omega (arith, room, factor-line-long x),
+    )
 
 add-i : tie.Need-add-i Inv-loop μ-loop
 add-i c = search needs
@@ -54,7 +58,7 @@ loop-again c =
     let at = c .before .before .before .before .before .before .loop in
     (
       omega arith,
-      rw add-one (both _ _ (sym (finite-next numbers (at .i) (omega arith)) ∙ at .inv .1) .1),
+      rw add-one (both (finite (getD numbers (at .i) nan)) _ (sym (finite-next numbers (at .i) (omega arith)) ∙ at .inv .1) .1),
       rw add-one (left-more (factors-line numbers (at .i) (omega arith)) (at .inv .2) (c .before .before .put-factor .ensures) (c .before .before .put-factor .kept .1 .0)),
     )
 

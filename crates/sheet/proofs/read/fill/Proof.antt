@@ -1,7 +1,8 @@
 -- `sheet::read::fill` meets its contract. The invariant: pasting the rows of the columns that are left gives what pasting them all gave. Assumes nothing.
 use native.Mathlib.Nat.{zero-add}
 use Rattle.sheet.specs.Sheet.{blank, matrixOf, SoFar, accepts}
-use Rattle.sheet.proofs.Filling.{Ready, left, Filled, filled-none, filled-more, filled-end, column-found, row-within, whole-is}
+use Rattle.sheet.proofs.Filling.{Ready, left, Filled, filled-none, filled-more, filled-end, column-found, whole-is}
+use Rattle.sheet.proofs.Parts.{row-within}
 use Rattle.sheet.specs.Puts.{pasted}
 use lib.ListN.{length, getD, take}
 use mathlib.Core.Path.{_≡_, refl, sym, _∙_, ap}
@@ -42,14 +43,14 @@ row-fits c =
     let ready = at .inv .ready in
     let found = column-found (s .count) (s .columns) (s .rows) (s .factors) ready (at .c) blank (omega arith) in
     let here : c .place .result < s .count = omega (arith, c .place .ensures) in
-    omega (arith, ready .square, row-within (s .count) (s .columns) (s .rows) (s .factors) ready (c .place .result) here)
+    omega (arith, ready .square, row-within (s .count) (c .place .result) here)
 
 place-fits : (c : tie.After-place Inv-loop μ-loop) → c .before .before .before .loop .c * c .before .before .before .before .before .before .before .before .args .s .count + c .before .before .before .before .before .before .before .before .args .s .count ≤ length (c .before .before .before .loop .matrix)
 place-fits c =
     let s = c .before .before .before .before .before .before .before .before .args .s in
     let at = c .before .before .before .loop in
     let ready = at .inv .ready in
-    omega (arith, ready .square, at .inv .room, at .inv .long, row-within (s .count) (s .columns) (s .rows) (s .factors) ready (at .c) (omega arith))
+    omega (arith, ready .square, at .inv .room, at .inv .long, row-within (s .count) (at .c) (omega arith))
 
 mul-copy-row : tie.Need-mul-copy-row Inv-loop μ-loop
 mul-copy-row c = omega (arith, row-fits c, c .before .before .before .before .before .before .before .before .pre)
