@@ -6,8 +6,8 @@ use mathlib.Core.List.{List, [], _∷_, _++_, append-assoc}
 use native.Mathlib.Omega.{arith}
 use native.Mathlib.Nat.{add-assoc, mul-le-mul, suc-mul, zero-mul}
 use native.Mathlib.Numerals.{add-one}
-use borrow.Author.Tests.{le-leb}
-use lib.Dec.{T}
+use borrow.Author.Tests.{le-leb, leb-true}
+use lib.Dec.{T, leb}
 use lib.Ieee.{Float, binary64, toBits, nan, inf, fin, isNan}
 use lib.Ieee.Scale.{finite}
 use lib.ListN.{length, getD, take, drop, length-append, length-drop}
@@ -17,10 +17,13 @@ use Rattle.hex.proofs.Number.{length-digits}
 use Rattle.quant.specs.Name as quant
 use Rattle.quant.specs.Name.{bytesOf, sixteen, isName, sameName}
 use Rattle.quant.specs.declared.name.Name.{Name}
+use Rattle.quant.specs.declared.refusal.Refusal.the-variants.{Malformed, WrongSize, Crosstalk}
 use Rattle.quant.proofs.Naming.{well-formed, length-bytes, writes}
 use Rattle.quant.proofs.Places.{both}
 use Rattle.quant.proofs.Words.{length-sixteen}
-use Rattle.sheet.specs.Sheet.{channelsKey, columnKey, rowKey, factorKey, isIn, goodNames, single, allFinite, patterns, countText, columnsText, factorsText, blocksText, blocksOf, sheetOf, sheetText}
+use Rattle.rows.specs.Rows as rows
+use Rattle.sheet.specs.Sheet.{channelsKey, columnKey, rowKey, factorKey, isIn, goodNames, single, allFinite, patterns, countText, columnsText, factorsText, blocksText, blocksOf, sheetOf, sheetText, printFits, printedOf, bytesAfter, Print}
+use Rattle.sheet.specs.declared.print.Printed.{Printed}
 use Rattle.sheet.specs.Puts.{Put, nameLine, factorLine, blockText, twoLines, namesSize}
 use Rattle.sheet.proofs.Parts.{part-cons, part-end}
 
@@ -174,14 +177,78 @@ lines-long count (n ∷ l) matrix h =
     let others = lines-long count l (drop count matrix) (rw length-drop (omega arith)) in
     omega arith
 
-pub text-long : (count : ℕ) (names : List Name) (matrix : List Float) → count ≤ length names → count * count ≤ length matrix
-    → length (sheetText (sheetOf count names matrix)) ≡ 11 + 24 * (count * count) + namesSize (take count names)
-unfolding sheetText sheetOf countText channelsKey
-text-long count names matrix h k =
-    let l : List Name = take count names in
-    let size : length l ≡ count = length-take-le count names h in
-    let first = length-append (countText (length l) ++ columnsText l) (blocksText (blocksOf count l matrix)) in
-    let second = length-append (countText (length l)) (columnsText l) in
-    let lines : length (columnsText l) + length (blocksText (blocksOf count l matrix)) ≡ namesSize l + 24 * (count * count) =
-    rw size at (lines-long count l matrix (rw size k)) in
-    omega arith
+module _ (count : ℕ) (names : List Name) (matrix : List Float) (within : count ≤ length names) where
+  pub text-is : sheetText (sheetOf count names matrix)
+      ≡ countText count ++ columnsText (take count names) ++ blocksText (blocksOf count (take count names) matrix)
+  unfolding sheetText sheetOf
+  text-is = rw (length-take-le count names within)
+
+  pub text-parts : length (sheetText (sheetOf count names matrix))
+      ≡ 11 + length (columnsText (take count names)) + length (blocksText (blocksOf count (take count names) matrix))
+  unfolding countText channelsKey
+  text-parts =
+      ap length text-is
+      ∙ length-append (countText count ++ columnsText (take count names)) (blocksText (blocksOf count (take count names) matrix))
+      ∙ rw (length-append (countText count) (columnsText (take count names)))
+
+  pub text-long : count * count ≤ length matrix
+      → length (sheetText (sheetOf count names matrix)) ≡ 11 + 24 * (count * count) + namesSize (take count names)
+  text-long h =
+      let size = length-take-le count names within in
+      let lines = rw size at (lines-long count (take count names) matrix (rw size h)) in
+      omega (arith, text-parts)
+
+-- ---- the answer
+
+-- the same test, as rows of samples are judged
+pub same-finite : (l : List Float) → rows.allFinite l ≡ allFinite l
+unfolding rows.allFinite allFinite
+same-finite [] = refl
+same-finite (x ∷ l) = ap (λ (t : Bool). finite x && t) (same-finite l)
+
+-- what `printFits` says
+pub record Sized (count : ℕ) (names : List Name) (matrix : List Float) (room : ℕ) : Type 0 where
+  pub most : count ≤ 8
+  pub numbers : count * count ≤ length matrix
+  pub text : length (sheetText (sheetOf count names matrix)) ≤ room
+
+pub sized : (count : ℕ) (names : List Name) (matrix : List Float) (room : ℕ) → printFits count names matrix room ≡ true → Sized count names matrix room
+unfolding printFits
+sized count names matrix room e =
+    let outer = both _ (leb (length (sheetText (sheetOf count names matrix))) room) e in
+    let middle = both _ (leb (count * count) (length matrix)) (outer .0) in
+    let inner = both (leb 1 count) (leb count 8) (middle .0) in
+    record {
+      most = leb-true count 8 (inner .1);
+      numbers = leb-true (count * count) (length matrix) (middle .1);
+      text = leb-true (length (sheetText (sheetOf count names matrix))) room (outer .1);
+    }
+
+module _ (count : ℕ) (names : List Name) (matrix : List Float) (before : List ℕ) where
+  pub of-printed : (r : Printed) (after : List ℕ) → printedOf count names matrix (length before) ≡ r
+      → after ≡ bytesAfter count names matrix r before → Print count names matrix before r after
+  of-printed r after e m = record { answered = sym e; left = rw e m }
+
+  pub no-room : printFits count names matrix (length before) ≡ false → printedOf count names matrix (length before) ≡ Printed.Refused WrongSize
+  unfolding printedOf
+  no-room e = rw e
+
+  module _ (e : printFits count names matrix (length before) ≡ true) where
+    pub bad-name : goodNames (take count names) ≡ false → printedOf count names matrix (length before) ≡ Printed.Refused Malformed
+    unfolding printedOf
+    bad-name g = rw (e, g)
+
+    module _ (g : goodNames (take count names) ≡ true) where
+      pub bad-number : allFinite (take (count * count) matrix) ≡ false → printedOf count names matrix (length before) ≡ Printed.Refused Malformed
+      unfolding printedOf
+      bad-number f = rw (e, g, f)
+
+      module _ (f : allFinite (take (count * count) matrix) ≡ true) where
+        pub doubled : single (take count names) ≡ false → printedOf count names matrix (length before) ≡ Printed.Refused Crosstalk
+        unfolding printedOf
+        doubled d = rw (e, g, f, d)
+
+        pub printed : single (take count names) ≡ true
+            → printedOf count names matrix (length before) ≡ Printed.Bytes (length (sheetText (sheetOf count names matrix)))
+        unfolding printedOf
+        printed d = rw (e, g, f, d)
