@@ -1,12 +1,16 @@
 -- `sheet::print::print` meets its contract: its tests are the definition's in their order, and then the whole text is put. Assumes nothing.
-use Rattle.sheet.proofs.Printing.{same-finite, sized, of-printed, no-room, bad-name, bad-number, doubled, printed}
-use Rattle.sheet.specs.Sheet.{allFinite, bytesAfter, printFits, goodNames, single}
+use Rattle.sheet.specs.declared.print.Printed.{Printed}
+use mathlib.Core.List.{_++_}
+use Rattle.sheet.specs.Puts.{Printable}
+use Prim.Native.Nat.{_*_, _≤_}
+use Rattle.sheet.proofs.Printing.{same-finite, sized, of-printed, no-room, bad-name, bad-number, doubled, printed, Sized}
+use Rattle.sheet.specs.Sheet.{allFinite, bytesAfter, printFits, goodNames, single, sheetText, sheetOf}
 use lib.Seq.{length-take-le}
-use lib.ListN.{length, take}
-use native.Mathlib.Nat.{mul-le-mul}
+use lib.ListN.{length, take, drop}
+use native.Mathlib.Nat.{mul-le-mul, zero-add}
 use mathlib.Core.Bool.{true, false}
 use Rattle.quant.proofs.Judging.{taken, passed}
-use mathlib.Core.Path.{_≡_, refl, sym, ap, _∙_}
+use mathlib.Core.Path.{_≡_, refl, sym, ap, _∙_, subst}
 use native.Mathlib.Omega.{arith}
 use borrow.Author.Needs.{needs}
 use Rattle.sheet.proofs.print.print.Statement.{statement}
@@ -19,6 +23,24 @@ use Rattle.sheet.proofs.print.singles.Reads as singles-reads
 use Rattle.sheet.proofs.print.sizes_fit.Reads as sizes-fit-reads
 use Rattle.sheet.proofs.put.put_sheet.Reads as put-sheet-reads
 
+-- what is known behind each test
+fit : (c : tie.Else1) → printFits (c .before .before .before .before .args .count) (c .before .before .before .before .args .names) (c .before .before .before .before .args .matrix .now) (length (c .before .before .before .before .args .out .now)) ≡ true
+fit c = passed _ _ (c .before .sizes-fit .ensures) (c .if1 .left)
+
+sizes : (c : tie.Else1) → Sized (c .before .before .before .before .args .count) (c .before .before .before .before .args .names) (c .before .before .before .before .args .matrix .now) (length (c .before .before .before .before .args .out .now))
+sizes c = sized _ _ _ _ (fit c)
+
+square : (c : tie.Else1) → c .before .before .before .before .args .count * c .before .before .before .before .args .count ≤ 64
+square c =
+    let count = c .before .before .before .before .args .count in
+    omega (arith, mul-le-mul {n₁ = count} {m₁ = count} {n₂ = 8} {m₂ = 8} (sizes c .most) (sizes c .most))
+
+named : (c : tie.Else2) → goodNames (take (c .before .before .before .before .before .before .args .count) (c .before .before .before .before .before .before .args .names)) ≡ true
+named c = passed _ _ (c .before .names-fit .ensures) (c .if2 .left)
+
+fine : (c : tie.Else3) → allFinite (take (c .before .before .before .before .before .before .before .before .before .args .count * c .before .before .before .before .before .before .before .before .before .args .count) (c .before .before .before .before .before .before .before .before .before .args .matrix .now)) ≡ true
+fine c = passed _ _ (c .before .all-finite .ensures ∙ same-finite _) (c .if3 .left)
+
 sizes-fit-requires : tie.Need-sizes-fit-requires
 sizes-fit-requires c κs = search needs
 
@@ -27,37 +49,65 @@ unfolding bytesAfter
 returns c = of-printed _ _ _ _ _ _ (no-room (c .before .before .before .before .args .count) (c .before .before .before .before .args .names) (c .before .before .before .before .args .matrix .now) (c .before .before .before .before .args .out .now) (taken _ _ (c .before .sizes-fit .ensures) (c .if1 .taken))) refl
 
 names-fit-requires : tie.Need-names-fit-requires
-names-fit-requires c κs = ?
+names-fit-requires c κs = sizes c .most
 
 returns-2 : tie.Need-returns-2
-returns-2 c = ?
+unfolding bytesAfter
+returns-2 c =
+    let p = c .before .before .before .before .before .before .args in
+    of-printed _ _ _ _ _ _ (bad-name (p .count) (p .names) (p .matrix .now) (p .out .now) (fit (c .before .before)) (taken _ _ (c .before .names-fit .ensures) (c .if2 .taken))) refl
 
 mul-all-finite : tie.Need-mul-all-finite
-mul-all-finite c = ?
+mul-all-finite c = omega (arith, square (c .before .before))
 
 slice-aggregate-all-finite : tie.Need-slice-aggregate-all-finite
-slice-aggregate-all-finite c = ?
+slice-aggregate-all-finite c = sym (length-take-le (c .before .before .before .before .before .before .before .args .count * c .before .before .before .before .before .before .before .args .count) (c .before .before .before .before .before .before .before .args .matrix .now) (sizes (c .before .before .before) .numbers))
 
 all-finite-requires : tie.Need-all-finite-requires
 all-finite-requires c κs = search needs
 
 returns-3 : tie.Need-returns-3
-returns-3 c = ?
+unfolding bytesAfter
+returns-3 c =
+    let p = c .before .before .before .before .before .before .before .before .before .args in
+    let others = taken _ _ (c .before .all-finite .ensures ∙ same-finite (take (p .count * p .count) (p .matrix .now))) (c .if3 .taken) in
+    of-printed _ _ _ _ _ _
+    (bad-number (p .count) (p .names) (p .matrix .now) (p .out .now) (fit (c .before .before .before .before .before)) (named (c .before .before .before)) others)
+    refl
 
 singles-requires : tie.Need-singles-requires
-singles-requires c κs = ?
+singles-requires c κs = sizes (c .before .before .before .before .before) .most
 
 returns-4 : tie.Need-returns-4
-returns-4 c = ?
+unfolding bytesAfter
+returns-4 c =
+    let p = c .before .before .before .before .before .before .before .before .before .before .before .args in
+    let else3 = c .before .before in
+    let else1 = else3 .before .before .before .before .before in
+    of-printed _ _ _ _ _ _
+    (doubled (p .count) (p .names) (p .matrix .now) (p .out .now) (fit else1) (named (else3 .before .before .before)) (fine else3) (taken _ _ (c .before .singles .ensures) (c .if4 .taken)))
+    refl
 
 put-sheet-requires : tie.Need-put-sheet-requires
-put-sheet-requires c κs = ?
+put-sheet-requires c κs =
+    let else3 = c .before .before .before in
+    let s = sizes (else3 .before .before .before .before .before) in
+    (record { most = s .most; numbers = s .numbers; good = named (else3 .before .before .before); fine = fine else3 }, s .text)
 
 same-length : tie.Need-same-length
 same-length c = c .before .before .put-sheet .kept .1 .1 .1 .0
 
 returns-5 : tie.Need-returns-5
-returns-5 c = ?
+unfolding bytesAfter
+returns-5 c =
+    let p = c .before .before .before .before .before .before .before .before .before .before .before .before .before .before .before .args in
+    let else3 = c .before .before .before .before .before .before in
+    let else1 = else3 .before .before .before .before .before in
+    let put = c .before .before .put-sheet .ensures in
+    let size : c .before .before .put-sheet .result ≡ length (sheetText (sheetOf (p .count) (p .names) (p .matrix .now))) = put .next ∙ zero-add _ in
+    let all = printed (p .count) (p .names) (p .matrix .now) (p .out .now) (fit else1) (named (else3 .before .before .before)) (fine else3)
+    (passed _ _ (c .before .before .before .before .before .singles .ensures) (c .before .before .before .before .if4 .left)) in
+    of-printed _ _ _ _ _ _ (all ∙ ap Printed.Bytes (sym size)) (put .left ∙ rw (← put .next))
 
 pub print-spec : {M : Type 1} → statement M
 print-spec =
