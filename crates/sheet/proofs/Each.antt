@@ -1,6 +1,6 @@
 -- Each column has a row: names that are single, among others, and as many as those, are all of them. The one idea: take a name away on
 -- both sides. Assumes nothing.
-use Prim.Native.Nat.{ℕ, suc, _≤_}
+use Prim.Native.Nat.{suc, _≤_}
 use mathlib.Core.Path.{_≡_, refl, sym, ap, _∙_}
 use mathlib.Core.Bool.{Bool, true, false, _&&_, _||_, not, cond, true≢false, or-assoc, and-assoc}
 use mathlib.Core.List.{List, [], _∷_, _++_}

@@ -4,8 +4,7 @@ use mathlib.Core.Path.{_≡_, refl, sym, ap, _∙_}
 use mathlib.Core.Bool.{Bool, true, false, _&&_, not, true≢false}
 use mathlib.Core.List.{List, [], _∷_, _++_, append-assoc}
 use native.Mathlib.Omega.{arith}
-use native.Mathlib.Nat.{add-assoc, mul-le-mul, suc-mul, zero-mul}
-use native.Mathlib.Numerals.{add-one}
+use native.Mathlib.Nat.{suc-mul, zero-mul}
 use borrow.Author.Tests.{le-leb, leb-true}
 use lib.Dec.{T, leb}
 use lib.Ieee.{Float, binary64, toBits, nan, inf, fin, isNan}
@@ -15,7 +14,7 @@ use lib.Seq.{append-snoc, drop-cons, drop-drop, length-take-le, take-all}
 use Rattle.hex.specs.Hex as hex
 use Rattle.hex.proofs.Number.{length-digits}
 use Rattle.quant.specs.Name as quant
-use Rattle.quant.specs.Name.{bytesOf, sixteen, isName, sameName}
+use Rattle.quant.specs.Name.{bytesOf, sixteen, isName}
 use Rattle.quant.specs.declared.name.Name.{Name}
 use Rattle.quant.specs.declared.refusal.Refusal.the-variants.{Malformed, WrongSize, Crosstalk}
 use Rattle.quant.proofs.Naming.{well-formed, length-bytes, writes}
@@ -25,7 +24,7 @@ use Rattle.rows.specs.Rows as rows
 use Rattle.sheet.specs.Sheet.{channelsKey, columnKey, rowKey, factorKey, isIn, goodNames, single, allFinite, patterns, countText, columnsText, factorsText, blocksText, blocksOf, sheetOf, sheetText, printFits, printedOf, bytesAfter, Print}
 use Rattle.sheet.specs.declared.print.Printed.{Printed}
 use Rattle.sheet.specs.Puts.{Put, nameLine, factorLine, blockText, twoLines, namesSize}
-use Rattle.sheet.proofs.Parts.{part-cons, part-end}
+use Rattle.sheet.proofs.Parts.{part-cons}
 
 -- ---- what the writers of names and words leave
 

@@ -2,7 +2,7 @@
 -- Assumes nothing.
 use Prim.Native.Nat.{ℕ, zero, suc, _+_, _-_, _*_, _≤_, _<_}
 use mathlib.Core.Path.{_≡_, refl, sym, ap, _∙_}
-use mathlib.Core.Bool.{Bool, true, false, _&&_, not, cond, true≢false}
+use mathlib.Core.Bool.{Bool, true, false, _&&_, cond, true≢false}
 use mathlib.Core.List.{List, [], _∷_, _++_}
 use native.Mathlib.Omega.{arith}
 use native.Mathlib.Nat.{le-refl, mul-le-mul}
@@ -14,14 +14,13 @@ use lib.Ieee.Scale.{finite}
 use lib.ListN.{length, getD, take, drop, set, replicate, length-set, length-drop, take-append-drop}
 use lib.Seq.{drop-cons, drop-length, drop-set-lt, length-take-le, take-all, take-append-add, take-suc-set}
 use Rattle.hex.specs.Hex.{allDigits, number, room, field, wordAt}
-use Rattle.hex.specs.declared.Word.{Word}
 use Rattle.hex.specs.declared.Word.the-variants as word
 use Rattle.quant.specs.Name.{namingOf}
 use Rattle.quant.specs.declared.name.Name.{Name}
 use Rattle.quant.specs.declared.name.Naming.{Naming}
 use Rattle.quant.specs.declared.name.Naming.the-variants.{Named, Bad}
-use Rattle.quant.specs.declared.refusal.Refusal.the-variants.{Malformed, Crosstalk, Layout}
-use Rattle.sheet.specs.Sheet.{channelsKey, columnKey, rowKey, factorKey, behind, eight, step, complete, value, other, SoFar, Step, goes, stops, countStep, columnNamed, columnStep, rowNamed, rowStep, factorBits, factorStep, isIn, blank, single, among}
+use Rattle.quant.specs.declared.refusal.Refusal.the-variants.{Layout}
+use Rattle.sheet.specs.Sheet.{channelsKey, columnKey, rowKey, factorKey, behind, eight, step, complete, value, SoFar, goes, stops, countStep, columnNamed, columnStep, rowNamed, rowStep, factorBits, factorStep, isIn, blank, among}
 use Rattle.sheet.specs.Reader.{soFar, begun, Fits}
 use Rattle.sheet.specs.declared.state.State.{State}
 use Rattle.sheet.proofs.Each.{among-append, among-more, single-more}

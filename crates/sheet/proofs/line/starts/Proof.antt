@@ -11,8 +11,6 @@ use Rattle.sheet.proofs.Keys.{line-ends, goes-on, differs}
 use borrow.Author.Needs.{needs}
 use Rattle.sheet.proofs.line.starts.Statement.{statement}
 use Rattle.sheet.proofs.line.starts.Tie as tie
-use Rattle.sheet.proofs.line.starts.Reads as reads
-use Rattle.sheet.proofs.line.starts.Lts as lts
 
 abbrev Inv-loop : tie.InvT-loop
 Inv-loop line key i₀ i = (i ≤ length key) × (i ≤ length line) × (behind key line ≡ behind (drop i key) (drop i line))

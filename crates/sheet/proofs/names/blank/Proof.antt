@@ -3,8 +3,6 @@ use Rattle.sheet.specs.Sheet.{blank}
 use borrow.Author.Needs.{needs}
 use Rattle.sheet.proofs.names.blank.Statement.{statement}
 use Rattle.sheet.proofs.names.blank.Tie as tie
-use Rattle.sheet.proofs.names.blank.Reads as reads
-use Rattle.sheet.proofs.names.blank.Lts as lts
 
 returns : tie.Need-returns
 unfolding blank

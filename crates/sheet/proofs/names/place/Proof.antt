@@ -1,17 +1,14 @@
 -- `sheet::names::place` meets its contract. The invariant: from i on the name stands where it stands from `from` on. Assumes nothing.
 use Rattle.sheet.proofs.Among.{here, further, nowhere}
 use Rattle.sheet.specs.Sheet.{position}
-use lib.ListN.{length, take, drop}
+use lib.ListN.{take, drop}
 use native.Mathlib.Numerals.{add-one}
 use native.Mathlib.Omega.{arith}
-use mathlib.Core.Path.{_≡_, refl, sym, _∙_, ap}
+use mathlib.Core.Path.{_≡_, refl, sym, _∙_}
 use Prim.Native.Nat.{_≤_, _-_, _+_}
 use borrow.Author.Needs.{needs}
 use Rattle.sheet.proofs.names.place.Statement.{statement}
 use Rattle.sheet.proofs.names.place.Tie as tie
-use Rattle.sheet.proofs.names.place.Reads as reads
-use Rattle.sheet.proofs.names.place.Lts as lts
-use Rattle.quant.proofs.name.same.Reads as same-reads
 
 abbrev Inv-loop : tie.InvT-loop
 Inv-loop n from many names i₀ i = (i ≤ many) × (i + position n (drop i (take many names)) ≡ from + position n (drop from (take many names)))

@@ -1,14 +1,9 @@
 -- `sheet::names::stands_in` meets its contract: a name stands in a list exactly where its place is within it. Assumes nothing.
 use Rattle.sheet.proofs.Among.{in-from}
-use lib.Dec.{ltb}
-use mathlib.Core.Path.{_∙_, ap}
 use native.Mathlib.Omega.{arith}
 use borrow.Author.Needs.{needs}
 use Rattle.sheet.proofs.names.stands_in.Statement.{statement}
 use Rattle.sheet.proofs.names.stands_in.Tie as tie
-use Rattle.sheet.proofs.names.stands_in.Reads as reads
-use Rattle.sheet.proofs.names.stands_in.Lts as lts
-use Rattle.sheet.proofs.names.place.Reads as place-reads
 
 place-requires : tie.Need-place-requires
 place-requires c κs = search needs

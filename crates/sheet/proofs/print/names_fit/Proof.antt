@@ -5,16 +5,12 @@ use Rattle.sheet.specs.Sheet.{blank, goodNames}
 use Rattle.quant.proofs.Judging.{taken, passed}
 use lib.ListN.{take, drop}
 use native.Mathlib.Numerals.{add-one}
-use mathlib.Core.Bool.{true, false}
-use mathlib.Core.Path.{_≡_, refl, sym, ap, _∙_}
+use mathlib.Core.Path.{_≡_, refl, sym, _∙_}
 use native.Mathlib.Omega.{arith}
 use Prim.Native.Nat.{_-_, _≤_}
 use borrow.Author.Needs.{needs}
 use Rattle.sheet.proofs.print.names_fit.Statement.{statement}
 use Rattle.sheet.proofs.print.names_fit.Tie as tie
-use Rattle.sheet.proofs.print.names_fit.Reads as reads
-use Rattle.sheet.proofs.print.names_fit.Lts as lts
-use Rattle.quant.proofs.name.is_name.Reads as is-name-reads
 
 abbrev Inv-loop : tie.InvT-loop
 Inv-loop count names i₀ i = (i ≤ count) × (goodNames (take count names) ≡ goodNames (drop i (take count names)))

@@ -7,15 +7,12 @@ use Rattle.sheet.specs.Sheet.{blank}
 use native.Mathlib.Nat.{mul-le-mul}
 use lib.ListN.{take, drop}
 use native.Mathlib.Numerals.{add-one}
-use mathlib.Core.Path.{_≡_, refl, sym, ap, _∙_}
+use mathlib.Core.Path.{_≡_, refl}
 use native.Mathlib.Omega.{arith}
 use Prim.Native.Nat.{_+_, _*_, _-_, _≤_}
 use borrow.Author.Needs.{needs}
 use Rattle.sheet.proofs.print.needed.Statement.{statement}
 use Rattle.sheet.proofs.print.needed.Tie as tie
-use Rattle.sheet.proofs.print.needed.Reads as reads
-use Rattle.sheet.proofs.print.needed.Lts as lts
-use Rattle.sheet.proofs.print.two_lines.Reads as two-lines-reads
 
 abbrev Inv-loop : tie.InvT-loop
 Inv-loop count names size₀ i₀ size i = (i ≤ count) × (size + namesSize (drop i (take count names)) ≡ 11 + 24 * (count * count) + namesSize (take count names))

@@ -1,27 +1,18 @@
 -- `sheet::print::print` meets its contract: its tests are the definition's in their order, and then the whole text is put. Assumes nothing.
 use Rattle.sheet.specs.declared.print.Printed.{Printed}
-use mathlib.Core.List.{_++_}
-use Rattle.sheet.specs.Puts.{Printable}
 use Prim.Native.Nat.{_*_, _≤_}
 use Rattle.sheet.proofs.Printing.{same-finite, sized, of-printed, no-room, bad-name, bad-number, doubled, printed, Sized}
-use Rattle.sheet.specs.Sheet.{allFinite, bytesAfter, printFits, goodNames, single, sheetText, sheetOf}
+use Rattle.sheet.specs.Sheet.{allFinite, bytesAfter, printFits, goodNames, sheetText, sheetOf}
 use lib.Seq.{length-take-le}
-use lib.ListN.{length, take, drop}
+use lib.ListN.{length, take}
 use native.Mathlib.Nat.{mul-le-mul, zero-add}
-use mathlib.Core.Bool.{true, false}
+use mathlib.Core.Bool.{true}
 use Rattle.quant.proofs.Judging.{taken, passed}
-use mathlib.Core.Path.{_≡_, refl, sym, ap, _∙_, subst}
+use mathlib.Core.Path.{_≡_, refl, sym, ap, _∙_}
 use native.Mathlib.Omega.{arith}
 use borrow.Author.Needs.{needs}
 use Rattle.sheet.proofs.print.print.Statement.{statement}
 use Rattle.sheet.proofs.print.print.Tie as tie
-use Rattle.sheet.proofs.print.print.Reads as reads
-use Rattle.sheet.proofs.print.print.Lts as lts
-use Rattle.rows.proofs.all_finite.Reads as all-finite-reads
-use Rattle.sheet.proofs.print.names_fit.Reads as names-fit-reads
-use Rattle.sheet.proofs.print.singles.Reads as singles-reads
-use Rattle.sheet.proofs.print.sizes_fit.Reads as sizes-fit-reads
-use Rattle.sheet.proofs.put.put_sheet.Reads as put-sheet-reads
 
 -- what is known behind each test
 fit : (c : tie.Else1) → printFits (c .before .before .before .before .args .count) (c .before .before .before .before .args .names) (c .before .before .before .before .args .matrix .now) (length (c .before .before .before .before .args .out .now)) ≡ true

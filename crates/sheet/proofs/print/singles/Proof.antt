@@ -4,16 +4,12 @@ use Rattle.sheet.proofs.Parts.{part-end}
 use Rattle.sheet.specs.Sheet.{blank, single}
 use lib.ListN.{take, drop}
 use native.Mathlib.Numerals.{add-one}
-use mathlib.Core.Bool.{true, false}
-use mathlib.Core.Path.{_≡_, refl, sym, ap, _∙_}
+use mathlib.Core.Path.{_≡_, refl, sym, _∙_}
 use native.Mathlib.Omega.{arith}
 use Prim.Native.Nat.{_-_, _≤_}
 use borrow.Author.Needs.{needs}
 use Rattle.sheet.proofs.print.singles.Statement.{statement}
 use Rattle.sheet.proofs.print.singles.Tie as tie
-use Rattle.sheet.proofs.print.singles.Reads as reads
-use Rattle.sheet.proofs.print.singles.Lts as lts
-use Rattle.sheet.proofs.names.stands_in.Reads as stands-in-reads
 
 abbrev Inv-loop : tie.InvT-loop
 Inv-loop count names i₀ i = (i ≤ count) × (single (take count names) ≡ single (drop i (take count names)))

@@ -2,16 +2,11 @@
 use Rattle.sheet.proofs.Printing.{text-long}
 use Rattle.sheet.specs.Sheet.{printFits}
 use native.Mathlib.Nat.{mul-le-mul}
-use mathlib.Core.Bool.{true, false, and-false}
-use mathlib.Core.Path.{_≡_, refl, sym, ap, _∙_}
 use borrow.Author.Tests.{le-leb, lt-leb}
 use native.Mathlib.Omega.{arith}
 use borrow.Author.Needs.{needs}
 use Rattle.sheet.proofs.print.sizes_fit.Statement.{statement}
 use Rattle.sheet.proofs.print.sizes_fit.Tie as tie
-use Rattle.sheet.proofs.print.sizes_fit.Reads as reads
-use Rattle.sheet.proofs.print.sizes_fit.Lts as lts
-use Rattle.sheet.proofs.print.needed.Reads as needed-reads
 
 returns : tie.Need-returns
 unfolding printFits

@@ -2,13 +2,10 @@
 use Rattle.sheet.proofs.Printing.{bytes-cut}
 use Rattle.sheet.specs.Puts.{twoLines}
 use Rattle.quant.proofs.Naming.{length-bytes}
-use lib.ListN.{length}
 use native.Mathlib.Omega.{arith}
 use borrow.Author.Needs.{needs}
 use Rattle.sheet.proofs.print.two_lines.Statement.{statement}
 use Rattle.sheet.proofs.print.two_lines.Tie as tie
-use Rattle.sheet.proofs.print.two_lines.Reads as reads
-use Rattle.sheet.proofs.print.two_lines.Lts as lts
 
 returns : tie.Need-returns
 unfolding twoLines

@@ -2,14 +2,12 @@
 use lib.Seq.{paste, paste-zero, paste-suc, take-length}
 use lib.ListN.{length, length-set}
 use native.Mathlib.Numerals.{add-one}
-use mathlib.Core.Path.{_≡_, refl, sym, _∙_}
+use mathlib.Core.Path.{_≡_, refl, _∙_}
 use native.Mathlib.Omega.{arith}
 use Prim.Native.Nat.{_-_, _≤_}
 use borrow.Author.Needs.{needs}
 use Rattle.sheet.proofs.put.put.Statement.{statement}
 use Rattle.sheet.proofs.put.put.Tie as tie
-use Rattle.sheet.proofs.put.put.Reads as reads
-use Rattle.sheet.proofs.put.put.Lts as lts
 
 abbrev Inv-loop : tie.InvT-loop
 Inv-loop key out₀ at i₀ out i = (i ≤ length key) × (length out ≡ length out₀) × (out ≡ paste out₀ at key i)
@@ -38,8 +36,7 @@ loop-less c = search needs
 loop-again : tie.Need-loop-again Inv-loop μ-loop
 loop-again c =
     let p = c .before .before .before .args in
-    let at = c .before .before .loop in
-    (
+    let at = c .before .before .loop in (
       omega arith,
       simp length-set (at .inv .1),
       rw (at .inv .2, add-one) (paste-suc (p .out .now) (p .at) (p .key .now) (at .i) 0 (omega arith) (omega arith)),

@@ -8,10 +8,6 @@ use native.Mathlib.Omega.{arith}
 use borrow.Author.Needs.{needs}
 use Rattle.sheet.proofs.put.put_block.Statement.{statement}
 use Rattle.sheet.proofs.put.put_block.Tie as tie
-use Rattle.sheet.proofs.put.put_block.Reads as reads
-use Rattle.sheet.proofs.put.put_block.Lts as lts
-use Rattle.sheet.proofs.put.put_factors.Reads as put-factors-reads
-use Rattle.sheet.proofs.put.put_name.Reads as put-name-reads
 
 slice-aggregate-put-name : tie.Need-slice-aggregate-put-name
 slice-aggregate-put-name c = search needs

@@ -3,25 +3,21 @@ use Rattle.sheet.proofs.Printing.{blocks-line, good-next, finite-take, 
 use Rattle.sheet.proofs.Pasting.{Left, left-all, left-more, left-none, left-room}
 use Rattle.sheet.proofs.Parts.{part-end, part-of, row-within}
 use Rattle.sheet.specs.Puts.{blockText}
-use Rattle.sheet.specs.Sheet.{Block, blank, goodNames, allFinite, blocksText, blocksOf}
+use Rattle.sheet.specs.Sheet.{blank, goodNames, allFinite, blocksText, blocksOf}
 use Rattle.quant.specs.declared.name.Name.{Name}
 use Rattle.quant.specs.Name.{isName}
 use Rattle.quant.proofs.Places.{both}
 use lib.ListN.{length, getD, take, drop}
-use lib.Ieee.{Float}
 use native.Mathlib.Nat.{mul-le-mul, zero-mul}
 use mathlib.Core.List.{List}
 use native.Mathlib.Numerals.{add-one}
-use mathlib.Core.Bool.{true, false}
-use mathlib.Core.Path.{_≡_, refl, sym, ap, _∙_}
+use mathlib.Core.Bool.{true}
+use mathlib.Core.Path.{_≡_, sym, ap, _∙_}
 use native.Mathlib.Omega.{arith}
 use Prim.Native.Nat.{_+_, _*_, _-_, _≤_}
 use borrow.Author.Needs.{needs}
 use Rattle.sheet.proofs.put.put_blocks.Statement.{statement}
 use Rattle.sheet.proofs.put.put_blocks.Tie as tie
-use Rattle.sheet.proofs.put.put_blocks.Reads as reads
-use Rattle.sheet.proofs.put.put_blocks.Lts as lts
-use Rattle.sheet.proofs.put.put_block.Reads as put-block-reads
 
 abbrev Inv-loop : tie.InvT-loop
 Inv-loop count matrix out₀ from names at₀ i₀ out at i = (i ≤ count) × (goodNames (drop i (take count names)) ≡ true) × Left (blocksText (blocksOf count (drop i (take count names)) (drop (i * count) matrix))) (blocksText (blocksOf count (take count names) matrix)) out₀ from at out
@@ -77,12 +73,11 @@ put-block-requires c κs =
     let size : row + p .count - row ≡ p .count = omega arith in
     let all = p .count * p .count in
     let part = part-of matrix row (p .count) all (row-within (p .count) (at .i) (omega arith)) in
-    let fine = finite-take (p .count) (drop row (take all matrix)) (finite-drop row (take all matrix) (c .before .before .before .before .before .before .before .pre .0 .fine)) in
-    (
+    let fine = finite-take (p .count) (drop row (take all matrix)) (finite-drop row (take all matrix) (c .before .before .before .before .before .before .before .pre .0 .fine)) in (
       both (isName n) _ (sym (good-next (p .t1) (p .count) (omega arith) (at .i) blank (omega arith)) ∙ at .inv .1) .0,
       rw size (ap allFinite (sym part) ∙ fine),
       rw size
-      (left-room (blockText n (take (p .count) (drop row matrix))) _ (blocks-line (p .t1) (p .count) (omega arith) (at .i) blank (omega arith) matrix) (at .inv .2)),
+          (left-room (blockText n (take (p .count) (drop row matrix))) _ (blocks-line (p .t1) (p .count) (omega arith) (at .i) blank (omega arith) matrix) (at .inv .2)),
     )
 
 add-i : tie.Need-add-i Inv-loop μ-loop
@@ -100,8 +95,7 @@ loop-again c =
     let row = at .i * p .count in
     let n = getD (p .t1) (at .i) blank in
     let size : row + p .count - row ≡ p .count = omega arith in
-    let line = blocks-line (p .t1) (p .count) (omega arith) (at .i) blank (omega arith) matrix in
-    (
+    let line = blocks-line (p .t1) (p .count) (omega arith) (at .i) blank (omega arith) matrix in (
       omega arith,
       rw add-one (both (isName n) _ (sym (good-next (p .t1) (p .count) (omega arith) (at .i) blank (omega arith)) ∙ at .inv .1) .1),
       rw add-one (left-more line (at .inv .2) (rw size at (c .before .before .put-block .ensures)) (c .before .before .put-block .kept .1 .1 .0)),

@@ -5,8 +5,6 @@ use native.Mathlib.Omega.{arith}
 use borrow.Author.Needs.{needs}
 use Rattle.sheet.proofs.put.put_byte.Statement.{statement}
 use Rattle.sheet.proofs.put.put_byte.Tie as tie
-use Rattle.sheet.proofs.put.put_byte.Reads as reads
-use Rattle.sheet.proofs.put.put_byte.Lts as lts
 
 slice-write-out : tie.Need-slice-write-out
 slice-write-out c = search needs

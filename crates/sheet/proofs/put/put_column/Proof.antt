@@ -3,9 +3,6 @@ use Rattle.sheet.specs.Sheet.{columnKey}
 use borrow.Author.Needs.{needs}
 use Rattle.sheet.proofs.put.put_column.Statement.{statement}
 use Rattle.sheet.proofs.put.put_column.Tie as tie
-use Rattle.sheet.proofs.put.put_column.Reads as reads
-use Rattle.sheet.proofs.put.put_column.Lts as lts
-use Rattle.sheet.proofs.put.put_name.Reads as put-name-reads
 
 slice-aggregate-put-name : tie.Need-slice-aggregate-put-name
 slice-aggregate-put-name c = search needs

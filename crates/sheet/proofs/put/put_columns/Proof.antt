@@ -5,21 +5,16 @@ use Rattle.sheet.proofs.Pasting.{Left, left-all, left-more, left-none, 
 use Rattle.sheet.proofs.Parts.{part-end}
 use Rattle.sheet.specs.Puts.{nameLine}
 use Rattle.sheet.specs.Sheet.{blank, columnKey, goodNames, columnsText}
-use Rattle.quant.specs.declared.name.Name.{Name}
 use Rattle.quant.proofs.Places.{both}
-use lib.ListN.{length, getD, take, drop}
-use mathlib.Core.List.{List}
+use lib.ListN.{getD, take, drop}
 use native.Mathlib.Numerals.{add-one}
-use mathlib.Core.Bool.{true, false}
-use mathlib.Core.Path.{_≡_, refl, sym, ap, _∙_}
+use mathlib.Core.Bool.{true}
+use mathlib.Core.Path.{_≡_, sym, ap, _∙_}
 use native.Mathlib.Omega.{arith}
 use Prim.Native.Nat.{_-_, _≤_}
 use borrow.Author.Needs.{needs}
 use Rattle.sheet.proofs.put.put_columns.Statement.{statement}
 use Rattle.sheet.proofs.put.put_columns.Tie as tie
-use Rattle.sheet.proofs.put.put_columns.Reads as reads
-use Rattle.sheet.proofs.put.put_columns.Lts as lts
-use Rattle.sheet.proofs.put.put_column.Reads as put-column-reads
 
 abbrev Inv-loop : tie.InvT-loop
 Inv-loop count out₀ from names at₀ i₀ out at i = (i ≤ count) × (goodNames (drop i (take count names)) ≡ true) × Left (columnsText (drop i (take count names))) (columnsText (take count names)) out₀ from at out
@@ -41,8 +36,7 @@ unfolding blank
 put-column-requires c κs =
     let p = c .before .before .before .before .before .args in
     let at = c .before .before .before .loop in
-    let n = getD (p .t1) (at .i) blank in
-    (
+    let n = getD (p .t1) (at .i) blank in (
       both (isName n) _ (sym (good-next (p .t1) (p .count) (omega arith) (at .i) blank (omega arith)) ∙ at .inv .1) .0,
       left-room (nameLine columnKey n) _ (columns-line (p .t1) (p .count) (omega arith) (at .i) blank (omega arith)) (at .inv .2),
     )
@@ -58,12 +52,11 @@ unfolding blank
 loop-again c =
     let p = c .before .before .before .before .before .before .before .before .args in
     let at = c .before .before .before .before .before .before .loop in
-    let n = getD (p .t1) (at .i) blank in
-    (
+    let n = getD (p .t1) (at .i) blank in (
       omega arith,
       rw add-one (both (isName n) _ (sym (good-next (p .t1) (p .count) (omega arith) (at .i) blank (omega arith)) ∙ at .inv .1) .1),
       rw add-one
-      (left-more (columns-line (p .t1) (p .count) (omega arith) (at .i) blank (omega arith)) (at .inv .2) (c .before .before .put-column .ensures) (c .before .before .put-column .kept .1 .0)),
+          (left-more (columns-line (p .t1) (p .count) (omega arith) (at .i) blank (omega arith)) (at .inv .2) (c .before .before .put-column .ensures) (c .before .before .put-column .kept .1 .0)),
     )
 
 same-length : tie.Need-same-length Inv-loop μ-loop

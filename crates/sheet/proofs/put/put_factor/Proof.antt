@@ -7,11 +7,6 @@ use native.Mathlib.Omega.{arith}
 use borrow.Author.Needs.{needs}
 use Rattle.sheet.proofs.put.put_factor.Statement.{statement}
 use Rattle.sheet.proofs.put.put_factor.Tie as tie
-use Rattle.sheet.proofs.put.put_factor.Reads as reads
-use Rattle.sheet.proofs.put.put_factor.Lts as lts
-use Rattle.hex.proofs.write.Reads as write-reads
-use Rattle.sheet.proofs.put.put.Reads as put-reads
-use Rattle.sheet.proofs.put.put_byte.Reads as put-byte-reads
 
 slice-aggregate-put : tie.Need-slice-aggregate-put
 slice-aggregate-put c = search needs

@@ -9,16 +9,13 @@ use lib.Ieee.Scale.{finite}
 use lib.Ieee.{nan, Float}
 use lib.ListN.{length, getD, drop, drop-of-length-le}
 use native.Mathlib.Numerals.{add-one}
-use mathlib.Core.Bool.{true, false, _&&_}
-use mathlib.Core.Path.{_≡_, refl, sym, ap, _∙_}
+use mathlib.Core.Bool.{true}
+use mathlib.Core.Path.{_≡_, sym, ap, _∙_}
 use native.Mathlib.Omega.{arith}
 use Prim.Native.Nat.{_-_, _≤_}
 use borrow.Author.Needs.{needs}
 use Rattle.sheet.proofs.put.put_factors.Statement.{statement}
 use Rattle.sheet.proofs.put.put_factors.Tie as tie
-use Rattle.sheet.proofs.put.put_factors.Reads as reads
-use Rattle.sheet.proofs.put.put_factors.Lts as lts
-use Rattle.sheet.proofs.put.put_factor.Reads as put-factor-reads
 
 abbrev Inv-loop : tie.InvT-loop
 Inv-loop numbers out₀ from at₀ i₀ out at i = (i ≤ length numbers) × (allFinite (drop i numbers) ≡ true) × Left (factorsText (patterns (drop i numbers))) (factorsText (patterns numbers)) out₀ from at out
@@ -40,8 +37,7 @@ put-factor-requires c κs =
     let numbers = c .before .before .before .before .before .before .args .numbers .now in
     let at = c .before .before .before .loop in
     let x = getD numbers (at .i) nan in
-    let room = left-room (factorLine x) _ (factors-line numbers (at .i) (omega arith)) (at .inv .2) in
-    (
+    let room = left-room (factorLine x) _ (factors-line numbers (at .i) (omega arith)) (at .inv .2) in (
       both (finite x) _ (sym (finite-next numbers (at .i) (omega arith)) ∙ at .inv .1) .0,
       omega (arith, room, factor-line-long x),
     )
@@ -55,8 +51,7 @@ loop-less c = search needs
 loop-again : tie.Need-loop-again Inv-loop μ-loop
 loop-again c =
     let numbers = c .before .before .before .before .before .before .before .before .before .args .numbers .now in
-    let at = c .before .before .before .before .before .before .loop in
-    (
+    let at = c .before .before .before .before .before .before .loop in (
       omega arith,
       rw add-one (both (finite (getD numbers (at .i) nan)) _ (sym (finite-next numbers (at .i) (omega arith)) ∙ at .inv .1) .1),
       rw add-one (left-more (factors-line numbers (at .i) (omega arith)) (at .inv .2) (c .before .before .put-factor .ensures) (c .before .before .put-factor .kept .1 .0)),

@@ -6,10 +6,6 @@ use native.Mathlib.Omega.{arith}
 use borrow.Author.Needs.{needs}
 use Rattle.sheet.proofs.put.put_head.Statement.{statement}
 use Rattle.sheet.proofs.put.put_head.Tie as tie
-use Rattle.sheet.proofs.put.put_head.Reads as reads
-use Rattle.sheet.proofs.put.put_head.Lts as lts
-use Rattle.sheet.proofs.put.put.Reads as put-reads
-use Rattle.sheet.proofs.put.put_byte.Reads as put-byte-reads
 
 slice-aggregate-put : tie.Need-slice-aggregate-put
 slice-aggregate-put c = search needs

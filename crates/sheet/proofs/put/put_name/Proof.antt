@@ -6,11 +6,6 @@ use native.Mathlib.Omega.{arith}
 use borrow.Author.Needs.{needs}
 use Rattle.sheet.proofs.put.put_name.Statement.{statement}
 use Rattle.sheet.proofs.put.put_name.Tie as tie
-use Rattle.sheet.proofs.put.put_name.Reads as reads
-use Rattle.sheet.proofs.put.put_name.Lts as lts
-use Rattle.quant.proofs.name.write.Reads as write-reads
-use Rattle.sheet.proofs.put.put.Reads as put-reads
-use Rattle.sheet.proofs.put.put_byte.Reads as put-byte-reads
 
 put-requires : tie.Need-put-requires
 put-requires c κs = omega (arith, c .before .before .before .pre .1, name-line-long (c .before .before .before .args .key .now) (c .before .before .before .args .n))

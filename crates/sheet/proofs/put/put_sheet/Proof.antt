@@ -2,16 +2,10 @@
 use Rattle.sheet.specs.Sheet.{countText, channelsKey}
 use Rattle.sheet.proofs.Printing.{text-is, text-parts}
 use Rattle.sheet.proofs.Pasting.{then}
-use mathlib.Core.Path.{_≡_, refl, sym, ap, _∙_}
+use mathlib.Core.Path.{_∙_}
 use native.Mathlib.Omega.{arith}
-use borrow.Author.Needs.{needs}
 use Rattle.sheet.proofs.put.put_sheet.Statement.{statement}
 use Rattle.sheet.proofs.put.put_sheet.Tie as tie
-use Rattle.sheet.proofs.put.put_sheet.Reads as reads
-use Rattle.sheet.proofs.put.put_sheet.Lts as lts
-use Rattle.sheet.proofs.put.put_blocks.Reads as put-blocks-reads
-use Rattle.sheet.proofs.put.put_columns.Reads as put-columns-reads
-use Rattle.sheet.proofs.put.put_head.Reads as put-head-reads
 
 put-head-requires : tie.Need-put-head-requires
 put-head-requires c κs =
@@ -30,8 +24,7 @@ put-blocks-requires : tie.Need-put-blocks-requires
 unfolding countText channelsKey
 put-blocks-requires c κs =
     let p = c .before .before .before .before .before .before .before .before .before .before .before .args in
-    let size = text-parts (p .count) (p .names) (p .matrix .now) (omega (arith, c .before .before .before .before .before .before .before .before .before .before .before .pre .0 .most)) in
-    (
+    let size = text-parts (p .count) (p .names) (p .matrix .now) (omega (arith, c .before .before .before .before .before .before .before .before .before .before .before .pre .0 .most)) in (
       c .before .before .before .before .before .before .before .before .before .before .before .pre .0,
       omega (arith, c .before .before .before .before .before .before .before .before .before .before .before .pre .1, c .before .before .before .before .before .before .before .put-head .ensures .next, c .before .before .before .before .before .before .before .put-head .kept .1 .0, c .before .before .before .put-columns .ensures .next, c .before .before .before .put-columns .kept .1 .1 .0),
     )

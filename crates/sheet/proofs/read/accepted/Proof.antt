@@ -2,11 +2,8 @@
 use Rattle.sheet.proofs.Steps.{names-eight}
 use Rattle.sheet.specs.Sheet.{answerOf, namesOf}
 use mathlib.Core.Path.{refl}
-use borrow.Author.Needs.{needs}
 use Rattle.sheet.proofs.read.accepted.Statement.{statement}
 use Rattle.sheet.proofs.read.accepted.Tie as tie
-use Rattle.sheet.proofs.read.accepted.Reads as reads
-use Rattle.sheet.proofs.read.accepted.Lts as lts
 
 returns : tie.Need-returns
 unfolding answerOf namesOf

@@ -5,15 +5,12 @@ use native.Mathlib.Numerals.{add-one}
 use Rattle.sheet.specs.Sheet.{doubles}
 use lib.Seq.{paste, paste-zero, paste-suc, take-length}
 use lib.ListN.{length, take, drop, length-set}
-use mathlib.Core.Path.{_≡_, refl, sym, _∙_, ap}
+use mathlib.Core.Path.{_≡_, refl, _∙_}
 use native.Mathlib.Omega.{arith}
 use Prim.Native.Nat.{_-_, _≤_}
 use borrow.Author.Needs.{needs}
 use Rattle.sheet.proofs.read.copy_row.Statement.{statement}
 use Rattle.sheet.proofs.read.copy_row.Tie as tie
-use Rattle.sheet.proofs.read.copy_row.Reads as reads
-use Rattle.sheet.proofs.read.copy_row.Lts as lts
-use Rattle.lines.proofs.field.float_of.Reads as float-of-reads
 
 abbrev Inv-loop : tie.InvT-loop
 Inv-loop from matrix₀ to count factors k₀ matrix k = (k ≤ count) × (length matrix ≡ length matrix₀) × (matrix ≡ paste matrix₀ to (doubles (take count (drop from factors))) k)
@@ -59,12 +56,11 @@ loop-again c =
     let at = c .before .before .loop in
     let row = doubles (take (p .count) (drop (p .from) (p .t1))) in
     let size = row-long (p .t1) (p .from) (p .count) (omega arith) in
-    let here = row-at (p .t1) (p .from) (p .count) (omega arith) (at .k) nan (omega arith) in
-    (
+    let here = row-at (p .t1) (p .from) (p .count) (omega arith) (at .k) nan (omega arith) in (
       omega arith,
       simp length-set (at .inv .1),
       rw (at .inv .2, c .float-of .ensures, ← here, add-one)
-      (paste-suc (p .matrix .now) (p .to) row (at .k) nan (omega arith) (omega (arith, size))),
+          (paste-suc (p .matrix .now) (p .to) row (at .k) nan (omega arith) (omega (arith, size))),
     )
 
 same-length : tie.Need-same-length Inv-loop μ-loop

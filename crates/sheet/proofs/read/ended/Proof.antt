@@ -6,10 +6,6 @@ use mathlib.Core.Path.{_≡_, sym, _∙_}
 use borrow.Author.Needs.{needs}
 use Rattle.sheet.proofs.read.ended.Statement.{statement}
 use Rattle.sheet.proofs.read.ended.Tie as tie
-use Rattle.sheet.proofs.read.ended.Reads as reads
-use Rattle.sheet.proofs.read.ended.Lts as lts
-use Rattle.sheet.proofs.read.stopped_at.Reads as stopped-at-reads
-use Rattle.sheet.proofs.state.complete.Reads as complete-reads
 
 complete-requires : tie.Need-complete-requires
 complete-requires c κs = search needs

@@ -1,20 +1,15 @@
 -- `sheet::read::fill` meets its contract. The invariant: pasting the rows of the columns that are left gives what pasting them all gave. Assumes nothing.
 use native.Mathlib.Nat.{zero-add}
 use Rattle.sheet.specs.Sheet.{blank, matrixOf, SoFar, accepts}
-use Rattle.sheet.proofs.Filling.{Ready, left, Filled, filled-none, filled-more, filled-end, column-found, whole-is}
+use Rattle.sheet.proofs.Filling.{Filled, filled-none, filled-more, filled-end, column-found, whole-is}
 use Rattle.sheet.proofs.Parts.{row-within}
-use Rattle.sheet.specs.Puts.{pasted}
-use lib.ListN.{length, getD, take}
-use mathlib.Core.Path.{_≡_, refl, sym, _∙_, ap}
+use lib.ListN.{length}
+use mathlib.Core.Path.{sym, _∙_, ap}
 use native.Mathlib.Omega.{arith}
 use Prim.Native.Nat.{_+_, _*_, _-_, _≤_, _<_}
 use borrow.Author.Needs.{needs}
 use Rattle.sheet.proofs.read.fill.Statement.{statement}
 use Rattle.sheet.proofs.read.fill.Tie as tie
-use Rattle.sheet.proofs.read.fill.Reads as reads
-use Rattle.sheet.proofs.read.fill.Lts as lts
-use Rattle.sheet.proofs.names.place.Reads as place-reads
-use Rattle.sheet.proofs.read.copy_row.Reads as copy-row-reads
 
 abbrev Inv-loop : tie.InvT-loop
 Inv-loop matrix₀ columns rows factors count c₀ matrix c = Filled count columns rows factors matrix₀ matrix c

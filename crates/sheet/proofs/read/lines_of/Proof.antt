@@ -2,23 +2,15 @@
 use mathlib.Core.List.{[]}
 use Rattle.sheet.proofs.Cutting.{open-from, line-from, bad-line, good-line}
 use Rattle.lines.proofs.Lines.{line-ends-within}
-use native.Mathlib.Numerals.{add-one}
 use Rattle.sheet.specs.Reader.{soFar, Fits, readText, Parses}
 use Rattle.sheet.specs.Sheet.{nothing, Outcome, cut, step, onward, SoFar}
-use lib.ListN.{length, drop, take, drop-of-length-le}
-use mathlib.Core.Path.{_≡_, refl, sym, _∙_, subst, ap}
+use lib.ListN.{length, drop, drop-of-length-le}
+use mathlib.Core.Path.{_≡_, sym, _∙_, subst, ap}
 use native.Mathlib.Omega.{arith}
 use Prim.Native.Nat.{_+_, _-_, _≤_}
 use borrow.Author.Needs.{needs}
 use Rattle.sheet.proofs.read.lines_of.Statement.{statement}
 use Rattle.sheet.proofs.read.lines_of.Tie as tie
-use Rattle.sheet.proofs.read.lines_of.Reads as reads
-use Rattle.sheet.proofs.read.lines_of.Lts as lts
-use Rattle.lines.proofs.text.line_end.Reads as line-end-reads
-use Rattle.sheet.proofs.read.ended.Reads as ended-reads
-use Rattle.sheet.proofs.read.stopped_at.Reads as stopped-at-reads
-use Rattle.sheet.proofs.state.fresh.Reads as fresh-reads
-use Rattle.sheet.proofs.state.step.Reads as step-reads
 
 abbrev Inv-loop : tie.InvT-loop
 Inv-loop text s₀ line₀ at₀ s line at = (at ≤ length text) × (line ≤ at + 1) × Fits s × (readText line (soFar s) (drop at text) ≡ readText 1 nothing text)

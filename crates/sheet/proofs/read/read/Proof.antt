@@ -1,8 +1,8 @@
 -- `sheet::read::read` meets its contract: its answer and its matrix are those of the outcome. Assumes nothing.
 use Rattle.sheet.specs.declared.state.Verdict.{Verdict}
 use Rattle.sheet.specs.declared.read.Reading.{Reading}
-use Rattle.sheet.specs.Reader.{soFar, ends, readText, Answers}
-use Rattle.sheet.specs.Sheet.{Read, Outcome, accepts, refuses, nothing, outcome, matrixOf}
+use Rattle.sheet.specs.Reader.{ends, readText, Answers}
+use Rattle.sheet.specs.Sheet.{Read, Outcome, refuses, nothing, outcome, matrixOf}
 use Rattle.quant.specs.declared.refusal.Refusal.the-variants.{WrongSize}
 use lib.ListN.{length}
 use lib.Ieee.{Float}
@@ -16,12 +16,6 @@ use native.Mathlib.Omega.{arith}
 use borrow.Author.Needs.{needs}
 use Rattle.sheet.proofs.read.read.Statement.{statement}
 use Rattle.sheet.proofs.read.read.Tie as tie
-use Rattle.sheet.proofs.read.read.Reads as reads
-use Rattle.sheet.proofs.read.read.Lts as lts
-use Rattle.sheet.proofs.read.accepted.Reads as accepted-reads
-use Rattle.sheet.proofs.read.fill.Reads as fill-reads
-use Rattle.sheet.proofs.read.lines_of.Reads as lines-of-reads
-use Rattle.sheet.proofs.read.refused.Reads as refused-reads
 
 of-outcome : {text : List ℕ} {before : List Float} {r : Reading} {after : List Float} {o : Outcome} → outcome text (length before) ≡ o → Answers r o → after ≡ matrixOf o before
     → Read text before r after

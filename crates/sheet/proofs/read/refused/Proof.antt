@@ -4,9 +4,6 @@ use mathlib.Core.Path.{refl}
 use borrow.Author.Needs.{needs}
 use Rattle.sheet.proofs.read.refused.Statement.{statement}
 use Rattle.sheet.proofs.read.refused.Tie as tie
-use Rattle.sheet.proofs.read.refused.Reads as reads
-use Rattle.sheet.proofs.read.refused.Lts as lts
-use Rattle.sheet.proofs.names.blank.Reads as blank-reads
 
 blank-requires : tie.Need-blank-requires
 blank-requires c κs = search needs

@@ -5,9 +5,6 @@ use mathlib.Core.Path.{_≡_, refl}
 use borrow.Author.Needs.{needs}
 use Rattle.sheet.proofs.read.stopped_at.Statement.{statement}
 use Rattle.sheet.proofs.read.stopped_at.Tie as tie
-use Rattle.sheet.proofs.read.stopped_at.Reads as reads
-use Rattle.sheet.proofs.read.stopped_at.Lts as lts
-use Rattle.sheet.proofs.state.fresh.Reads as fresh-reads
 
 fresh-requires : tie.Need-fresh-requires
 fresh-requires c κs = search needs

@@ -2,11 +2,8 @@
 use Rattle.sheet.proofs.Steps.{square-few, complete-is}
 use borrow.Author.Tests.{eq-eqb, ne-eqb, le-leb, lt-leb}
 use native.Mathlib.Omega.{arith}
-use borrow.Author.Needs.{needs}
 use Rattle.sheet.proofs.state.complete.Statement.{statement}
 use Rattle.sheet.proofs.state.complete.Tie as tie
-use Rattle.sheet.proofs.state.complete.Reads as reads
-use Rattle.sheet.proofs.state.complete.Lts as lts
 
 returns : tie.Need-returns
 returns c = rw (complete-is (c .before .before .args .s) (c .before .before .pre), lt-leb 1 (c .before .before .args .s .count) (c .if1 .taken))

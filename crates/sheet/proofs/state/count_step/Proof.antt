@@ -2,7 +2,7 @@
 use Rattle.sheet.proofs.Steps.{count-long, count-low, count-high, count-digit}
 use Rattle.sheet.specs.Reader.{Steps}
 use Rattle.sheet.specs.Sheet.{channelsKey, behind, value, countStep, goes, SoFar}
-use lib.ListN.{drop, getD}
+use lib.ListN.{drop}
 use Prim.Native.Nat.{_-_}
 use mathlib.Core.Path.{_≡_, subst}
 use native.Mathlib.Omega.{arith}
@@ -10,12 +10,6 @@ use Rattle.sheet.proofs.Keys.{missing, there, reaches}
 use borrow.Author.Needs.{needs}
 use Rattle.sheet.proofs.state.count_step.Statement.{statement}
 use Rattle.sheet.proofs.state.count_step.Tie as tie
-use Rattle.sheet.proofs.state.count_step.Reads as reads
-use Rattle.sheet.proofs.state.count_step.Lts as lts
-use Rattle.sheet.proofs.line.starts.Reads as starts-reads
-use Rattle.sheet.proofs.state.fresh.Reads as fresh-reads
-use Rattle.sheet.proofs.state.stopped.Reads as stopped-reads
-use Rattle.sheet.proofs.state.went.Reads as went-reads
 
 slice-aggregate-starts : tie.Need-slice-aggregate-starts
 slice-aggregate-starts c = search needs

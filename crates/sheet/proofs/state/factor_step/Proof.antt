@@ -2,18 +2,12 @@
 use Rattle.sheet.proofs.Steps.{factor-short, factor-read, factor-bad}
 use Rattle.sheet.specs.Sheet.{factorKey, behind, value, factorStep}
 use lib.ListN.{drop}
-use mathlib.Core.Path.{_≡_, refl, sym, _∙_}
+use mathlib.Core.Path.{_≡_, sym, _∙_}
 use native.Mathlib.Omega.{arith}
 use Rattle.sheet.proofs.Keys.{missing, there, reaches}
 use borrow.Author.Needs.{needs}
 use Rattle.sheet.proofs.state.factor_step.Statement.{statement}
 use Rattle.sheet.proofs.state.factor_step.Tie as tie
-use Rattle.sheet.proofs.state.factor_step.Reads as reads
-use Rattle.sheet.proofs.state.factor_step.Lts as lts
-use Rattle.hex.proofs.read.Reads as read-reads
-use Rattle.sheet.proofs.line.starts.Reads as starts-reads
-use Rattle.sheet.proofs.state.stopped.Reads as stopped-reads
-use Rattle.sheet.proofs.state.with_factor.Reads as with-factor-reads
 
 slice-aggregate-starts : tie.Need-slice-aggregate-starts
 slice-aggregate-starts c = search needs

@@ -5,9 +5,6 @@ use Rattle.sheet.specs.Sheet.{blank, single, among}
 use borrow.Author.Needs.{needs}
 use Rattle.sheet.proofs.state.fresh.Statement.{statement}
 use Rattle.sheet.proofs.state.fresh.Tie as tie
-use Rattle.sheet.proofs.state.fresh.Reads as reads
-use Rattle.sheet.proofs.state.fresh.Lts as lts
-use Rattle.sheet.proofs.names.blank.Reads as blank-reads
 
 blank-requires : tie.Need-blank-requires
 blank-requires c κs = search needs

@@ -4,13 +4,6 @@ use native.Mathlib.Omega.{arith}
 use borrow.Author.Needs.{needs}
 use Rattle.sheet.proofs.state.step.Statement.{statement}
 use Rattle.sheet.proofs.state.step.Tie as tie
-use Rattle.sheet.proofs.state.step.Reads as reads
-use Rattle.sheet.proofs.state.step.Lts as lts
-use Rattle.sheet.proofs.state.column_step.Reads as column-step-reads
-use Rattle.sheet.proofs.state.count_step.Reads as count-step-reads
-use Rattle.sheet.proofs.state.factor_step.Reads as factor-step-reads
-use Rattle.sheet.proofs.state.row_step.Reads as row-step-reads
-use Rattle.sheet.proofs.state.stopped.Reads as stopped-reads
 
 count-step-requires : tie.Need-count-step-requires
 count-step-requires c κs = search needs

@@ -7,11 +7,6 @@ use mathlib.Core.Path.{_≡_, sym, _∙_}
 use borrow.Author.Needs.{needs}
 use Rattle.sheet.proofs.state.with_column.Statement.{statement}
 use Rattle.sheet.proofs.state.with_column.Tie as tie
-use Rattle.sheet.proofs.state.with_column.Reads as reads
-use Rattle.sheet.proofs.state.with_column.Lts as lts
-use Rattle.sheet.proofs.names.stands_in.Reads as stands-in-reads
-use Rattle.sheet.proofs.state.stopped.Reads as stopped-reads
-use Rattle.sheet.proofs.state.went.Reads as went-reads
 
 stands-in-requires : tie.Need-stands-in-requires
 stands-in-requires c κs = search needs

@@ -6,16 +6,10 @@ use lib.Ieee.Scale.{finite}
 use lib.Ieee.{binary64, ofBits}
 use mathlib.Core.Bool.{true, false}
 use native.Mathlib.Omega.{arith}
-use mathlib.Core.Path.{_≡_, sym, _∙_}
+use mathlib.Core.Path.{_≡_, _∙_}
 use borrow.Author.Needs.{needs}
 use Rattle.sheet.proofs.state.with_factor.Statement.{statement}
 use Rattle.sheet.proofs.state.with_factor.Tie as tie
-use Rattle.sheet.proofs.state.with_factor.Reads as reads
-use Rattle.sheet.proofs.state.with_factor.Lts as lts
-use Rattle.ieee.proofs.finite.is_finite.Reads as is-finite-reads
-use Rattle.lines.proofs.field.float_of.Reads as float-of-reads
-use Rattle.sheet.proofs.state.stopped.Reads as stopped-reads
-use Rattle.sheet.proofs.state.went.Reads as went-reads
 
 float-of-requires : tie.Need-float-of-requires
 float-of-requires c κs = search needs
