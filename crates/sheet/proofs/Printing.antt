@@ -16,6 +16,7 @@ use Rattle.hex.proofs.Number.{length-digits}
 use Rattle.quant.specs.Name as quant
 use Rattle.quant.specs.Name.{bytesOf, sixteen, isName}
 use Rattle.quant.specs.declared.name.Name.{Name}
+use Rattle.quant.specs.declared.refusal.Refusal.{Refusal}
 use Rattle.quant.specs.declared.refusal.Refusal.the-variants.{Malformed, WrongSize, Crosstalk}
 use Rattle.quant.proofs.Naming.{well-formed, length-bytes, writes}
 use Rattle.quant.proofs.Places.{both}
@@ -251,3 +252,23 @@ module _ (count : ℕ) (names : List Name) (matrix : List Float) (before : List 
             → printedOf count names matrix (length before) ≡ Printed.Bytes (length (sheetText (sheetOf count names matrix)))
         unfolding printedOf
         printed d = rw (e, g, f, d)
+
+-- the bytes printed are within the room
+pub printed-within : (count : ℕ) (names : List Name) (matrix : List Float) (room size : ℕ) → printedOf count names matrix room ≡ Printed.Bytes size → size ≤ room
+unfolding printedOf
+printed-within count names matrix room size e =
+    by (printFits count names matrix room) refl (goodNames (take count names) && allFinite (take (count * count) matrix)) refl (single (take count names)) refl
+  where
+    never : (r : Printed) (k : Refusal) → r ≡ Printed.Bytes size → r ≡ Printed.Refused k → ⊥
+    never r k p q = let z : _≡_ {A = ℕ} 0 1 = cc in omega arith
+
+    by : (t : Bool) → printFits count names matrix room ≡ t
+        → (u : Bool) → (goodNames (take count names) && allFinite (take (count * count) matrix)) ≡ u
+        → (v : Bool) → single (take count names) ≡ v → size ≤ room
+    by false p u q v d = absurd (never (printedOf count names matrix room) WrongSize e (rw p))
+    by true p false q v d = absurd (never (printedOf count names matrix room) Malformed e (rw (p, q)))
+    by true p true q false d = absurd (never (printedOf count names matrix room) Crosstalk e (rw (p, q, d)))
+    by true p true q true d =
+        let is : printedOf count names matrix room ≡ Printed.Bytes (length (sheetText (sheetOf count names matrix))) = rw (p, q, d) in
+        let same : length (sheetText (sheetOf count names matrix)) ≡ size = cc in
+        omega (arith, sized count names matrix room p .text)
