@@ -5,8 +5,10 @@ use Rattle.sheet.proofs.Filling.{Filled, filled-none, filled-more, fill
 use Rattle.sheet.proofs.Parts.{row-within}
 use lib.ListN.{length}
 use mathlib.Core.Path.{sym, _∙_, ap}
+use mathlib.Core.List.{List}
+use lib.Ieee.{Float}
 use native.Mathlib.Omega.{arith}
-use Prim.Native.Nat.{_+_, _*_, _-_, _≤_, _<_}
+use Prim.Native.Nat.{ℕ, _+_, _*_, _-_, _≤_, _<_}
 use borrow.Author.Needs.{needs}
 use Rattle.sheet.proofs.read.fill.Statement.{statement}
 use Rattle.sheet.proofs.read.fill.Tie as tie
@@ -29,32 +31,40 @@ array-copy-out-place c = search needs
 place-requires : tie.Need-place-requires Inv-loop μ-loop
 place-requires c κs = search needs
 
--- a row's factors are within the array, and its place is within the matrix
-row-fits : (c : tie.After-place Inv-loop μ-loop) → c .place .result * c .before .before .before .before .before .before .before .before .args .s .count + c .before .before .before .before .before .before .before .before .args .s .count ≤ 64
-unfolding blank
-row-fits c =
-    let s = c .before .before .before .before .before .before .before .before .args .s in
-    let at = c .before .before .before .loop in
-    let ready = at .inv .ready in
-    let found = column-found (s .count) (s .columns) (s .rows) (s .factors) ready (at .c) blank (omega arith) in
-    let here : c .place .result < s .count = omega (arith, c .place .ensures) in
-    omega (arith, ready .square, row-within (s .count) (c .place .result) here)
+-- a row at a place below the count is within the factors and within the matrix
+record Within (count row : ℕ) (matrix : List Float) : Type 0 where
+  factors : row * count + count ≤ 64
+  numbers : row * count + count ≤ length matrix
 
-place-fits : (c : tie.After-place Inv-loop μ-loop) → c .before .before .before .loop .c * c .before .before .before .before .before .before .before .before .args .s .count + c .before .before .before .before .before .before .before .before .args .s .count ≤ length (c .before .before .before .loop .matrix)
-place-fits c =
-    let s = c .before .before .before .before .before .before .before .before .args .s in
-    let at = c .before .before .before .loop in
-    let ready = at .inv .ready in
-    omega (arith, ready .square, at .inv .room, at .inv .long, row-within (s .count) (at .c) (omega arith))
+module _ (c : tie.After-place Inv-loop μ-loop) where
+  within : (row : ℕ) → row < c .before .before .before .before .before .before .before .before .args .s .count → Within (c .before .before .before .before .before .before .before .before .args .s .count) row (c .before .before .before .loop .matrix)
+  within row h =
+      let inv = c .before .before .before .loop .inv in
+      let fits = row-within (c .before .before .before .before .before .before .before .before .args .s .count) row h in
+      record { factors = omega (arith, inv .ready .square); numbers = omega (arith, inv .ready .square, inv .room, inv .long) }
+
+  row-fits : Within (c .before .before .before .before .before .before .before .before .args .s .count) (c .place .result) (c .before .before .before .loop .matrix)
+  unfolding blank
+  row-fits =
+      let s = c .before .before .before .before .before .before .before .before .args .s in
+      let at = c .before .before .before .loop in
+      let found = column-found (s .count) (s .columns) (s .rows) (s .factors) (at .inv .ready) (at .c) blank (omega arith) in
+      within (c .place .result) (omega (arith, c .place .ensures))
+
+  place-fits : Within (c .before .before .before .before .before .before .before .before .args .s .count) (c .before .before .before .loop .c) (c .before .before .before .loop .matrix)
+  place-fits = within (c .before .before .before .loop .c) (omega arith)
 
 mul-copy-row : tie.Need-mul-copy-row Inv-loop μ-loop
-mul-copy-row c = omega (arith, row-fits c, c .before .before .before .before .before .before .before .before .pre)
+mul-copy-row c = omega (arith, row-fits c, place-fits c)
 
 mul-copy-row-2 : tie.Need-mul-copy-row-2 Inv-loop μ-loop
-mul-copy-row-2 c = omega (arith, place-fits (c .before))
+mul-copy-row-2 c = omega (arith, row-fits (c .before), place-fits (c .before))
 
 copy-row-requires : tie.Need-copy-row-requires Inv-loop μ-loop
-copy-row-requires c κs = (omega (arith, row-fits (c .before)), omega (arith, place-fits (c .before)))
+copy-row-requires c κs =
+    let first = row-fits (c .before) in
+    let second = place-fits (c .before) in
+    (omega arith, omega arith)
 
 add-c : tie.Need-add-c Inv-loop μ-loop
 add-c c = search needs
