@@ -1,5 +1,8 @@
 // Reads many sheets on standard input, each after its length (two bytes, high first), and answers to each as `sheet_print` does, then
 // with a line `--`. `compare/sheet_damage` makes such a list, and what must be printed.
+ghost use mathlib.Core.Path.{_≡_};
+ghost use Prim.Native.Nat.{_<_, min};
+
 fn main() {
     let mut text = lines::text::room();
     let n = io::read_full(0, &mut text);
@@ -16,13 +19,20 @@ fn each(list: &[u8]) {
         let start = least(at + 2, list.len());
         let end = least(start + size_at(list, at), list.len());
         sheet_out::show(&list[start..end]);
-        io::write_all(1, b"--\n");
+        mark();
         at = end;
     }
 }
 
+// The end of an answer.
+fn mark() {
+    io::write_all(1, b"--\n");
+}
+
 // The length that stands at a place, 0 where the list ends before.
-fn size_at(list: &[u8], at: usize) -> usize {
+fn size_at(list: &[u8], at: usize) -> usize
+    ensures { λ r. ⌜ r < 65536 ⌝ }
+{
     if list.len() < 2 {
         return 0;
     }
@@ -32,10 +42,14 @@ fn size_at(list: &[u8], at: usize) -> usize {
     wide(list[at]) * 256 + wide(list[at + 1])
 }
 
-fn wide(b: u8) -> usize {
+fn wide(b: u8) -> usize
+    ensures { λ r. ⌜ r < 256 ⌝ }
+{
     b as usize
 }
 
-fn least(a: usize, b: usize) -> usize {
+fn least(a: usize, b: usize) -> usize
+    ensures { λ r. ⌜ r ≡ min a b ⌝ }
+{
     if a < b { a } else { b }
 }

@@ -8,12 +8,6 @@ use native.Mathlib.Omega.{arith}
 use borrow.Author.Needs.{needs}
 use Rattle.sheet_out.proofs.show.Statement.{statement}
 use Rattle.sheet_out.proofs.show.Tie as tie
-use Rattle.sheet_out.proofs.show.Reads as reads
-use Rattle.sheet_out.proofs.show.Lts as lts
-use Rattle.io.proofs.write_all.Reads as write-all-reads
-use Rattle.sheet.proofs.print.print.Reads as print-reads
-use Rattle.sheet.proofs.read.read.Reads as read-reads
-use Rattle.sheet_out.proofs.report.Reads as report-reads
 
 slice-aggregate-read : tie.Need-slice-aggregate-read
 slice-aggregate-read c = search needs
