@@ -7,3 +7,4 @@ pub mod Cutting
 pub mod Pasting
 pub mod Filling
 pub mod Printing
+pub mod Example
