@@ -23,8 +23,10 @@ loop-holds c = (omega arith, omega arith, refl)
 
 returns : tie.Need-returns Inv-loop μ-loop
 returns c =
-    let at = c .before .before .loop in
-    let p = c .before .before .before .args in
+    let at-loop = c .before .before in
+    let start = at-loop .before in
+    let at = at-loop .loop in
+    let p = start .args in
     record { parts = at .inv .2 ∙ line-ends (p .key .now) (p .line .now) (at .i) (omega arith) (omega arith); within = λ e. absurd (true≢false (sym e)) }
 
 shared-slice-read-if2 : tie.Need-shared-slice-read-if2 Inv-loop μ-loop
@@ -35,8 +37,10 @@ shared-slice-read-if2-2 c = search needs
 
 returns-2 : tie.Need-returns-2 Inv-loop μ-loop
 returns-2 c =
-    let at = c .before .before .before .before .before .loop in
-    let p = c .before .before .before .before .before .before .args in
+    let at-loop = c .before .before .before .before .before in
+    let start = at-loop .before in
+    let at = at-loop .loop in
+    let p = start .args in
     record { parts = at .inv .2 ∙ differs (p .key .now) (p .line .now) (at .i) (omega arith) (omega arith) (c .if2 .taken); within = λ e. absurd (true≢false (sym e)) }
 
 add-i : tie.Need-add-i Inv-loop μ-loop

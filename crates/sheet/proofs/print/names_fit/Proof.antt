@@ -33,8 +33,10 @@ is-name-requires c κs = search needs
 returns : tie.Need-returns Inv-loop μ-loop
 unfolding blank
 returns c =
-    let p = c .before .before .before .before .before .args in
-    let at = c .before .before .before .before .loop in
+    let at-loop = c .before .before .before .before in
+    let start = at-loop .before in
+    let p = start .args in
+    let at = at-loop .loop in
     sym (at .inv .1 ∙ good-next (p .t1) (p .count) (omega arith) (at .i) blank (omega arith) ∙ rw (taken _ _ (c .before .is-name .ensures) (c .if1 .taken)))
 
 add-i : tie.Need-add-i Inv-loop μ-loop
@@ -46,8 +48,10 @@ loop-less c = search needs
 loop-again : tie.Need-loop-again Inv-loop μ-loop
 unfolding blank
 loop-again c =
-    let p = c .before .before .before .before .before .args in
-    let at = c .before .before .before .before .loop in
+    let at-loop = c .before .before .before .before in
+    let start = at-loop .before in
+    let p = start .args in
+    let at = at-loop .loop in
     (omega arith, at .inv .1 ∙ good-next (p .t1) (p .count) (omega arith) (at .i) blank (omega arith) ∙ rw (passed _ _ (c .before .is-name .ensures) (c .if1 .left), add-one))
 
 returns-2 : tie.Need-returns-2 Inv-loop μ-loop

@@ -37,7 +37,9 @@ sizes-fit-requires c κs = search needs
 
 returns : tie.Need-returns
 unfolding bytesAfter
-returns c = of-printed _ _ _ _ _ _ (no-room (c .before .before .before .before .args .count) (c .before .before .before .before .args .names) (c .before .before .before .before .args .matrix .now) (c .before .before .before .before .args .out .now) (taken _ _ (c .before .sizes-fit .ensures) (c .if1 .taken))) refl
+returns c =
+    let start = c .before .before .before .before in
+    of-printed _ _ _ _ _ _ (no-room (start .args .count) (start .args .names) (start .args .matrix .now) (start .args .out .now) (taken _ _ (c .before .sizes-fit .ensures) (c .if1 .taken))) refl
 
 names-fit-requires : tie.Need-names-fit-requires
 names-fit-requires c κs = sizes c .most
@@ -45,14 +47,17 @@ names-fit-requires c κs = sizes c .most
 returns-2 : tie.Need-returns-2
 unfolding bytesAfter
 returns-2 c =
-    let p = c .before .before .before .before .before .before .args in
+    let start = c .before .before .before .before .before .before in
+    let p = start .args in
     of-printed _ _ _ _ _ _ (bad-name (p .count) (p .names) (p .matrix .now) (p .out .now) (fit (c .before .before)) (taken _ _ (c .before .names-fit .ensures) (c .if2 .taken))) refl
 
 mul-all-finite : tie.Need-mul-all-finite
 mul-all-finite c = omega (arith, square (c .before .before))
 
 slice-aggregate-all-finite : tie.Need-slice-aggregate-all-finite
-slice-aggregate-all-finite c = sym (length-take-le (c .before .before .before .before .before .before .before .args .count * c .before .before .before .before .before .before .before .args .count) (c .before .before .before .before .before .before .before .args .matrix .now) (sizes (c .before .before .before) .numbers))
+slice-aggregate-all-finite c =
+    let start = c .before .before .before .before .before .before .before in
+    sym (length-take-le (start .args .count * start .args .count) (start .args .matrix .now) (sizes (c .before .before .before) .numbers))
 
 all-finite-requires : tie.Need-all-finite-requires
 all-finite-requires c κs = search needs
@@ -60,7 +65,8 @@ all-finite-requires c κs = search needs
 returns-3 : tie.Need-returns-3
 unfolding bytesAfter
 returns-3 c =
-    let p = c .before .before .before .before .before .before .before .before .before .args in
+    let start = c .before .before .before .before .before .before .before .before .before in
+    let p = start .args in
     let others = taken _ _ (c .before .all-finite .ensures ∙ same-finite (take (p .count * p .count) (p .matrix .now))) (c .if3 .taken) in
     of-printed _ _ _ _ _ _
     (bad-number (p .count) (p .names) (p .matrix .now) (p .out .now) (fit (c .before .before .before .before .before)) (named (c .before .before .before)) others)
@@ -72,7 +78,8 @@ singles-requires c κs = sizes (c .before .before .before .before .before) .most
 returns-4 : tie.Need-returns-4
 unfolding bytesAfter
 returns-4 c =
-    let p = c .before .before .before .before .before .before .before .before .before .before .before .args in
+    let start = c .before .before .before .before .before .before .before .before .before .before .before in
+    let p = start .args in
     let else3 = c .before .before in
     let else1 = else3 .before .before .before .before .before in
     of-printed _ _ _ _ _ _

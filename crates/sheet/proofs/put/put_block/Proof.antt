@@ -14,11 +14,30 @@ slice-aggregate-put-name c = search needs
 
 put-name-requires : tie.Need-put-name-requires
 unfolding rowKey
-put-name-requires c κs = (c .before .before .before .before .pre .0, omega (arith, c .before .before .before .before .pre .2, length-append (nameLine rowKey (c .before .before .before .before .args .n)) (factorsText (patterns (c .before .before .before .before .args .numbers .now)))))
+put-name-requires c κs =
+    let start = c .before .before .before .before in (
+      start .pre .0,
+      omega (
+        arith,
+        start .pre .2,
+        length-append (nameLine rowKey (start .args .n)) (factorsText (patterns (start .args .numbers .now))),
+      ),
+    )
 
 put-factors-requires : tie.Need-put-factors-requires
 unfolding rowKey
-put-factors-requires c κs = (c .before .before .before .before .before .before .before .before .pre .1, omega (arith, c .before .before .before .before .before .before .before .before .pre .2, c .before .before .before .put-name .ensures .next, c .before .before .before .put-name .kept .1 .1 .0, length-append (nameLine rowKey (c .before .before .before .before .before .before .before .before .args .n)) (factorsText (patterns (c .before .before .before .before .before .before .before .before .args .numbers .now)))))
+put-factors-requires c κs =
+    let at-put-name = c .before .before .before in
+    let start = at-put-name .before .before .before .before .before in (
+      start .pre .1,
+      omega (
+        arith,
+        start .pre .2,
+        at-put-name .put-name .ensures .next,
+        at-put-name .put-name .kept .1 .1 .0,
+        length-append (nameLine rowKey (start .args .n)) (factorsText (patterns (start .args .numbers .now))),
+      ),
+    )
 
 same-length : tie.Need-same-length
 same-length c = c .before .before .put-factors .kept .1 .0 ∙ c .before .before .before .before .before .before .put-name .kept .1 .1 .0
@@ -26,8 +45,11 @@ same-length c = c .before .before .put-factors .kept .1 .0 ∙ c .before .before
 returns : tie.Need-returns
 unfolding rowKey
 returns c =
-    let size = length-append (nameLine rowKey (c .before .before .before .before .before .before .before .before .before .before .before .args .n)) (factorsText (patterns (c .before .before .before .before .before .before .before .before .before .before .before .args .numbers .now))) in
-    then (omega (arith, c .before .before .before .before .before .before .before .before .before .before .before .pre .2)) (c .before .before .before .before .before .before .put-name .ensures) (c .before .before .put-factors .ensures)
+    let at-put-factors = c .before .before in
+    let at-put-name = at-put-factors .before .before .before .before in
+    let start = at-put-name .before .before .before .before .before in
+    let size = length-append (nameLine rowKey (start .args .n)) (factorsText (patterns (start .args .numbers .now))) in
+    then (omega (arith, start .pre .2)) (at-put-name .put-name .ensures) (at-put-factors .put-factors .ensures)
 
 pub put-block-spec : {M : Type 1} → statement M
 put-block-spec =

@@ -31,12 +31,15 @@ loop-holds c = (omega arith, c .before .before .pre .0 .good, rw zero-mul (left-
 -- a row's numbers are few, and within the matrix
 row-fits : (c : tie.In-loop Inv-loop μ-loop) → c .before .loop .i * c .before .before .before .before .args .count + c .before .before .before .before .args .count ≤ 64
 row-fits c =
-    let count = c .before .before .before .before .args .count in
-    let square = mul-le-mul {n₁ = count} {m₁ = count} {n₂ = 8} {m₂ = 8} (c .before .before .before .before .pre .0 .most) (c .before .before .before .before .pre .0 .most) in
+    let start = c .before .before .before .before in
+    let count = start .args .count in
+    let square = mul-le-mul {n₁ = count} {m₁ = count} {n₂ = 8} {m₂ = 8} (start .pre .0 .most) (start .pre .0 .most) in
     omega (arith, row-within count (c .before .loop .i) (omega arith))
 
 row-in : (c : tie.In-loop Inv-loop μ-loop) → c .before .loop .i * c .before .before .before .before .args .count + c .before .before .before .before .args .count ≤ length (c .before .before .before .before .args .matrix .now)
-row-in c = omega (arith, row-within (c .before .before .before .before .args .count) (c .before .loop .i) (omega arith), c .before .before .before .before .pre .0 .numbers)
+row-in c =
+    let start = c .before .before .before .before in
+    omega (arith, row-within (start .args .count) (c .before .loop .i) (omega arith), start .pre .0 .numbers)
 
 mul-row : tie.Need-mul-row Inv-loop μ-loop
 mul-row c = omega (arith, row-fits c)
@@ -65,15 +68,17 @@ part-put-block-end c = omega (arith, row-in (c .before))
 put-block-requires : tie.Need-put-block-requires Inv-loop μ-loop
 unfolding blank
 put-block-requires c κs =
-    let p = c .before .before .before .before .before .before .before .args in
-    let at = c .before .before .before .before .loop in
+    let at-loop = c .before .before .before .before in
+    let start = at-loop .before .before .before in
+    let p = start .args in
+    let at = at-loop .loop in
     let matrix = p .matrix .now in
     let row = at .i * p .count in
     let n = getD (p .t1) (at .i) blank in
     let size : row + p .count - row ≡ p .count = omega arith in
     let all = p .count * p .count in
     let part = part-of matrix row (p .count) all (row-within (p .count) (at .i) (omega arith)) in
-    let fine = finite-take (p .count) (drop row (take all matrix)) (finite-drop row (take all matrix) (c .before .before .before .before .before .before .before .pre .0 .fine)) in (
+    let fine = finite-take (p .count) (drop row (take all matrix)) (finite-drop row (take all matrix) (start .pre .0 .fine)) in (
       both (isName n) _ (sym (good-next (p .t1) (p .count) (omega arith) (at .i) blank (omega arith)) ∙ at .inv .1) .0,
       rw size (ap allFinite (sym part) ∙ fine),
       rw size
@@ -107,7 +112,8 @@ same-length c = c .before .loop .inv .2 .long
 returns : tie.Need-returns Inv-loop μ-loop
 unfolding blocksText blocksOf
 returns c =
-    let p = c .before .before .before .before .args in
+    let start = c .before .before .before .before in
+    let p = start .args in
     let at = c .before .loop in
     left-none (ap (λ (l : List Name). blocksText (blocksOf (p .count) l (drop (at .i * p .count) (p .matrix .now)))) (part-end (p .t1) (p .count) (omega arith) (at .i) (omega arith))) (at .inv .2)
 

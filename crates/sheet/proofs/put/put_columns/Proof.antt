@@ -50,13 +50,16 @@ loop-less c = search needs
 loop-again : tie.Need-loop-again Inv-loop μ-loop
 unfolding blank
 loop-again c =
-    let p = c .before .before .before .before .before .before .before .before .args in
-    let at = c .before .before .before .before .before .before .loop in
+    let at-put-column = c .before .before in
+    let at-loop = at-put-column .before .before .before .before in
+    let start = at-loop .before .before in
+    let p = start .args in
+    let at = at-loop .loop in
     let n = getD (p .t1) (at .i) blank in (
       omega arith,
       rw add-one (both (isName n) _ (sym (good-next (p .t1) (p .count) (omega arith) (at .i) blank (omega arith)) ∙ at .inv .1) .1),
       rw add-one
-          (left-more (columns-line (p .t1) (p .count) (omega arith) (at .i) blank (omega arith)) (at .inv .2) (c .before .before .put-column .ensures) (c .before .before .put-column .kept .1 .0)),
+          (left-more (columns-line (p .t1) (p .count) (omega arith) (at .i) blank (omega arith)) (at .inv .2) (at-put-column .put-column .ensures) (at-put-column .put-column .kept .1 .0)),
     )
 
 same-length : tie.Need-same-length Inv-loop μ-loop

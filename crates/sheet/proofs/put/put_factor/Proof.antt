@@ -15,25 +15,42 @@ put-requires : tie.Need-put-requires
 put-requires c κs = omega (arith, c .before .before .before .pre .1)
 
 float-to-bits-write : tie.Need-float-to-bits-write
-float-to-bits-write c = no-nan (c .before .before .before .before .before .before .args .x) (c .before .before .before .before .before .before .pre .0)
+float-to-bits-write c =
+    let start = c .before .before .before .before .before .before in
+    no-nan (start .args .x) (start .pre .0)
 
 write-requires : tie.Need-write-requires
 write-requires c κs = search needs
 
 add-put-byte : tie.Need-add-put-byte
-add-put-byte c = omega (arith, c .before .before .before .before .before .before .before .before .before .before .before .pre .1, c .before .before .before .before .before .before .before .put .ensures .next)
+add-put-byte c =
+    let at-put = c .before .before .before .before .before .before .before in
+    let start = at-put .before .before .before .before in
+    omega (arith, start .pre .1, at-put .put .ensures .next)
 
 put-byte-requires : tie.Need-put-byte-requires
-put-byte-requires c κs = omega (arith, c .before .before .before .before .before .before .before .before .before .before .before .pre .1, c .before .before .before .before .before .before .before .put .ensures .next, c .before .before .before .before .before .before .before .put .kept .1 .0, c .before .before .before .write .kept .1 .0)
+put-byte-requires c κs =
+    let at-write = c .before .before .before in
+    let at-put = at-write .before .before .before .before in
+    let start = at-put .before .before .before .before in
+    omega (arith, start .pre .1, at-put .put .ensures .next, at-put .put .kept .1 .0, at-write .write .kept .1 .0)
 
 same-length : tie.Need-same-length
-same-length c = c .before .before .put-byte .kept .1 .0 ∙ c .before .before .before .before .before .before .write .kept .1 .0 ∙ c .before .before .before .before .before .before .before .before .before .before .put .kept .1 .0
+same-length c =
+    let at-put-byte = c .before .before in
+    let at-write = at-put-byte .before .before .before .before in
+    let at-put = at-write .before .before .before .before in
+    at-put-byte .put-byte .kept .1 .0 ∙ at-write .write .kept .1 .0 ∙ at-put .put .kept .1 .0
 
 returns : tie.Need-returns
 unfolding factorKey
 returns c =
-    let worded = word-put (omega (arith, c .before .before .before .before .before .before .before .before .before .before .before .before .before .before .pre .1, c .before .before .before .before .before .before .before .before .before .before .put .ensures .next, c .before .before .before .before .before .before .before .before .before .before .put .kept .1 .0)) (c .before .before .before .before .before .before .write .ensures) in
-    then (omega (arith, c .before .before .before .before .before .before .before .before .before .before .before .before .before .before .pre .1)) (then (omega (arith, c .before .before .before .before .before .before .before .before .before .before .before .before .before .before .pre .1)) (c .before .before .before .before .before .before .before .before .before .before .put .ensures) worded) (c .before .before .put-byte .ensures)
+    let at-put-byte = c .before .before in
+    let at-write = at-put-byte .before .before .before .before in
+    let at-put = at-write .before .before .before .before in
+    let start = at-put .before .before .before .before in
+    let worded = word-put (omega (arith, start .pre .1, at-put .put .ensures .next, at-put .put .kept .1 .0)) (at-write .write .ensures) in
+    then (omega (arith, start .pre .1)) (then (omega (arith, start .pre .1)) (at-put .put .ensures) worded) (at-put-byte .put-byte .ensures)
 
 pub put-factor-spec : {M : Type 1} → statement M
 put-factor-spec =

@@ -50,11 +50,14 @@ loop-less c = search needs
 
 loop-again : tie.Need-loop-again Inv-loop μ-loop
 loop-again c =
-    let numbers = c .before .before .before .before .before .before .before .before .before .args .numbers .now in
-    let at = c .before .before .before .before .before .before .loop in (
+    let at-put-factor = c .before .before in
+    let at-loop = at-put-factor .before .before .before .before in
+    let start = at-loop .before .before .before in
+    let numbers = start .args .numbers .now in
+    let at = at-loop .loop in (
       omega arith,
       rw add-one (both (finite (getD numbers (at .i) nan)) _ (sym (finite-next numbers (at .i) (omega arith)) ∙ at .inv .1) .1),
-      rw add-one (left-more (factors-line numbers (at .i) (omega arith)) (at .inv .2) (c .before .before .put-factor .ensures) (c .before .before .put-factor .kept .1 .0)),
+      rw add-one (left-more (factors-line numbers (at .i) (omega arith)) (at .inv .2) (at-put-factor .put-factor .ensures) (at-put-factor .put-factor .kept .1 .0)),
     )
 
 same-length : tie.Need-same-length Inv-loop μ-loop

@@ -20,17 +20,39 @@ add-put-byte : tie.Need-add-put-byte
 add-put-byte c = search needs
 
 put-byte-requires : tie.Need-put-byte-requires
-put-byte-requires c κs = omega (arith, c .before .before .before .before .before .before .before .pre .1, c .before .before .before .put .ensures .next, c .before .before .before .put .kept .1 .0)
+put-byte-requires c κs =
+    let at-put = c .before .before .before in
+    let start = at-put .before .before .before .before in
+    omega (arith, start .pre .1, at-put .put .ensures .next, at-put .put .kept .1 .0)
 
 put-byte-requires-2 : tie.Need-put-byte-requires-2
-put-byte-requires-2 c κs = omega (arith, c .before .before .before .before .before .before .before .before .before .before .before .pre .1, c .before .before .before .before .before .before .before .put .ensures .next, c .before .before .before .put-byte .ensures .next, c .before .before .before .before .before .before .before .put .kept .1 .0, c .before .before .before .put-byte .kept .1 .0)
+put-byte-requires-2 c κs =
+    let at-put-byte = c .before .before .before in
+    let at-put = at-put-byte .before .before .before .before in
+    let start = at-put .before .before .before .before in
+    omega (
+      arith,
+      start .pre .1,
+      at-put .put .ensures .next,
+      at-put-byte .put-byte .ensures .next,
+      at-put .put .kept .1 .0,
+      at-put-byte .put-byte .kept .1 .0,
+    )
 
 same-length : tie.Need-same-length
-same-length c = c .before .before .put-byte2 .kept .1 .0 ∙ c .before .before .before .before .before .before .put-byte .kept .1 .0 ∙ c .before .before .before .before .before .before .before .before .before .before .put .kept .1 .0
+same-length c =
+    let at-put-byte2 = c .before .before in
+    let at-put-byte = at-put-byte2 .before .before .before .before in
+    let at-put = at-put-byte .before .before .before .before in
+    at-put-byte2 .put-byte2 .kept .1 .0 ∙ at-put-byte .put-byte .kept .1 .0 ∙ at-put .put .kept .1 .0
 
 returns : tie.Need-returns
 unfolding countText channelsKey
-returns c = then (omega arith) (then (omega arith) (c .before .before .before .before .before .before .before .before .before .before .put .ensures) (c .before .before .before .before .before .before .put-byte .ensures)) (c .before .before .put-byte2 .ensures)
+returns c =
+    let at-put-byte2 = c .before .before in
+    let at-put-byte = at-put-byte2 .before .before .before .before in
+    let at-put = at-put-byte .before .before .before .before in
+    then (omega arith) (then (omega arith) (at-put .put .ensures) (at-put-byte .put-byte .ensures)) (at-put-byte2 .put-byte2 .ensures)
 
 pub put-head-spec : {M : Type 1} → statement M
 put-head-spec =

@@ -16,27 +16,47 @@ put-head-requires c κs =
 put-columns-requires : tie.Need-put-columns-requires
 unfolding countText channelsKey
 put-columns-requires c κs =
-    let p = c .before .before .before .before .before .before .before .args in
-    let size = text-parts (p .count) (p .names) (p .matrix .now) (omega (arith, c .before .before .before .before .before .before .before .pre .0 .most)) in
-    (c .before .before .before .before .before .before .before .pre .0 .most, c .before .before .before .before .before .before .before .pre .0 .good, omega (arith, c .before .before .before .before .before .before .before .pre .1, c .before .before .before .put-head .ensures .next, c .before .before .before .put-head .kept .1 .0))
+    let at-put-head = c .before .before .before in
+    let start = at-put-head .before .before .before .before in
+    let p = start .args in
+    let size = text-parts (p .count) (p .names) (p .matrix .now) (omega (arith, start .pre .0 .most)) in
+    (start .pre .0 .most, start .pre .0 .good, omega (arith, start .pre .1, at-put-head .put-head .ensures .next, at-put-head .put-head .kept .1 .0))
 
 put-blocks-requires : tie.Need-put-blocks-requires
 unfolding countText channelsKey
 put-blocks-requires c κs =
-    let p = c .before .before .before .before .before .before .before .before .before .before .before .args in
-    let size = text-parts (p .count) (p .names) (p .matrix .now) (omega (arith, c .before .before .before .before .before .before .before .before .before .before .before .pre .0 .most)) in (
-      c .before .before .before .before .before .before .before .before .before .before .before .pre .0,
-      omega (arith, c .before .before .before .before .before .before .before .before .before .before .before .pre .1, c .before .before .before .before .before .before .before .put-head .ensures .next, c .before .before .before .before .before .before .before .put-head .kept .1 .0, c .before .before .before .put-columns .ensures .next, c .before .before .before .put-columns .kept .1 .1 .0),
+    let at-put-columns = c .before .before .before in
+    let at-put-head = at-put-columns .before .before .before .before in
+    let start = at-put-head .before .before .before .before in
+    let p = start .args in
+    let size = text-parts (p .count) (p .names) (p .matrix .now) (omega (arith, start .pre .0 .most)) in (
+      start .pre .0,
+      omega (
+        arith,
+        start .pre .1,
+        at-put-head .put-head .ensures .next,
+        at-put-head .put-head .kept .1 .0,
+        at-put-columns .put-columns .ensures .next,
+        at-put-columns .put-columns .kept .1 .1 .0,
+      ),
     )
 
 same-length : tie.Need-same-length
-same-length c = c .before .before .put-blocks .kept .1 .1 .1 .0 ∙ c .before .before .before .before .before .before .put-columns .kept .1 .1 .0 ∙ c .before .before .before .before .before .before .before .before .before .before .put-head .kept .1 .0
+same-length c =
+    let at-put-blocks = c .before .before in
+    let at-put-columns = at-put-blocks .before .before .before .before in
+    let at-put-head = at-put-columns .before .before .before .before in
+    at-put-blocks .put-blocks .kept .1 .1 .1 .0 ∙ at-put-columns .put-columns .kept .1 .1 .0 ∙ at-put-head .put-head .kept .1 .0
 
 returns : tie.Need-returns
 returns c =
-    let p = c .before .before .before .before .before .before .before .before .before .before .before .before .before .before .args in
-    rw (text-is (p .count) (p .names) (p .matrix .now) (omega (arith, c .before .before .before .before .before .before .before .before .before .before .before .before .before .before .pre .0 .most)))
-    (then (omega arith) (then (omega arith) (c .before .before .before .before .before .before .before .before .before .before .put-head .ensures) (c .before .before .before .before .before .before .put-columns .ensures)) (c .before .before .put-blocks .ensures))
+    let at-put-blocks = c .before .before in
+    let at-put-columns = at-put-blocks .before .before .before .before in
+    let at-put-head = at-put-columns .before .before .before .before in
+    let start = at-put-head .before .before .before .before in
+    let p = start .args in
+    rw (text-is (p .count) (p .names) (p .matrix .now) (omega (arith, start .pre .0 .most)))
+    (then (omega arith) (then (omega arith) (at-put-head .put-head .ensures) (at-put-columns .put-columns .ensures)) (at-put-blocks .put-blocks .ensures))
 
 pub put-sheet-spec : {M : Type 1} → statement M
 put-sheet-spec =

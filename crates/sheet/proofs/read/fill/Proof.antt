@@ -20,7 +20,9 @@ abbrev μ-loop : tie.MeasureT-loop
 μ-loop matrix₀ columns rows factors count c₀ matrix c = count - c
 
 loop-holds : tie.Need-loop-holds Inv-loop μ-loop
-loop-holds c = filled-none (c .before .before .before .before .args .s) (c .before .before .before .before .pre .0) (c .before .before .before .before .pre .1) (c .before .before .before .before .args .matrix .now) (c .before .before .before .before .pre .2)
+loop-holds c =
+    let start = c .before .before .before .before in
+    filled-none (start .args .s) (start .pre .0) (start .pre .1) (start .args .matrix .now) (start .pre .2)
 
 mul-place : tie.Need-mul-place Inv-loop μ-loop
 mul-place c = search needs
@@ -75,12 +77,16 @@ loop-less c = search needs
 loop-again : tie.Need-loop-again Inv-loop μ-loop
 unfolding blank
 loop-again c =
-    let s = c .before .before .before .before .before .before .before .before .before .before .before .before .args .s in
-    let at = c .before .before .before .before .before .before .before .loop in
-    filled-more (s .count) (s .columns) (s .rows) (s .factors) (at .inv .ready) (c .before .before .before .before .before .before .before .before .before .before .before .before .args .matrix .now) (at .matrix) (at .c) blank _ _ (at .inv) (omega arith)
-    (c .before .before .before .before .place .ensures ∙ zero-add _)
-    (c .before .before .copy-row .ensures)
-    (c .before .before .copy-row .kept .1 .1 .0)
+    let at-copy-row = c .before .before in
+    let at-place = at-copy-row .before .before in
+    let at-loop = at-place .before .before .before in
+    let start = at-loop .before .before .before .before .before in
+    let s = start .args .s in
+    let at = at-loop .loop in
+    filled-more (s .count) (s .columns) (s .rows) (s .factors) (at .inv .ready) (start .args .matrix .now) (at .matrix) (at .c) blank _ _ (at .inv) (omega arith)
+    (at-place .place .ensures ∙ zero-add _)
+    (at-copy-row .copy-row .ensures)
+    (at-copy-row .copy-row .kept .1 .1 .0)
 
 same-length : tie.Need-same-length Inv-loop μ-loop
 same-length c = c .before .loop .inv .long

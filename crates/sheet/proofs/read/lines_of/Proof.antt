@@ -23,7 +23,9 @@ fresh-requires c κs = search needs
 
 loop-holds : tie.Need-loop-holds Inv-loop μ-loop
 unfolding nothing
-loop-holds c = (omega arith, omega arith, c .fresh .ensures .1, ap (λ (s : SoFar). readText 1 s (c .before .before .args .text .now)) (c .fresh .ensures .0))
+loop-holds c =
+    let start = c .before .before in
+    (omega arith, omega arith, c .fresh .ensures .1, ap (λ (s : SoFar). readText 1 s (start .args .text .now)) (c .fresh .ensures .0))
 
 line-end-requires : tie.Need-line-end-requires Inv-loop μ-loop
 line-end-requires c κs = search needs
@@ -46,7 +48,10 @@ part-step-start : tie.Need-part-step-start Inv-loop μ-loop
 part-step-start c = search needs
 
 part-step-end : tie.Need-part-step-end Inv-loop μ-loop
-part-step-end c = omega (arith, c .before .line-end .ensures, line-ends-within (c .before .before .before .before .before .before .args .text .now) (c .before .before .before .loop .at) (omega arith))
+part-step-end c =
+    let at-loop = c .before .before .before in
+    let start = at-loop .before .before .before in
+    omega (arith, c .before .line-end .ensures, line-ends-within (start .args .text .now) (at-loop .loop .at) (omega arith))
 
 step-requires : tie.Need-step-requires Inv-loop μ-loop
 step-requires c κs = search needs
@@ -60,33 +65,52 @@ stopped-at-requires-2 c κs = search needs
 returns-2 : tie.Need-returns-2 Inv-loop μ-loop
 unfolding onward
 returns-2 c =
-    let text = c .before .before .before .before .before .before .before .before .before .before .before .before .args .text .now in
-    let at = c .before .before .before .before .before .before .before .before .before .loop in
-    let from = line-from (at .line) (soFar (at .s)) text (at .at) (omega arith) (c .before .before .before .before .before .before .before .line-end .result) (c .before .before .before .before .before .before .before .line-end .ensures) (c .before .before .before .before .before .before .if1 .left) in
-    let bad = bad-line _ _ _ (c .before .before .before .before .step .ensures .is) _ (c .before .before .verdict .given .1) in
+    let at-verdict = c .before .before in
+    let at-step = at-verdict .before .before in
+    let at-if1 = at-step .before .before in
+    let at-line-end = at-if1 .before in
+    let at-loop = at-line-end .before .before in
+    let start = at-loop .before .before .before in
+    let text = start .args .text .now in
+    let at = at-loop .loop in
+    let from = line-from (at .line) (soFar (at .s)) text (at .at) (omega arith) (at-line-end .line-end .result) (at-line-end .line-end .ensures) (at-if1 .if1 .left) in
+    let bad = bad-line _ _ _ (at-step .step .ensures .is) _ (at-verdict .verdict .given .1) in
     subst (λ (o : Outcome). Parses (c .stopped-at2 .result) o) (sym (from ∙ rw bad) ∙ at .inv .3) (c .stopped-at2 .ensures)
 
 enum-told : tie.Need-enum-told Inv-loop μ-loop
 enum-told c = search needs
 
 add-at : tie.Need-add-at Inv-loop μ-loop
-add-at c = omega (arith, c .before .before .before .before .before .before .line-end .ensures, line-ends-within (c .before .before .before .before .before .before .before .before .before .before .before .args .text .now) (c .before .before .before .before .before .before .before .before .loop .at) (omega arith))
+add-at c =
+    let at-line-end = c .before .before .before .before .before .before in
+    let at-loop = at-line-end .before .before in
+    let start = at-loop .before .before .before in
+    omega (arith, at-line-end .line-end .ensures, line-ends-within (start .args .text .now) (at-loop .loop .at) (omega arith))
 
 add-line : tie.Need-add-line Inv-loop μ-loop
 add-line c = search needs
 
 loop-less : tie.Need-loop-less Inv-loop μ-loop
-loop-less c = omega (arith, c .before .before .before .before .before .before .line-end .ensures, line-ends-within (c .before .before .before .before .before .before .before .before .before .before .before .args .text .now) (c .before .before .before .before .before .before .before .before .loop .at) (omega arith))
+loop-less c =
+    let at-line-end = c .before .before .before .before .before .before in
+    let at-loop = at-line-end .before .before in
+    let start = at-loop .before .before .before in
+    omega (arith, at-line-end .line-end .ensures, line-ends-within (start .args .text .now) (at-loop .loop .at) (omega arith))
 
 loop-again : tie.Need-loop-again Inv-loop μ-loop
 unfolding onward
 loop-again c =
-    let text = c .before .before .before .before .before .before .before .before .before .before .before .args .text .now in
-    let at = c .before .before .before .before .before .before .before .before .loop in
+    let at-step = c .before .before .before in
+    let at-if1 = at-step .before .before in
+    let at-line-end = at-if1 .before in
+    let at-loop = at-line-end .before .before in
+    let start = at-loop .before .before .before in
+    let text = start .args .text .now in
+    let at = at-loop .loop in
     let end = line-ends-within text (at .at) (omega arith) in
-    let from = line-from (at .line) (soFar (at .s)) text (at .at) (omega arith) (c .before .before .before .before .before .before .line-end .result) (c .before .before .before .before .before .before .line-end .ensures) (c .before .before .before .before .before .if1 .left) in
-    let good = good-line _ _ _ (c .before .before .before .step .ensures .is) (c .before .enum-told .given .1) in
-    (omega (arith, c .before .before .before .before .before .before .line-end .ensures), omega (arith, c .before .before .before .before .before .before .line-end .ensures), c .before .before .before .step .ensures .fits, sym (from ∙ rw good) ∙ at .inv .3)
+    let from = line-from (at .line) (soFar (at .s)) text (at .at) (omega arith) (at-line-end .line-end .result) (at-line-end .line-end .ensures) (at-if1 .if1 .left) in
+    let good = good-line _ _ _ (at-step .step .ensures .is) (c .before .enum-told .given .1) in
+    (omega (arith, at-line-end .line-end .ensures), omega (arith, at-line-end .line-end .ensures), at-step .step .ensures .fits, sym (from ∙ rw good) ∙ at .inv .3)
 
 ended-requires : tie.Need-ended-requires Inv-loop μ-loop
 ended-requires c κs = search needs

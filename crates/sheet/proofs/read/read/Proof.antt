@@ -39,14 +39,18 @@ refused-requires c κs = search needs
 
 returns : tie.Need-returns
 unfolding matrixOf
-returns c = of-outcome (long (c .before .before .before .before .args .text .now) (c .before .before .before .before .args .matrix .now) (c .before .if1 .taken)) (c .refused .ensures) refl
+returns c =
+    let start = c .before .before .before .before in
+    of-outcome (long (start .args .text .now) (start .args .matrix .now) (c .before .if1 .taken)) (c .refused .ensures) refl
 
 refused-requires-2 : tie.Need-refused-requires-2
 refused-requires-2 c κs = search needs
 
 returns-2 : tie.Need-returns-2
 unfolding matrixOf
-returns-2 c = of-outcome (short (c .before .before .before .before .before .args .text .now) (c .before .before .before .before .before .args .matrix .now) (c .before .if2 .taken)) (c .refused2 .ensures) refl
+returns-2 c =
+    let start = c .before .before .before .before .before in
+    of-outcome (short (start .args .text .now) (start .args .matrix .now) (c .before .if2 .taken)) (c .refused2 .ensures) refl
 
 lines-of-requires : tie.Need-lines-of-requires
 lines-of-requires c κs = search needs
@@ -55,7 +59,10 @@ enum-told : tie.Need-enum-told
 enum-told c = search needs
 
 fill-requires : tie.Need-fill-requires
-fill-requires c κs = (c .before .before .before .before .lines-of .ensures .fits, c .before .before .before .before .lines-of .ensures .whole (c .before .before .enum-told .given .1), omega arith)
+fill-requires c κs =
+    let at-enum-told = c .before .before in
+    let at-lines-of = at-enum-told .before .before in
+    (at-lines-of .lines-of .ensures .fits, at-lines-of .lines-of .ensures .whole (at-enum-told .enum-told .given .1), omega arith)
 
 accepted-requires : tie.Need-accepted-requires
 accepted-requires c κs = c .before .before .before .before .before .before .before .lines-of .ensures .fits
@@ -71,16 +78,23 @@ same-length c = c .before .before .before .fill .kept .1 .0
 
 returns-3 : tie.Need-returns-3
 returns-3 c =
-    let p = c .before .before .before .before .before .before .before .before .before .before .before .before .before .args in
-    let made = ap (λ (v : Verdict). ends v (c .before .before .before .before .before .before .before .before .lines-of .result .line) (c .before .before .before .before .before .before .before .before .lines-of .result .state)) (sym (c .before .before .before .before .before .before .enum-told .given .1)) in
-    of-outcome (fits (p .text .now) (p .matrix .now) (omega arith) (omega arith) ∙ sym (made ∙ c .before .before .before .before .before .before .before .before .lines-of .ensures .is)) (c .accepted .ensures) (c .before .before .before .fill .ensures)
+    let at-fill = c .before .before .before in
+    let at-enum-told = at-fill .before .before .before in
+    let at-lines-of = at-enum-told .before .before in
+    let start = at-lines-of .before .before .before .before .before in
+    let p = start .args in
+    let made = ap (λ (v : Verdict). ends v (at-lines-of .lines-of .result .line) (at-lines-of .lines-of .result .state)) (sym (at-enum-told .enum-told .given .1)) in
+    of-outcome (fits (p .text .now) (p .matrix .now) (omega arith) (omega arith) ∙ sym (made ∙ at-lines-of .lines-of .ensures .is)) (c .accepted .ensures) (at-fill .fill .ensures)
 
 returns-4 : tie.Need-returns-4
 unfolding matrixOf
 returns-4 c =
-    let p = c .before .before .before .before .before .before .before .before .before .args in
-    let made = ap (λ (v : Verdict). ends v (c .before .before .before .before .lines-of .result .line) (c .before .before .before .before .lines-of .result .state)) (sym (c .before .before .verdict .given .1)) in
-    of-outcome (fits (p .text .now) (p .matrix .now) (omega arith) (omega arith) ∙ sym (made ∙ c .before .before .before .before .lines-of .ensures .is)) (c .refused3 .ensures) refl
+    let at-verdict = c .before .before in
+    let at-lines-of = at-verdict .before .before in
+    let start = at-lines-of .before .before .before .before .before in
+    let p = start .args in
+    let made = ap (λ (v : Verdict). ends v (at-lines-of .lines-of .result .line) (at-lines-of .lines-of .result .state)) (sym (at-verdict .verdict .given .1)) in
+    of-outcome (fits (p .text .now) (p .matrix .now) (omega arith) (omega arith) ∙ sym (made ∙ at-lines-of .lines-of .ensures .is)) (c .refused3 .ensures) refl
 
 pub read-spec : {M : Type 1} → statement M
 read-spec =

@@ -20,7 +20,10 @@ stopped-requires c κs = search needs
 
 returns : tie.Need-returns
 unfolding columnKey columnStep
-returns c = rw (missing columnKey (c .before .before .before .before .before .args .line .now) _ (c .before .before .starts .ensures) (c .before .if1 .taken)) (c .stopped .ensures)
+returns c =
+    let at-starts = c .before .before in
+    let start = at-starts .before .before .before in
+    rw (missing columnKey (start .args .line .now) _ (at-starts .starts .ensures) (c .before .if1 .taken)) (c .stopped .ensures)
 
 sub-from-bytes : tie.Need-sub-from-bytes
 unfolding columnKey
@@ -28,7 +31,9 @@ sub-from-bytes c = omega (arith, reaches columnKey (c .before .before .before .b
 
 part-from-bytes-start : tie.Need-part-from-bytes-start
 unfolding columnKey
-part-from-bytes-start c = omega (arith, reaches columnKey (c .before .before .before .before .args .line .now) _ (c .before .starts .ensures) (c .if1 .left))
+part-from-bytes-start c =
+    let start = c .before .before .before .before in
+    omega (arith, reaches columnKey (start .args .line .now) _ (c .before .starts .ensures) (c .if1 .left))
 
 part-from-bytes-end : tie.Need-part-from-bytes-end
 part-from-bytes-end c = search needs
@@ -51,18 +56,27 @@ stopped-requires-2 c κs = search needs
 returns-2 : tie.Need-returns-2
 unfolding columnKey
 returns-2 c =
-    let line = c .before .before .before .before .before .before .before .before .before .before .args .line .now in
-    let e : behind columnKey line ≡ value (drop 7 line) = there columnKey line _ (c .before .before .before .before .before .before .before .starts .ensures) (c .before .before .before .before .before .before .if1 .left) in
-    let long = reaches columnKey line _ (c .before .before .before .before .before .before .before .starts .ensures) (c .before .before .before .before .before .before .if1 .left) in
-    rw (column-read _ line _ e long (sym (c .before .before .n .given .1) ∙ c .before .before .before .before .from-bytes .ensures)) (c .with-column .ensures)
+    let at-n = c .before .before in
+    let at-from-bytes = at-n .before .before in
+    let at-if1 = at-from-bytes .before .before in
+    let at-starts = at-if1 .before in
+    let start = at-starts .before .before .before in
+    let line = start .args .line .now in
+    let e : behind columnKey line ≡ value (drop 7 line) = there columnKey line _ (at-starts .starts .ensures) (at-if1 .if1 .left) in
+    let long = reaches columnKey line _ (at-starts .starts .ensures) (at-if1 .if1 .left) in
+    rw (column-read _ line _ e long (sym (at-n .n .given .1) ∙ at-from-bytes .from-bytes .ensures)) (c .with-column .ensures)
 
 returns-3 : tie.Need-returns-3
 unfolding columnKey columnNamed
 returns-3 c =
-    let line = c .before .before .before .before .before .before .before .before .before .args .line .now in
-    let e : behind columnKey line ≡ value (drop 7 line) = there columnKey line _ (c .before .before .before .before .before .before .starts .ensures) (c .before .before .before .before .before .if1 .left) in
-    let long = reaches columnKey line _ (c .before .before .before .before .before .before .starts .ensures) (c .before .before .before .before .before .if1 .left) in
-    rw (column-read _ line _ e long (sym (c .before .enum-told .given .1) ∙ c .before .before .before .from-bytes .ensures)) (c .stopped2 .ensures)
+    let at-from-bytes = c .before .before .before in
+    let at-if1 = at-from-bytes .before .before in
+    let at-starts = at-if1 .before in
+    let start = at-starts .before .before .before in
+    let line = start .args .line .now in
+    let e : behind columnKey line ≡ value (drop 7 line) = there columnKey line _ (at-starts .starts .ensures) (at-if1 .if1 .left) in
+    let long = reaches columnKey line _ (at-starts .starts .ensures) (at-if1 .if1 .left) in
+    rw (column-read _ line _ e long (sym (c .before .enum-told .given .1) ∙ at-from-bytes .from-bytes .ensures)) (c .stopped2 .ensures)
 
 pub column-step-spec : {M : Type 1} → statement M
 column-step-spec =

@@ -22,7 +22,10 @@ stopped-requires c κs = search needs
 
 returns : tie.Need-returns
 unfolding channelsKey countStep
-returns c = rw (missing channelsKey (c .before .before .before .before .before .args .line .now) _ (c .before .before .starts .ensures) (c .before .if1 .taken)) (c .stopped .ensures)
+returns c =
+    let at-starts = c .before .before in
+    let start = at-starts .before .before .before in
+    rw (missing channelsKey (start .args .line .now) _ (at-starts .starts .ensures) (c .before .if1 .taken)) (c .stopped .ensures)
 
 stopped-requires-2 : tie.Need-stopped-requires-2
 stopped-requires-2 c κs = search needs
@@ -30,9 +33,12 @@ stopped-requires-2 c κs = search needs
 returns-2 : tie.Need-returns-2
 unfolding channelsKey
 returns-2 c =
-    let line = c .before .before .before .before .before .before .args .line .now in
-    let e : behind channelsKey line ≡ value (drop 9 line) = there channelsKey line _ (c .before .before .before .starts .ensures) (c .before .before .if1 .left) in
-    let long = reaches channelsKey line _ (c .before .before .before .starts .ensures) (c .before .before .if1 .left) in
+    let at-if1 = c .before .before in
+    let at-starts = at-if1 .before in
+    let start = at-starts .before .before .before in
+    let line = start .args .line .now in
+    let e : behind channelsKey line ≡ value (drop 9 line) = there channelsKey line _ (at-starts .starts .ensures) (at-if1 .if1 .left) in
+    let long = reaches channelsKey line _ (at-starts .starts .ensures) (at-if1 .if1 .left) in
     rw (e, count-long line (c .before .if2 .taken) long) (c .stopped2 .ensures)
 
 shared-slice-read-digit : tie.Need-shared-slice-read-digit
@@ -44,8 +50,11 @@ stopped-requires-3 c κs = search needs
 returns-3 : tie.Need-returns-3
 unfolding channelsKey
 returns-3 c =
-    let line = c .before .before .before .before .before .before .before .before .args .line .now in
-    let e : behind channelsKey line ≡ value (drop 9 line) = there channelsKey line _ (c .before .before .before .before .before .starts .ensures) (c .before .before .before .before .if1 .left) in
+    let at-if1 = c .before .before .before .before in
+    let at-starts = at-if1 .before in
+    let start = at-starts .before .before .before in
+    let line = start .args .line .now in
+    let e : behind channelsKey line ≡ value (drop 9 line) = there channelsKey line _ (at-starts .starts .ensures) (at-if1 .if1 .left) in
     rw (e, count-low line (omega arith) (c .before .if3 .taken)) (c .stopped3 .ensures)
 
 stopped-requires-4 : tie.Need-stopped-requires-4
@@ -54,9 +63,13 @@ stopped-requires-4 c κs = search needs
 returns-4 : tie.Need-returns-4
 unfolding channelsKey
 returns-4 c =
-    let line = c .before .before .before .before .before .before .before .before .before .args .line .now in
-    let e : behind channelsKey line ≡ value (drop 9 line) = there channelsKey line _ (c .before .before .before .before .before .before .starts .ensures) (c .before .before .before .before .before .if1 .left) in
-    rw (e, count-high line (omega arith) (c .before .before .if3 .left) (c .before .if4 .taken)) (c .stopped4 .ensures)
+    let at-if3 = c .before .before in
+    let at-if1 = at-if3 .before .before .before in
+    let at-starts = at-if1 .before in
+    let start = at-starts .before .before .before in
+    let line = start .args .line .now in
+    let e : behind channelsKey line ≡ value (drop 9 line) = there channelsKey line _ (at-starts .starts .ensures) (at-if1 .if1 .left) in
+    rw (e, count-high line (omega arith) (at-if3 .if3 .left) (c .before .if4 .taken)) (c .stopped4 .ensures)
 
 sub-count : tie.Need-sub-count
 sub-count c = search needs
@@ -73,9 +86,14 @@ went-requires c κs = search needs
 returns-5 : tie.Need-returns-5
 unfolding channelsKey
 returns-5 c =
-    let line = c .before .before .before .before .before .before .before .before .before .before .args .line .now in
-    let e : behind channelsKey line ≡ value (drop 9 line) = there channelsKey line _ (c .before .before .before .before .before .before .before .starts .ensures) (c .before .before .before .before .before .before .if1 .left) in
-    rw (e, count-digit line (omega arith) (c .before .before .before .if3 .left) (c .before .before .if4 .left))
+    let at-if4 = c .before .before in
+    let at-if3 = at-if4 .before in
+    let at-if1 = at-if3 .before .before .before in
+    let at-starts = at-if1 .before in
+    let start = at-starts .before .before .before in
+    let line = start .args .line .now in
+    let e : behind channelsKey line ≡ value (drop 9 line) = there channelsKey line _ (at-starts .starts .ensures) (at-if1 .if1 .left) in
+    rw (e, count-digit line (omega arith) (at-if3 .if3 .left) (at-if4 .if4 .left))
     (subst (λ (s : SoFar). Steps (c .went .result) (goes s)) (c .before .fresh .ensures .0) (c .went .ensures))
 
 pub count-step-spec : {M : Type 1} → statement M

@@ -20,7 +20,10 @@ stopped-requires c κs = search needs
 
 returns : tie.Need-returns
 unfolding factorKey factorStep
-returns c = rw (missing factorKey (c .before .before .before .before .before .args .line .now) _ (c .before .before .starts .ensures) (c .before .if1 .taken)) (c .stopped .ensures)
+returns c =
+    let at-starts = c .before .before in
+    let start = at-starts .before .before .before in
+    rw (missing factorKey (start .args .line .now) _ (at-starts .starts .ensures) (c .before .if1 .taken)) (c .stopped .ensures)
 
 stopped-requires-2 : tie.Need-stopped-requires-2
 stopped-requires-2 c κs = search needs
@@ -28,9 +31,12 @@ stopped-requires-2 c κs = search needs
 returns-2 : tie.Need-returns-2
 unfolding factorKey
 returns-2 c =
-    let line = c .before .before .before .before .before .before .args .line .now in
-    let e : behind factorKey line ≡ value (drop 7 line) = there factorKey line _ (c .before .before .before .starts .ensures) (c .before .before .if1 .left) in
-    let long = reaches factorKey line _ (c .before .before .before .starts .ensures) (c .before .before .if1 .left) in
+    let at-if1 = c .before .before in
+    let at-starts = at-if1 .before in
+    let start = at-starts .before .before .before in
+    let line = start .args .line .now in
+    let e : behind factorKey line ≡ value (drop 7 line) = there factorKey line _ (at-starts .starts .ensures) (at-if1 .if1 .left) in
+    let long = reaches factorKey line _ (at-starts .starts .ensures) (at-if1 .if1 .left) in
     rw (factor-short _ line e (c .before .if2 .taken) long) (c .stopped2 .ensures)
 
 read-requires : tie.Need-read-requires
@@ -51,16 +57,25 @@ stopped-requires-3 c κs = search needs
 returns-3 : tie.Need-returns-3
 unfolding factorKey
 returns-3 c =
-    let line = c .before .before .before .before .before .before .before .before .before .before .args .line .now in
-    let e : behind factorKey line ≡ value (drop 7 line) = there factorKey line _ (c .before .before .before .before .before .before .before .starts .ensures) (c .before .before .before .before .before .before .if1 .left) in
-    rw (factor-read _ line e (omega arith) _ (sym (c .before .before .before .before .read .ensures) ∙ c .before .before .bits .given .1)) (c .with-factor .ensures)
+    let at-bits = c .before .before in
+    let at-read = at-bits .before .before in
+    let at-if1 = at-read .before .before in
+    let at-starts = at-if1 .before in
+    let start = at-starts .before .before .before in
+    let line = start .args .line .now in
+    let e : behind factorKey line ≡ value (drop 7 line) = there factorKey line _ (at-starts .starts .ensures) (at-if1 .if1 .left) in
+    rw (factor-read _ line e (omega arith) _ (sym (at-read .read .ensures) ∙ at-bits .bits .given .1)) (c .with-factor .ensures)
 
 returns-4 : tie.Need-returns-4
 unfolding factorKey
 returns-4 c =
-    let line = c .before .before .before .before .before .before .before .before .before .args .line .now in
-    let e : behind factorKey line ≡ value (drop 7 line) = there factorKey line _ (c .before .before .before .before .before .before .starts .ensures) (c .before .before .before .before .before .if1 .left) in
-    rw (factor-bad _ line e (omega arith) (sym (c .before .before .before .read .ensures) ∙ c .before .enum-told .given .1)) (c .stopped3 .ensures)
+    let at-read = c .before .before .before in
+    let at-if1 = at-read .before .before in
+    let at-starts = at-if1 .before in
+    let start = at-starts .before .before .before in
+    let line = start .args .line .now in
+    let e : behind factorKey line ≡ value (drop 7 line) = there factorKey line _ (at-starts .starts .ensures) (at-if1 .if1 .left) in
+    rw (factor-bad _ line e (omega arith) (sym (at-read .read .ensures) ∙ c .before .enum-told .given .1)) (c .stopped3 .ensures)
 
 pub factor-step-spec : {M : Type 1} → statement M
 factor-step-spec =

@@ -20,7 +20,10 @@ stopped-requires c κs = search needs
 
 returns : tie.Need-returns
 unfolding rowKey rowStep
-returns c = rw (missing rowKey (c .before .before .before .before .before .args .line .now) _ (c .before .before .starts .ensures) (c .before .if1 .taken)) (c .stopped .ensures)
+returns c =
+    let at-starts = c .before .before in
+    let start = at-starts .before .before .before in
+    rw (missing rowKey (start .args .line .now) _ (at-starts .starts .ensures) (c .before .if1 .taken)) (c .stopped .ensures)
 
 sub-from-bytes : tie.Need-sub-from-bytes
 unfolding rowKey
@@ -28,7 +31,9 @@ sub-from-bytes c = omega (arith, reaches rowKey (c .before .before .before .befo
 
 part-from-bytes-start : tie.Need-part-from-bytes-start
 unfolding rowKey
-part-from-bytes-start c = omega (arith, reaches rowKey (c .before .before .before .before .args .line .now) _ (c .before .starts .ensures) (c .if1 .left))
+part-from-bytes-start c =
+    let start = c .before .before .before .before in
+    omega (arith, reaches rowKey (start .args .line .now) _ (c .before .starts .ensures) (c .if1 .left))
 
 part-from-bytes-end : tie.Need-part-from-bytes-end
 part-from-bytes-end c = search needs
@@ -51,18 +56,27 @@ stopped-requires-2 c κs = search needs
 returns-2 : tie.Need-returns-2
 unfolding rowKey
 returns-2 c =
-    let line = c .before .before .before .before .before .before .before .before .before .before .args .line .now in
-    let e : behind rowKey line ≡ value (drop 4 line) = there rowKey line _ (c .before .before .before .before .before .before .before .starts .ensures) (c .before .before .before .before .before .before .if1 .left) in
-    let long = reaches rowKey line _ (c .before .before .before .before .before .before .before .starts .ensures) (c .before .before .before .before .before .before .if1 .left) in
-    rw (row-read _ line _ e long (sym (c .before .before .n .given .1) ∙ c .before .before .before .before .from-bytes .ensures)) (c .with-row .ensures)
+    let at-n = c .before .before in
+    let at-from-bytes = at-n .before .before in
+    let at-if1 = at-from-bytes .before .before in
+    let at-starts = at-if1 .before in
+    let start = at-starts .before .before .before in
+    let line = start .args .line .now in
+    let e : behind rowKey line ≡ value (drop 4 line) = there rowKey line _ (at-starts .starts .ensures) (at-if1 .if1 .left) in
+    let long = reaches rowKey line _ (at-starts .starts .ensures) (at-if1 .if1 .left) in
+    rw (row-read _ line _ e long (sym (at-n .n .given .1) ∙ at-from-bytes .from-bytes .ensures)) (c .with-row .ensures)
 
 returns-3 : tie.Need-returns-3
 unfolding rowKey rowNamed
 returns-3 c =
-    let line = c .before .before .before .before .before .before .before .before .before .args .line .now in
-    let e : behind rowKey line ≡ value (drop 4 line) = there rowKey line _ (c .before .before .before .before .before .before .starts .ensures) (c .before .before .before .before .before .if1 .left) in
-    let long = reaches rowKey line _ (c .before .before .before .before .before .before .starts .ensures) (c .before .before .before .before .before .if1 .left) in
-    rw (row-read _ line _ e long (sym (c .before .enum-told .given .1) ∙ c .before .before .before .from-bytes .ensures)) (c .stopped2 .ensures)
+    let at-from-bytes = c .before .before .before in
+    let at-if1 = at-from-bytes .before .before in
+    let at-starts = at-if1 .before in
+    let start = at-starts .before .before .before in
+    let line = start .args .line .now in
+    let e : behind rowKey line ≡ value (drop 4 line) = there rowKey line _ (at-starts .starts .ensures) (at-if1 .if1 .left) in
+    let long = reaches rowKey line _ (at-starts .starts .ensures) (at-if1 .if1 .left) in
+    rw (row-read _ line _ e long (sym (c .before .enum-told .given .1) ∙ at-from-bytes .from-bytes .ensures)) (c .stopped2 .ensures)
 
 pub row-step-spec : {M : Type 1} → statement M
 row-step-spec =

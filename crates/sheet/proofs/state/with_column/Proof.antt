@@ -17,8 +17,10 @@ stopped-requires c κs = search needs
 returns : tie.Need-returns
 unfolding columnNamed
 returns c =
-    let s = c .before .before .before .before .args .s in
-    let e : isIn (c .before .before .before .before .args .n) (take (s .column) (s .columns)) ≡ true = sym (c .before .before .stands-in .ensures) ∙ c .before .if1 .taken in
+    let at-stands-in = c .before .before in
+    let start = at-stands-in .before .before in
+    let s = start .args .s in
+    let e : isIn (start .args .n) (take (s .column) (s .columns)) ≡ true = sym (at-stands-in .stands-in .ensures) ∙ c .before .if1 .taken in
     rw e (c .stopped .ensures)
 
 mul-n : tie.Need-mul-n
@@ -31,13 +33,17 @@ add-t : tie.Need-add-t
 add-t c = search needs
 
 went-requires : tie.Need-went-requires
-went-requires c κs = column-fits (c .before .before .before .args .s) (c .before .before .before .pre .0) (c .before .before .before .pre .1) (c .before .before .before .args .n)
+went-requires c κs =
+    let start = c .before .before .before in
+    column-fits (start .args .s) (start .pre .0) (start .pre .1) (start .args .n)
 
 returns-2 : tie.Need-returns-2
 returns-2 c =
-    let s = c .before .before .before .before .args .s in
-    let e : isIn (c .before .before .before .before .args .n) (take (s .column) (s .columns)) ≡ false = sym (c .before .before .stands-in .ensures) ∙ c .before .if1 .left in
-    rw (column-goes s (c .before .before .before .before .pre .0) (c .before .before .before .before .pre .1) (c .before .before .before .before .args .n) e) (c .went .ensures)
+    let at-stands-in = c .before .before in
+    let start = at-stands-in .before .before in
+    let s = start .args .s in
+    let e : isIn (start .args .n) (take (s .column) (s .columns)) ≡ false = sym (at-stands-in .stands-in .ensures) ∙ c .before .if1 .left in
+    rw (column-goes s (start .pre .0) (start .pre .1) (start .args .n) e) (c .went .ensures)
 
 pub with-column-spec : {M : Type 1} → statement M
 with-column-spec =

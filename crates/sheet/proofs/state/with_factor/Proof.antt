@@ -23,25 +23,35 @@ stopped-requires c κs = search needs
 returns : tie.Need-returns
 unfolding factorBits
 returns c =
-    let e : finite (ofBits binary64 (c .before .before .before .before .args .bits)) ≡ false = taken _ _ (c .before .before .is-finite .ensures ∙ rw (c .before .before .before .float-of .ensures)) (c .before .if1 .taken) in
+    let at-is-finite = c .before .before in
+    let at-float-of = at-is-finite .before in
+    let start = at-float-of .before in
+    let e : finite (ofBits binary64 (start .args .bits)) ≡ false = taken _ _ (at-is-finite .is-finite .ensures ∙ rw (at-float-of .float-of .ensures)) (c .before .if1 .taken) in
     rw e (c .stopped .ensures)
 
 mul-t : tie.Need-mul-t
 mul-t c = omega (arith, few-factors (c .before .before .before .args .s) (c .before .before .before .pre .0) (c .before .before .before .pre .1) 0)
 
 element-write-t : tie.Need-element-write-t
-element-write-t c = omega (arith, few-factors (c .before .before .before .args .s) (c .before .before .before .pre .0) (c .before .before .before .pre .1) 0)
+element-write-t c =
+    let start = c .before .before .before in
+    omega (arith, few-factors (start .args .s) (start .pre .0) (start .pre .1) 0)
 
 add-t : tie.Need-add-t
 add-t c = omega (arith, few-factors (c .before .before .before .args .s) (c .before .before .before .pre .0) (c .before .before .before .pre .1) 0)
 
 went-requires : tie.Need-went-requires
-went-requires c κs = factor-fits (c .before .before .before .args .s) (c .before .before .before .pre .0) (c .before .before .before .pre .1) (c .before .before .before .args .bits)
+went-requires c κs =
+    let start = c .before .before .before in
+    factor-fits (start .args .s) (start .pre .0) (start .pre .1) (start .args .bits)
 
 returns-2 : tie.Need-returns-2
 returns-2 c =
-    let e : finite (ofBits binary64 (c .before .before .before .before .args .bits)) ≡ true = passed _ _ (c .before .before .is-finite .ensures ∙ rw (c .before .before .before .float-of .ensures)) (c .before .if1 .left) in
-    rw (factor-goes (c .before .before .before .before .args .s) (c .before .before .before .before .pre .0) (c .before .before .before .before .pre .1) (c .before .before .before .before .args .bits) e) (c .went .ensures)
+    let at-is-finite = c .before .before in
+    let at-float-of = at-is-finite .before in
+    let start = at-float-of .before in
+    let e : finite (ofBits binary64 (start .args .bits)) ≡ true = passed _ _ (at-is-finite .is-finite .ensures ∙ rw (at-float-of .float-of .ensures)) (c .before .if1 .left) in
+    rw (factor-goes (start .args .s) (start .pre .0) (start .pre .1) (start .args .bits) e) (c .went .ensures)
 
 pub with-factor-spec : {M : Type 1} → statement M
 with-factor-spec =

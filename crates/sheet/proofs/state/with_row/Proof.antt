@@ -18,8 +18,10 @@ stopped-requires c κs = search needs
 returns : tie.Need-returns
 unfolding rowNamed
 returns c =
-    let s = c .before .before .before .before .args .s in
-    let e : isIn (c .before .before .before .before .args .n) (take (s .row) (s .rows)) ≡ true = sym (c .before .before .stands-in .ensures) ∙ c .before .if1 .taken in
+    let at-stands-in = c .before .before in
+    let start = at-stands-in .before .before in
+    let s = start .args .s in
+    let e : isIn (start .args .n) (take (s .row) (s .rows)) ≡ true = sym (at-stands-in .stands-in .ensures) ∙ c .before .if1 .taken in
     rw e (c .stopped .ensures)
 
 stands-in-requires-2 : tie.Need-stands-in-requires-2
@@ -31,9 +33,13 @@ stopped-requires-2 c κs = search needs
 returns-2 : tie.Need-returns-2
 unfolding rowNamed
 returns-2 c =
-    let s = c .before .before .before .before .before .before .before .args .s in
-    let e : isIn (c .before .before .before .before .before .before .before .args .n) (take (s .row) (s .rows)) ≡ false = sym (c .before .before .before .before .before .stands-in .ensures) ∙ c .before .before .before .before .if1 .left in
-    let f : isIn (c .before .before .before .before .before .before .before .args .n) (take (s .column) (s .columns)) ≡ false = taken _ _ (c .before .before .stands-in2 .ensures) (c .before .if2 .taken) in
+    let at-stands-in2 = c .before .before in
+    let at-if1 = at-stands-in2 .before .before in
+    let at-stands-in = at-if1 .before in
+    let start = at-stands-in .before .before in
+    let s = start .args .s in
+    let e : isIn (start .args .n) (take (s .row) (s .rows)) ≡ false = sym (at-stands-in .stands-in .ensures) ∙ at-if1 .if1 .left in
+    let f : isIn (start .args .n) (take (s .column) (s .columns)) ≡ false = taken _ _ (at-stands-in2 .stands-in2 .ensures) (c .before .if2 .taken) in
     rw (e, f) (c .stopped2 .ensures)
 
 mul-n : tie.Need-mul-n
@@ -47,17 +53,24 @@ add-t c = search needs
 
 went-requires : tie.Need-went-requires
 went-requires c κs =
-    let s = c .before .before .before .before .before .before .args .s in
-    let e : isIn (c .before .before .before .before .before .before .args .n) (take (s .row) (s .rows)) ≡ false = sym (c .before .before .before .before .stands-in .ensures) ∙ c .before .before .before .if1 .left in
-    let f : isIn (c .before .before .before .before .before .before .args .n) (take (s .column) (s .columns)) ≡ true = passed _ _ (c .before .stands-in2 .ensures) (c .if2 .left) in
-    row-fits s (c .before .before .before .before .before .before .pre .0) (c .before .before .before .before .before .before .pre .1) (c .before .before .before .before .before .before .args .n) e f
+    let at-if1 = c .before .before .before in
+    let at-stands-in = at-if1 .before in
+    let start = at-stands-in .before .before in
+    let s = start .args .s in
+    let e : isIn (start .args .n) (take (s .row) (s .rows)) ≡ false = sym (at-stands-in .stands-in .ensures) ∙ at-if1 .if1 .left in
+    let f : isIn (start .args .n) (take (s .column) (s .columns)) ≡ true = passed _ _ (c .before .stands-in2 .ensures) (c .if2 .left) in
+    row-fits s (start .pre .0) (start .pre .1) (start .args .n) e f
 
 returns-3 : tie.Need-returns-3
 returns-3 c =
-    let s = c .before .before .before .before .before .before .before .args .s in
-    let e : isIn (c .before .before .before .before .before .before .before .args .n) (take (s .row) (s .rows)) ≡ false = sym (c .before .before .before .before .before .stands-in .ensures) ∙ c .before .before .before .before .if1 .left in
-    let f : isIn (c .before .before .before .before .before .before .before .args .n) (take (s .column) (s .columns)) ≡ true = passed _ _ (c .before .before .stands-in2 .ensures) (c .before .if2 .left) in
-    rw (row-goes s (c .before .before .before .before .before .before .before .pre .0) (c .before .before .before .before .before .before .before .pre .1) (c .before .before .before .before .before .before .before .args .n) e f) (c .went .ensures)
+    let at-stands-in2 = c .before .before in
+    let at-if1 = at-stands-in2 .before .before in
+    let at-stands-in = at-if1 .before in
+    let start = at-stands-in .before .before in
+    let s = start .args .s in
+    let e : isIn (start .args .n) (take (s .row) (s .rows)) ≡ false = sym (at-stands-in .stands-in .ensures) ∙ at-if1 .if1 .left in
+    let f : isIn (start .args .n) (take (s .column) (s .columns)) ≡ true = passed _ _ (at-stands-in2 .stands-in2 .ensures) (c .before .if2 .left) in
+    rw (row-goes s (start .pre .0) (start .pre .1) (start .args .n) e f) (c .went .ensures)
 
 pub with-row-spec : {M : Type 1} → statement M
 with-row-spec =
