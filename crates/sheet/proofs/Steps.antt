@@ -95,7 +95,8 @@ one-more : {A : Type 0} (l : List A) (i : ℕ) (a : A) → i < length l → take
 one-more l i a h = rw add-one (take-suc-set l i a h)
 
 -- blanks behind one name more
-still-blank : (l : List Name) (i : ℕ) (n : Name) → i < 8 → length l ≡ 8 → drop i l ≡ replicate (8 - i) blank → drop (i + 1) (set l i n) ≡ replicate (8 - (i + 1)) blank
+still-blank : (l : List Name) (i : ℕ) (n : Name) → i < 8 → length l ≡ 8 → drop i l ≡ replicate (8 - i) blank
+    → drop (i + 1) (set l i n) ≡ replicate (8 - (i + 1)) blank
 still-blank l i n h e b =
     let left : 8 - i ≡ suc (8 - (i + 1)) = omega arith in
     let all : getD l i blank ∷ drop (i + 1) l ≡ replicate (suc (8 - (i + 1))) blank =
@@ -185,11 +186,13 @@ part-long : {A : Type 0} (l : List A) (k n : ℕ) → k ≤ length l → take (l
 part-long l k n h = take-all (length l - k) (drop k l) (rw length-drop (le-refl (length l - k)))
 
 module _ (s : SoFar) (line : List ℕ) (m : Naming) where
-  pub column-read : behind columnKey line ≡ value (drop 7 line) → 7 ≤ length line → m ≡ namingOf (take (length line - 7) (drop 7 line)) → columnStep s (behind columnKey line) ≡ columnNamed s m
+  pub column-read : behind columnKey line ≡ value (drop 7 line) → 7 ≤ length line
+      → m ≡ namingOf (take (length line - 7) (drop 7 line)) → columnStep s (behind columnKey line) ≡ columnNamed s m
   unfolding columnStep
   column-read e h n = rw (e, n, part-long line 7 0 h)
 
-  pub row-read : behind rowKey line ≡ value (drop 4 line) → 4 ≤ length line → m ≡ namingOf (take (length line - 4) (drop 4 line)) → rowStep s (behind rowKey line) ≡ rowNamed s m
+  pub row-read : behind rowKey line ≡ value (drop 4 line) → 4 ≤ length line
+      → m ≡ namingOf (take (length line - 4) (drop 4 line)) → rowStep s (behind rowKey line) ≡ rowNamed s m
   unfolding rowStep
   row-read e h n = rw (e, n, part-long line 4 0 h)
 
@@ -210,7 +213,9 @@ module _ (s : SoFar) (line : List ℕ) (e : behind factorKey line ≡ value (dro
     unfolding field
     whole-field = take-all 16 (drop 7 line) (omega (arith, sixteen-long))
 
-    told-by : (t : Bool) → allDigits (drop 7 line) ≡ t → (wordAt line 7 ≡ cond t (word.Bits (number (drop 7 line))) word.Bad) × (factorStep s (behind factorKey line) ≡ cond t (factorBits s (number (drop 7 line))) (stops Layout))
+    told-by : (t : Bool) → allDigits (drop 7 line) ≡ t
+        → (wordAt line 7 ≡ cond t (word.Bits (number (drop 7 line))) word.Bad)
+        × (factorStep s (behind factorKey line) ≡ cond t (factorBits s (number (drop 7 line))) (stops Layout))
     unfolding wordAt factorStep
     told-by t d = (rw (there-is-room, whole-field, d), rw (e, eq-eqb (length (drop 7 line)) 16 sixteen-long, d))
 
@@ -257,16 +262,42 @@ module _ (s : State) (f : Fits s) where
       module _ (named : s .count ≤ s .column) where
         pub step-factor : s .factor < s .row * s .count → step (soFar s) line ≡ factorStep (soFar s) (behind factorKey line)
         unfolding step
-        step-factor h = rw (ne-eqb (s .count) 0 some, columns-read, le-ltb (s .column) (s .count) named, factors-read, rows-read, lt-ltb (s .factor) (s .row * s .count) h)
+        step-factor h =
+            rw (
+              ne-eqb (s .count) 0 some,
+              columns-read,
+              le-ltb (s .column) (s .count) named,
+              factors-read,
+              rows-read,
+              lt-ltb (s .factor) (s .row * s .count) h,
+            )
 
         module _ (full : s .row * s .count ≤ s .factor) where
           pub step-row : s .row < s .count → step (soFar s) line ≡ rowStep (soFar s) (behind rowKey line)
           unfolding step
-          step-row h = simp (ne-eqb (s .count) 0 some, columns-read, le-ltb (s .column) (s .count) named, factors-read, rows-read, le-ltb (s .factor) (s .row * s .count) full, lt-ltb (s .row) (s .count) h)
+          step-row h =
+              simp (
+                ne-eqb (s .count) 0 some,
+                columns-read,
+                le-ltb (s .column) (s .count) named,
+                factors-read,
+                rows-read,
+                le-ltb (s .factor) (s .row * s .count) full,
+                lt-ltb (s .row) (s .count) h,
+              )
 
           pub step-none : s .count ≤ s .row → step (soFar s) line ≡ stops Layout
           unfolding step
-          step-none h = simp (ne-eqb (s .count) 0 some, columns-read, le-ltb (s .column) (s .count) named, factors-read, rows-read, le-ltb (s .factor) (s .row * s .count) full, le-ltb (s .row) (s .count) h)
+          step-none h =
+              simp (
+                ne-eqb (s .count) 0 some,
+                columns-read,
+                le-ltb (s .column) (s .count) named,
+                factors-read,
+                rows-read,
+                le-ltb (s .factor) (s .row * s .count) full,
+                le-ltb (s .row) (s .count) h,
+              )
 
   -- ---- where the lines end
 

@@ -15,10 +15,16 @@ use Rattle.sheet.proofs.print.print.Statement.{statement}
 use Rattle.sheet.proofs.print.print.Tie as tie
 
 -- what is known behind each test
-fit : (c : tie.Else1) → printFits (c .before .before .before .before .args .count) (c .before .before .before .before .args .names) (c .before .before .before .before .args .matrix .now) (length (c .before .before .before .before .args .out .now)) ≡ true
+abbrev Fit : tie.Start → Type 0
+Fit s = printFits (s .args .count) (s .args .names) (s .args .matrix .now) (length (s .args .out .now)) ≡ true
+
+fit : (c : tie.Else1) → Fit (c .before .before .before .before)
 fit c = passed _ _ (c .before .sizes-fit .ensures) (c .if1 .left)
 
-sizes : (c : tie.Else1) → Sized (c .before .before .before .before .args .count) (c .before .before .before .before .args .names) (c .before .before .before .before .args .matrix .now) (length (c .before .before .before .before .args .out .now))
+abbrev Sizes : tie.Start → Type 0
+Sizes s = Sized (s .args .count) (s .args .names) (s .args .matrix .now) (length (s .args .out .now))
+
+sizes : (c : tie.Else1) → Sizes (c .before .before .before .before)
 sizes c = sized _ _ _ _ (fit c)
 
 square : (c : tie.Else1) → c .before .before .before .before .args .count * c .before .before .before .before .args .count ≤ 64
@@ -26,10 +32,16 @@ square c =
     let count = c .before .before .before .before .args .count in
     omega (arith, mul-le-mul {n₁ = count} {m₁ = count} {n₂ = 8} {m₂ = 8} (sizes c .most) (sizes c .most))
 
-named : (c : tie.Else2) → goodNames (take (c .before .before .before .before .before .before .args .count) (c .before .before .before .before .before .before .args .names)) ≡ true
+abbrev Good : tie.Start → Type 0
+Good s = goodNames (take (s .args .count) (s .args .names)) ≡ true
+
+named : (c : tie.Else2) → Good (c .before .before .before .before .before .before)
 named c = passed _ _ (c .before .names-fit .ensures) (c .if2 .left)
 
-fine : (c : tie.Else3) → allFinite (take (c .before .before .before .before .before .before .before .before .before .args .count * c .before .before .before .before .before .before .before .before .before .args .count) (c .before .before .before .before .before .before .before .before .before .args .matrix .now)) ≡ true
+abbrev Fine : tie.Start → Type 0
+Fine s = allFinite (take (s .args .count * s .args .count) (s .args .matrix .now)) ≡ true
+
+fine : (c : tie.Else3) → Fine (c .before .before .before .before .before .before .before .before .before)
 fine c = passed _ _ (c .before .all-finite .ensures ∙ same-finite _) (c .if3 .left)
 
 sizes-fit-requires : tie.Need-sizes-fit-requires

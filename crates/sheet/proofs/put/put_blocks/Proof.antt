@@ -7,6 +7,7 @@ use Rattle.sheet.specs.Sheet.{blank, goodNames, allFinite, blocksText, b
 use Rattle.quant.specs.declared.name.Name.{Name}
 use Rattle.quant.specs.Name.{isName}
 use Rattle.quant.proofs.Places.{both}
+use lib.Ieee.{Float}
 use lib.ListN.{length, getD, take, drop}
 use native.Mathlib.Nat.{mul-le-mul, zero-mul}
 use mathlib.Core.List.{List}
@@ -14,13 +15,20 @@ use native.Mathlib.Numerals.{add-one}
 use mathlib.Core.Bool.{true}
 use mathlib.Core.Path.{_≡_, sym, ap, _∙_}
 use native.Mathlib.Omega.{arith}
-use Prim.Native.Nat.{_+_, _*_, _-_, _≤_}
+use Prim.Native.Nat.{ℕ, _+_, _*_, _-_, _≤_}
 use borrow.Author.Needs.{needs}
 use Rattle.sheet.proofs.put.put_blocks.Statement.{statement}
 use Rattle.sheet.proofs.put.put_blocks.Tie as tie
 
+-- the text of the blocks from the i-th on
+abbrev left : ℕ → ℕ → List Name → List Float → List ℕ
+left i count names matrix = blocksText (blocksOf count (drop i (take count names)) (drop (i * count) matrix))
+
 abbrev Inv-loop : tie.InvT-loop
-Inv-loop count matrix out₀ from names at₀ i₀ out at i = (i ≤ count) × (goodNames (drop i (take count names)) ≡ true) × Left (blocksText (blocksOf count (drop i (take count names)) (drop (i * count) matrix))) (blocksText (blocksOf count (take count names) matrix)) out₀ from at out
+Inv-loop count matrix out₀ from names at₀ i₀ out at i =
+    (i ≤ count)
+    × (goodNames (drop i (take count names)) ≡ true)
+    × Left (left i count names matrix) (blocksText (blocksOf count (take count names) matrix)) out₀ from at out
 
 abbrev μ-loop : tie.MeasureT-loop
 μ-loop count matrix out₀ from names at₀ i₀ out at i = count - i
@@ -29,14 +37,16 @@ loop-holds : tie.Need-loop-holds Inv-loop μ-loop
 loop-holds c = (omega arith, c .before .before .pre .0 .good, rw zero-mul (left-all _ _ _ (c .before .before .pre .1)))
 
 -- a row's numbers are few, and within the matrix
-row-fits : (c : tie.In-loop Inv-loop μ-loop) → c .before .loop .i * c .before .before .before .before .args .count + c .before .before .before .before .args .count ≤ 64
+row-fits : (c : tie.In-loop Inv-loop μ-loop)
+    → c .before .loop .i * c .before .before .before .before .args .count + c .before .before .before .before .args .count ≤ 64
 row-fits c =
     let start = c .before .before .before .before in
     let count = start .args .count in
     let square = mul-le-mul {n₁ = count} {m₁ = count} {n₂ = 8} {m₂ = 8} (start .pre .0 .most) (start .pre .0 .most) in
     omega (arith, row-within count (c .before .loop .i) (omega arith))
 
-row-in : (c : tie.In-loop Inv-loop μ-loop) → c .before .loop .i * c .before .before .before .before .args .count + c .before .before .before .before .args .count ≤ length (c .before .before .before .before .args .matrix .now)
+row-in : (c : tie.In-loop Inv-loop μ-loop)
+    → c .before .loop .i * c .before .before .before .before .args .count + c .before .before .before .before .args .count ≤ length (c .before .before .before .before .args .matrix .now)
 row-in c =
     let start = c .before .before .before .before in
     omega (arith, row-within (start .args .count) (c .before .loop .i) (omega arith), start .pre .0 .numbers)

@@ -17,7 +17,10 @@ use Rattle.sheet.proofs.put.put_columns.Statement.{statement}
 use Rattle.sheet.proofs.put.put_columns.Tie as tie
 
 abbrev Inv-loop : tie.InvT-loop
-Inv-loop count out₀ from names at₀ i₀ out at i = (i ≤ count) × (goodNames (drop i (take count names)) ≡ true) × Left (columnsText (drop i (take count names))) (columnsText (take count names)) out₀ from at out
+Inv-loop count out₀ from names at₀ i₀ out at i =
+    (i ≤ count)
+    × (goodNames (drop i (take count names)) ≡ true)
+    × Left (columnsText (drop i (take count names))) (columnsText (take count names)) out₀ from at out
 
 abbrev μ-loop : tie.MeasureT-loop
 μ-loop count out₀ from names at₀ i₀ out at i = count - i

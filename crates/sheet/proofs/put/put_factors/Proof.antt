@@ -18,7 +18,10 @@ use Rattle.sheet.proofs.put.put_factors.Statement.{statement}
 use Rattle.sheet.proofs.put.put_factors.Tie as tie
 
 abbrev Inv-loop : tie.InvT-loop
-Inv-loop numbers out₀ from at₀ i₀ out at i = (i ≤ length numbers) × (allFinite (drop i numbers) ≡ true) × Left (factorsText (patterns (drop i numbers))) (factorsText (patterns numbers)) out₀ from at out
+Inv-loop numbers out₀ from at₀ i₀ out at i =
+    (i ≤ length numbers)
+    × (allFinite (drop i numbers) ≡ true)
+    × Left (factorsText (patterns (drop i numbers))) (factorsText (patterns numbers)) out₀ from at out
 
 abbrev μ-loop : tie.MeasureT-loop
 μ-loop numbers out₀ from at₀ i₀ out at i = length numbers - i

@@ -13,7 +13,10 @@ use Rattle.sheet.proofs.read.copy_row.Statement.{statement}
 use Rattle.sheet.proofs.read.copy_row.Tie as tie
 
 abbrev Inv-loop : tie.InvT-loop
-Inv-loop from matrix₀ to count factors k₀ matrix k = (k ≤ count) × (length matrix ≡ length matrix₀) × (matrix ≡ paste matrix₀ to (doubles (take count (drop from factors))) k)
+Inv-loop from matrix₀ to count factors k₀ matrix k =
+    (k ≤ count)
+    × (length matrix ≡ length matrix₀)
+    × (matrix ≡ paste matrix₀ to (doubles (take count (drop from factors))) k)
 
 abbrev μ-loop : tie.MeasureT-loop
 μ-loop from matrix₀ to count factors k₀ matrix k = count - k

@@ -38,14 +38,17 @@ record Within (count row : ℕ) (matrix : List Float) : Type 0 where
   factors : row * count + count ≤ 64
   numbers : row * count + count ≤ length matrix
 
+abbrev Row : tie.After-place Inv-loop μ-loop → ℕ → Type 0
+Row c row = Within (c .before .before .before .before .before .before .before .before .args .s .count) row (c .before .before .before .loop .matrix)
+
 module _ (c : tie.After-place Inv-loop μ-loop) where
-  within : (row : ℕ) → row < c .before .before .before .before .before .before .before .before .args .s .count → Within (c .before .before .before .before .before .before .before .before .args .s .count) row (c .before .before .before .loop .matrix)
+  within : (row : ℕ) → row < c .before .before .before .before .before .before .before .before .args .s .count → Row c row
   within row h =
       let inv = c .before .before .before .loop .inv in
       let fits = row-within (c .before .before .before .before .before .before .before .before .args .s .count) row h in
       record { factors = omega (arith, inv .ready .square); numbers = omega (arith, inv .ready .square, inv .room, inv .long) }
 
-  row-fits : Within (c .before .before .before .before .before .before .before .before .args .s .count) (c .place .result) (c .before .before .before .loop .matrix)
+  row-fits : Row c (c .place .result)
   unfolding blank
   row-fits =
       let s = c .before .before .before .before .before .before .before .before .args .s in
@@ -53,7 +56,7 @@ module _ (c : tie.After-place Inv-loop μ-loop) where
       let found = column-found (s .count) (s .columns) (s .rows) (s .factors) (at .inv .ready) (at .c) blank (omega arith) in
       within (c .place .result) (omega (arith, c .place .ensures))
 
-  place-fits : Within (c .before .before .before .before .before .before .before .before .args .s .count) (c .before .before .before .loop .c) (c .before .before .before .loop .matrix)
+  place-fits : Row c (c .before .before .before .loop .c)
   place-fits = within (c .before .before .before .loop .c) (omega arith)
 
 mul-copy-row : tie.Need-mul-copy-row Inv-loop μ-loop

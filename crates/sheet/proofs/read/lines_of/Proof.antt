@@ -13,7 +13,11 @@ use Rattle.sheet.proofs.read.lines_of.Statement.{statement}
 use Rattle.sheet.proofs.read.lines_of.Tie as tie
 
 abbrev Inv-loop : tie.InvT-loop
-Inv-loop text s₀ line₀ at₀ s line at = (at ≤ length text) × (line ≤ at + 1) × Fits s × (readText line (soFar s) (drop at text) ≡ readText 1 nothing text)
+Inv-loop text s₀ line₀ at₀ s line at =
+    (at ≤ length text)
+    × (line ≤ at + 1)
+    × Fits s
+    × (readText line (soFar s) (drop at text) ≡ readText 1 nothing text)
 
 abbrev μ-loop : tie.MeasureT-loop
 μ-loop text s₀ line₀ at₀ s line at = length text - at

@@ -11,8 +11,21 @@ blank-requires c κs = search needs
 
 returns : tie.Need-returns
 unfolding blank single among
-returns c =
-    (refl, record { most = c .before .pre; columns-most = omega arith; rows-most = omega arith; factors-most = omega arith; columns-long = refl; rows-long = refl; factors-long = refl; blanks = rw (c .blank .ensures); single-rows = refl; rows-columns = refl })
+returns c = (
+  refl,
+  record {
+    most = c .before .pre;
+    columns-most = omega arith;
+    rows-most = omega arith;
+    factors-most = omega arith;
+    columns-long = refl;
+    rows-long = refl;
+    factors-long = refl;
+    blanks = rw (c .blank .ensures);
+    single-rows = refl;
+    rows-columns = refl;
+  },
+)
 
 pub fresh-spec : {M : Type 1} → statement M
 fresh-spec = tie.close (tie.spec blank-requires returns)
