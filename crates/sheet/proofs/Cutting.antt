@@ -1,21 +1,21 @@
 -- A text cut at its line feeds beside `lineLength`: where the first line ends, and what reading it comes to. Assumes nothing.
 use Prim.Native.Nat.{ℕ, suc, _+_, _-_, _<_}
-use mathlib.Core.Path.{_≡_, refl, sym, ap, _∙_}
 use mathlib.Core.Bool.{Bool, true, false, cond, and-false}
 use mathlib.Core.List.{List, [], _∷_}
+use mathlib.Core.Path.{_≡_, refl, sym, ap, _∙_}
+use native.Mathlib.Nat.{add-suc}
+use native.Mathlib.Numerals.{add-one}
 use native.Mathlib.Omega.{arith}
 use borrow.Author.Tests.{ne-eqb}
 use lib.Dec.{eqb}
 use lib.ListN.{length, take, drop, length-drop}
 use lib.Seq.{drop-drop}
-use native.Mathlib.Nat.{add-suc}
-use native.Mathlib.Numerals.{add-one}
-use Rattle.lines.specs.Text.{lineLength}
 use Rattle.lines.proofs.Lines.{line-ends-within}
+use Rattle.lines.specs.Text.{lineLength}
 use Rattle.quant.specs.declared.refusal.Refusal.{Refusal}
 use Rattle.quant.specs.declared.refusal.Refusal.the-variants.{Layout}
-use Rattle.sheet.specs.Sheet.{onto, cut, SoFar, Step, goes, stops, step, onward, complete, refuses, readFrom}
 use Rattle.sheet.specs.Reader.{soFar, told, readText}
+use Rattle.sheet.specs.Sheet.{onto, cut, SoFar, Step, goes, stops, step, onward, complete, refuses, readFrom}
 use Rattle.sheet.specs.declared.state.State.{State}
 use Rattle.sheet.specs.declared.state.Verdict.{Verdict}
 use Rattle.sheet.specs.declared.state.Verdict.the-variants.{Good, Bad}

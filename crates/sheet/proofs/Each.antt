@@ -1,16 +1,16 @@
 -- Each column has a row: names that are single, among others, and as many as those, are all of them. The one idea: take a name away on
 -- both sides. Assumes nothing.
 use Prim.Native.Nat.{suc, _≤_}
-use mathlib.Core.Path.{_≡_, refl, sym, ap, _∙_}
 use mathlib.Core.Bool.{Bool, true, false, _&&_, _||_, not, cond, true≢false, or-assoc, and-assoc}
 use mathlib.Core.List.{List, [], _∷_, _++_}
+use mathlib.Core.Path.{_≡_, refl, sym, ap, _∙_}
 use native.Mathlib.Omega.{arith}
 use borrow.Author.Tests.{not-true}
 use lib.ListN.{length}
-use Rattle.quant.specs.Name.{sameName}
-use Rattle.quant.specs.declared.name.Name.{Name}
 use Rattle.quant.proofs.Naming.{same-exactly}
 use Rattle.quant.proofs.Places.{both}
+use Rattle.quant.specs.Name.{sameName}
+use Rattle.quant.specs.declared.name.Name.{Name}
 use Rattle.sheet.specs.Sheet.{isIn, single, among}
 
 neither : (a b : Bool) → (a || b) ≡ false → (a ≡ false) × (b ≡ false)

@@ -1,7 +1,7 @@
 -- Document 01, "The sheet": its example computed by the definition, read and printed; and three refusals. Assumes nothing.
 use Prim.Native.Nat.{ℕ}
-use mathlib.Core.Path.{_≡_, refl}
 use mathlib.Core.List.{List, [], _∷_, _++_}
+use mathlib.Core.Path.{_≡_, refl}
 use lib.Ieee.{nan, ofBits, toBits}
 use lib.ListN.{replicate}
 use Rattle.hex.specs.Hex.{allDigits, number, digits, digitValue, digitOf}

@@ -1,23 +1,23 @@
 -- The matrix filled: the rows that stand under the columns' names, in column order. The one idea: each column has a row, so each turn
 -- pastes exactly one row, and what is still to paste falls by it. Assumes nothing.
 use Prim.Native.Nat.{ℕ, zero, suc, _+_, _*_, _≤_, _<_}
-use mathlib.Core.Path.{_≡_, refl, sym, ap, _∙_}
 use mathlib.Core.Bool.{Bool, true, false, _||_}
 use mathlib.Core.List.{List, [], _∷_, _++_}
-use native.Mathlib.Omega.{arith}
+use mathlib.Core.Path.{_≡_, refl, sym, ap, _∙_}
 use native.Mathlib.Nat.{mul-le-mul, suc-mul, zero-mul}
 use native.Mathlib.Numerals.{add-one}
+use native.Mathlib.Omega.{arith}
 use borrow.Author.Tests.{eqb-true, ltb-true}
 use lib.Dec.{leb, eqb}
 use lib.Ieee.{Float, binary64, ofBits}
 use lib.ListN.{length, getD, take, drop, length-append, length-drop}
 use lib.Seq.{getD-take, getD-drop, length-take-le}
+use Rattle.quant.proofs.Places.{both}
 use Rattle.quant.specs.Name.{sameName}
 use Rattle.quant.specs.declared.name.Name.{Name}
-use Rattle.quant.proofs.Places.{both}
-use Rattle.sheet.specs.Sheet.{SoFar, isIn, position, among, complete, doubles, under, rowsFor}
-use Rattle.sheet.specs.Reader.{soFar, Fits}
 use Rattle.sheet.specs.Puts.{pasted}
+use Rattle.sheet.specs.Reader.{soFar, Fits}
+use Rattle.sheet.specs.Sheet.{SoFar, isIn, position, among, complete, doubles, under, rowsFor}
 use Rattle.sheet.specs.declared.state.State.{State}
 use Rattle.sheet.proofs.Among.{is-in}
 use Rattle.sheet.proofs.Each.{each, same-self}

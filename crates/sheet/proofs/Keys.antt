@@ -1,13 +1,13 @@
 -- A key beside a line, byte by byte: what is parted from a place on. Assumes nothing.
 use Prim.Native.Nat.{ℕ, suc, _≤_, _<_}
-use mathlib.Core.Path.{_≡_, refl, sym}
 use mathlib.Core.Bool.{Bool, true, false, not, true≢false}
 use mathlib.Core.List.{List}
+use mathlib.Core.Path.{_≡_, refl, sym}
 use borrow.Author.Tests.{eq-eqb, ne-eqb}
 use lib.ListN.{length, getD, drop, drop-of-length-le}
 use lib.Seq.{drop-cons}
-use Rattle.sheet.specs.Sheet.{behind, value, other}
 use Rattle.sheet.specs.Reader.{Starts}
+use Rattle.sheet.specs.Sheet.{behind, value, other}
 
 module _ (key line : List ℕ) (i : ℕ) (h : i < length key) where
   pub line-ends : length line ≤ i → behind (drop i key) (drop i line) ≡ other

@@ -1,30 +1,30 @@
 -- A sheet's text line by line, as it is put, and how long it is. Assumes nothing.
 use Prim.Native.Nat.{ℕ, zero, suc, _+_, _-_, _*_, _≤_, _<_}
-use mathlib.Core.Path.{_≡_, refl, sym, ap, _∙_}
 use mathlib.Core.Bool.{Bool, true, false, _&&_, not, true≢false}
 use mathlib.Core.List.{List, [], _∷_, _++_, append-assoc}
-use native.Mathlib.Omega.{arith}
+use mathlib.Core.Path.{_≡_, refl, sym, ap, _∙_}
 use native.Mathlib.Nat.{suc-mul, zero-mul}
+use native.Mathlib.Omega.{arith}
 use borrow.Author.Tests.{le-leb, leb-true}
 use lib.Dec.{T, leb}
 use lib.Ieee.{Float, binary64, toBits, nan, inf, fin, isNan}
 use lib.Ieee.Scale.{finite}
 use lib.ListN.{length, getD, take, drop, length-append, length-drop}
 use lib.Seq.{append-snoc, drop-cons, drop-drop, length-take-le, take-all}
-use Rattle.hex.specs.Hex as hex
 use Rattle.hex.proofs.Number.{length-digits}
+use Rattle.hex.specs.Hex as hex
+use Rattle.quant.proofs.Naming.{well-formed, length-bytes, writes}
+use Rattle.quant.proofs.Places.{both}
+use Rattle.quant.proofs.Words.{length-sixteen}
 use Rattle.quant.specs.Name as quant
 use Rattle.quant.specs.Name.{bytesOf, sixteen, isName}
 use Rattle.quant.specs.declared.name.Name.{Name}
 use Rattle.quant.specs.declared.refusal.Refusal.{Refusal}
 use Rattle.quant.specs.declared.refusal.Refusal.the-variants.{Malformed, WrongSize, Crosstalk}
-use Rattle.quant.proofs.Naming.{well-formed, length-bytes, writes}
-use Rattle.quant.proofs.Places.{both}
-use Rattle.quant.proofs.Words.{length-sixteen}
 use Rattle.rows.specs.Rows as rows
+use Rattle.sheet.specs.Puts.{Put, nameLine, factorLine, blockText, twoLines, namesSize}
 use Rattle.sheet.specs.Sheet.{channelsKey, columnKey, rowKey, factorKey, isIn, goodNames, single, allFinite, patterns, countText, columnsText, factorsText, blocksText, blocksOf, sheetOf, sheetText, printFits, printedOf, bytesAfter, Print}
 use Rattle.sheet.specs.declared.print.Printed.{Printed}
-use Rattle.sheet.specs.Puts.{Put, nameLine, factorLine, blockText, twoLines, namesSize}
 use Rattle.sheet.proofs.Parts.{part-cons}
 
 -- ---- what the writers of names and words leave

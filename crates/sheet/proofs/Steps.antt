@@ -1,12 +1,12 @@
 -- One line more: what the definition says of a line, in the cases that the code tells apart, and that the state goes on to fit.
 -- Assumes nothing.
 use Prim.Native.Nat.{ℕ, zero, suc, _+_, _-_, _*_, _≤_, _<_}
-use mathlib.Core.Path.{_≡_, refl, sym, ap, _∙_}
 use mathlib.Core.Bool.{Bool, true, false, _&&_, cond, true≢false}
 use mathlib.Core.List.{List, [], _∷_, _++_}
-use native.Mathlib.Omega.{arith}
+use mathlib.Core.Path.{_≡_, refl, sym, ap, _∙_}
 use native.Mathlib.Nat.{le-refl, mul-le-mul}
 use native.Mathlib.Numerals.{add-one}
+use native.Mathlib.Omega.{arith}
 use borrow.Author.Tests.{eq-eqb, ne-eqb, le-leb, lt-leb, lt-ltb, le-ltb}
 use lib.Dec.{leb, eqb}
 use lib.Ieee.{binary64, ofBits}
@@ -20,8 +20,8 @@ use Rattle.quant.specs.declared.name.Name.{Name}
 use Rattle.quant.specs.declared.name.Naming.{Naming}
 use Rattle.quant.specs.declared.name.Naming.the-variants.{Named, Bad}
 use Rattle.quant.specs.declared.refusal.Refusal.the-variants.{Layout}
-use Rattle.sheet.specs.Sheet.{channelsKey, columnKey, rowKey, factorKey, behind, eight, step, complete, value, SoFar, goes, stops, countStep, columnNamed, columnStep, rowNamed, rowStep, factorBits, factorStep, isIn, blank, among}
 use Rattle.sheet.specs.Reader.{soFar, begun, Fits}
+use Rattle.sheet.specs.Sheet.{channelsKey, columnKey, rowKey, factorKey, behind, eight, step, complete, value, SoFar, goes, stops, countStep, columnNamed, columnStep, rowNamed, rowStep, factorBits, factorStep, isIn, blank, among}
 use Rattle.sheet.specs.declared.state.State.{State}
 use Rattle.sheet.proofs.Each.{among-append, among-more, single-more}
 

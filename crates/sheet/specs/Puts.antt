@@ -1,10 +1,10 @@
 -- Elements put at a place of a list, as the matrix is filled and a sheet is printed; and how long a sheet's text is. Definitions only.
 use Prim.Native.Nat.{ℕ, _+_, _*_, _≤_}
-use mathlib.Core.Path.{_≡_}
 use mathlib.Core.Bool.{true}
 use mathlib.Core.List.{List, [], _∷_, _++_}
-use lib.ListN.{length, take, drop}
+use mathlib.Core.Path.{_≡_}
 use lib.Ieee.{Float, binary64, toBits}
+use lib.ListN.{length, take, drop}
 use Rattle.hex.specs.Hex.{digits}
 use Rattle.quant.specs.Name.{bytesOf}
 use Rattle.quant.specs.declared.name.Name.{Name}

@@ -1,8 +1,8 @@
 -- The reader's state tied to what the lines so far have said, and what each of the reader's functions answers. Definitions only.
 use Prim.Native.Nat.{ℕ, _-_, _*_, _≤_}
-use mathlib.Core.Path.{_≡_}
 use mathlib.Core.Bool.{Bool, true, false}
 use mathlib.Core.List.{List, []}
+use mathlib.Core.Path.{_≡_}
 use lib.ListN.{length, take, drop, replicate}
 use Rattle.sheet.specs.Sheet.{Behind, value, other, behind, SoFar, Step, goes, stops, Outcome, accepts, refuses, cut, readFrom, complete, single, among, blank, answerOf, namesOf}
 use Rattle.sheet.specs.declared.read.Parsed.{Parsed}
@@ -52,6 +52,11 @@ pub record Fits (s : State) : Type 0 where
   pub blanks : drop (s .column) (s .columns) ≡ replicate (8 - s .column) blank
   pub single-rows : single (take (s .row) (s .rows)) ≡ true
   pub rows-columns : among (take (s .column) (s .columns)) (take (s .row) (s .rows)) ≡ true
+
+-- what the state after a line that says the count is
+pub record Begins (r : State) (count : ℕ) : Type 0 where
+  pub is : soFar r ≡ begun count
+  pub fits : Fits r
 
 -- ---- one line
 

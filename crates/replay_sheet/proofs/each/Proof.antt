@@ -1,7 +1,7 @@
 -- `replay_sheet::each` meets its contract: it is safe and ends, since each turn goes past the length at least. Assumes nothing.
-use lib.ListN.{length}
 use Prim.Native.Nat.{_-_, _≤_}
 use borrow.Author.Needs.{needs}
+use lib.ListN.{length}
 use Rattle.replay_sheet.proofs.each.Statement.{statement}
 use Rattle.replay_sheet.proofs.each.Tie as tie
 

@@ -1,11 +1,11 @@
 -- `sheet_out::show` meets its contract: what is printed is within the room. Assumes nothing.
-use Rattle.sheet.proofs.Printing.{printed-within}
-use lib.Seq.{length-take-le}
-use lib.ListN.{length}
 use Prim.Native.Nat.{_≤_}
 use mathlib.Core.Path.{sym, _∙_}
 use native.Mathlib.Omega.{arith}
 use borrow.Author.Needs.{needs}
+use lib.ListN.{length}
+use lib.Seq.{length-take-le}
+use Rattle.sheet.proofs.Printing.{printed-within}
 use Rattle.sheet_out.proofs.show.Statement.{statement}
 use Rattle.sheet_out.proofs.show.Tie as tie
 

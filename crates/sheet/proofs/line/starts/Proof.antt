@@ -1,14 +1,14 @@
 -- `sheet::line::starts` meets its contract. The invariant: what is parted from i on is what is parted from the start. Assumes nothing.
 use Prim.Native.Nat.{_≤_, _-_}
-use mathlib.Core.Path.{_≡_, refl, sym, _∙_}
 use mathlib.Core.Bool.{true≢false}
-use native.Mathlib.Omega.{arith}
+use mathlib.Core.Path.{_≡_, refl, sym, _∙_}
 use native.Mathlib.Numerals.{add-one}
+use native.Mathlib.Omega.{arith}
+use borrow.Author.Needs.{needs}
 use lib.ListN.{length, drop}
 use lib.Seq.{drop-length}
 use Rattle.sheet.specs.Sheet.{behind}
 use Rattle.sheet.proofs.Keys.{line-ends, goes-on, differs}
-use borrow.Author.Needs.{needs}
 use Rattle.sheet.proofs.line.starts.Statement.{statement}
 use Rattle.sheet.proofs.line.starts.Tie as tie
 

@@ -1,6 +1,6 @@
 -- `sheet::names::blank` meets its contract. Assumes nothing.
-use Rattle.sheet.specs.Sheet.{blank}
 use borrow.Author.Needs.{needs}
+use Rattle.sheet.specs.Sheet.{blank}
 use Rattle.sheet.proofs.names.blank.Statement.{statement}
 use Rattle.sheet.proofs.names.blank.Tie as tie
 

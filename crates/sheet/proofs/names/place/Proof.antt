@@ -1,12 +1,12 @@
 -- `sheet::names::place` meets its contract. The invariant: from i on the name stands where it stands from `from` on. Assumes nothing.
-use Rattle.sheet.proofs.Among.{here, further, nowhere}
-use Rattle.sheet.specs.Sheet.{position}
-use lib.ListN.{take, drop}
+use Prim.Native.Nat.{_≤_, _-_, _+_}
+use mathlib.Core.Path.{_≡_, refl, sym, _∙_}
 use native.Mathlib.Numerals.{add-one}
 use native.Mathlib.Omega.{arith}
-use mathlib.Core.Path.{_≡_, refl, sym, _∙_}
-use Prim.Native.Nat.{_≤_, _-_, _+_}
 use borrow.Author.Needs.{needs}
+use lib.ListN.{take, drop}
+use Rattle.sheet.specs.Sheet.{position}
+use Rattle.sheet.proofs.Among.{here, further, nowhere}
 use Rattle.sheet.proofs.names.place.Statement.{statement}
 use Rattle.sheet.proofs.names.place.Tie as tie
 

@@ -1,7 +1,7 @@
 -- `sheet::names::stands_in` meets its contract: a name stands in a list exactly where its place is within it. Assumes nothing.
-use Rattle.sheet.proofs.Among.{in-from}
 use native.Mathlib.Omega.{arith}
 use borrow.Author.Needs.{needs}
+use Rattle.sheet.proofs.Among.{in-from}
 use Rattle.sheet.proofs.names.stands_in.Statement.{statement}
 use Rattle.sheet.proofs.names.stands_in.Tie as tie
 

@@ -1,14 +1,14 @@
 -- `sheet::print::names_fit` meets its contract. The invariant: whether all are names is whether those from i on are. Assumes nothing.
-use Rattle.sheet.proofs.Printing.{good-next}
-use Rattle.sheet.proofs.Parts.{part-end}
-use Rattle.sheet.specs.Sheet.{blank, goodNames}
-use Rattle.quant.proofs.Judging.{taken, passed}
-use lib.ListN.{take, drop}
-use native.Mathlib.Numerals.{add-one}
-use mathlib.Core.Path.{_≡_, refl, sym, _∙_}
-use native.Mathlib.Omega.{arith}
 use Prim.Native.Nat.{_-_, _≤_}
+use mathlib.Core.Path.{_≡_, refl, sym, _∙_}
+use native.Mathlib.Numerals.{add-one}
+use native.Mathlib.Omega.{arith}
 use borrow.Author.Needs.{needs}
+use lib.ListN.{take, drop}
+use Rattle.quant.proofs.Judging.{taken, passed}
+use Rattle.sheet.specs.Sheet.{blank, goodNames}
+use Rattle.sheet.proofs.Parts.{part-end}
+use Rattle.sheet.proofs.Printing.{good-next}
 use Rattle.sheet.proofs.print.names_fit.Statement.{statement}
 use Rattle.sheet.proofs.print.names_fit.Tie as tie
 

@@ -1,16 +1,16 @@
 -- `sheet::print::needed` meets its contract. The invariant: with the lines that are left the size is the whole. Assumes nothing.
-use Rattle.sheet.proofs.Printing.{size-next, size-most}
+use Prim.Native.Nat.{_+_, _*_, _-_, _≤_}
+use mathlib.Core.Path.{_≡_, refl}
+use native.Mathlib.Nat.{mul-le-mul}
+use native.Mathlib.Numerals.{add-one}
+use native.Mathlib.Omega.{arith}
+use borrow.Author.Needs.{needs}
+use lib.ListN.{take, drop}
 use lib.Seq.{length-take-le}
-use Rattle.sheet.proofs.Parts.{part-end}
 use Rattle.sheet.specs.Puts.{namesSize}
 use Rattle.sheet.specs.Sheet.{blank}
-use native.Mathlib.Nat.{mul-le-mul}
-use lib.ListN.{take, drop}
-use native.Mathlib.Numerals.{add-one}
-use mathlib.Core.Path.{_≡_, refl}
-use native.Mathlib.Omega.{arith}
-use Prim.Native.Nat.{_+_, _*_, _-_, _≤_}
-use borrow.Author.Needs.{needs}
+use Rattle.sheet.proofs.Parts.{part-end}
+use Rattle.sheet.proofs.Printing.{size-next, size-most}
 use Rattle.sheet.proofs.print.needed.Statement.{statement}
 use Rattle.sheet.proofs.print.needed.Tie as tie
 

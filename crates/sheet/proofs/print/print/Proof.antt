@@ -1,16 +1,16 @@
 -- `sheet::print::print` meets its contract: its tests are the definition's in their order, and then the whole text is put. Assumes nothing.
-use Rattle.sheet.specs.declared.print.Printed.{Printed}
 use Prim.Native.Nat.{_*_, _≤_}
-use Rattle.sheet.proofs.Printing.{same-finite, sized, of-printed, no-room, bad-name, bad-number, doubled, printed, Sized}
-use Rattle.sheet.specs.Sheet.{allFinite, bytesAfter, printFits, goodNames, sheetText, sheetOf}
-use lib.Seq.{length-take-le}
-use lib.ListN.{length, take}
-use native.Mathlib.Nat.{mul-le-mul, zero-add}
 use mathlib.Core.Bool.{true}
-use Rattle.quant.proofs.Judging.{taken, passed}
 use mathlib.Core.Path.{_≡_, refl, sym, ap, _∙_}
+use native.Mathlib.Nat.{mul-le-mul, zero-add}
 use native.Mathlib.Omega.{arith}
 use borrow.Author.Needs.{needs}
+use lib.ListN.{length, take}
+use lib.Seq.{length-take-le}
+use Rattle.quant.proofs.Judging.{taken, passed}
+use Rattle.sheet.specs.Sheet.{allFinite, bytesAfter, printFits, goodNames, sheetText, sheetOf}
+use Rattle.sheet.specs.declared.print.Printed.{Printed}
+use Rattle.sheet.proofs.Printing.{same-finite, sized, of-printed, no-room, bad-name, bad-number, doubled, printed, Sized}
 use Rattle.sheet.proofs.print.print.Statement.{statement}
 use Rattle.sheet.proofs.print.print.Tie as tie
 

@@ -1,13 +1,13 @@
 -- `sheet::print::singles` meets its contract. The invariant: whether no name is doubled is whether none from i on is. Assumes nothing.
-use Rattle.sheet.proofs.Printing.{single-next}
-use Rattle.sheet.proofs.Parts.{part-end}
-use Rattle.sheet.specs.Sheet.{blank, single}
-use lib.ListN.{take, drop}
-use native.Mathlib.Numerals.{add-one}
-use mathlib.Core.Path.{_≡_, refl, sym, _∙_}
-use native.Mathlib.Omega.{arith}
 use Prim.Native.Nat.{_-_, _≤_}
+use mathlib.Core.Path.{_≡_, refl, sym, _∙_}
+use native.Mathlib.Numerals.{add-one}
+use native.Mathlib.Omega.{arith}
 use borrow.Author.Needs.{needs}
+use lib.ListN.{take, drop}
+use Rattle.sheet.specs.Sheet.{blank, single}
+use Rattle.sheet.proofs.Parts.{part-end}
+use Rattle.sheet.proofs.Printing.{single-next}
 use Rattle.sheet.proofs.print.singles.Statement.{statement}
 use Rattle.sheet.proofs.print.singles.Tie as tie
 

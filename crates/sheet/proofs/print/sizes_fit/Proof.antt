@@ -1,10 +1,10 @@
 -- `sheet::print::sizes_fit` meets its contract: its tests are the definition's, and the size is the text's. Assumes nothing.
-use Rattle.sheet.proofs.Printing.{text-long}
-use Rattle.sheet.specs.Sheet.{printFits}
 use native.Mathlib.Nat.{mul-le-mul}
-use borrow.Author.Tests.{le-leb, lt-leb}
 use native.Mathlib.Omega.{arith}
 use borrow.Author.Needs.{needs}
+use borrow.Author.Tests.{le-leb, lt-leb}
+use Rattle.sheet.specs.Sheet.{printFits}
+use Rattle.sheet.proofs.Printing.{text-long}
 use Rattle.sheet.proofs.print.sizes_fit.Statement.{statement}
 use Rattle.sheet.proofs.print.sizes_fit.Tie as tie
 

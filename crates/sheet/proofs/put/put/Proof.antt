@@ -1,11 +1,11 @@
 -- `sheet::put::put` meets its contract. The invariant: the first i bytes of the key stand in the text that came. Assumes nothing.
-use lib.Seq.{paste, paste-zero, paste-suc, take-length}
-use lib.ListN.{length, length-set}
-use native.Mathlib.Numerals.{add-one}
-use mathlib.Core.Path.{_≡_, refl, _∙_}
-use native.Mathlib.Omega.{arith}
 use Prim.Native.Nat.{_-_, _≤_}
+use mathlib.Core.Path.{_≡_, refl, _∙_}
+use native.Mathlib.Numerals.{add-one}
+use native.Mathlib.Omega.{arith}
 use borrow.Author.Needs.{needs}
+use lib.ListN.{length, length-set}
+use lib.Seq.{paste, paste-zero, paste-suc, take-length}
 use Rattle.sheet.proofs.put.put.Statement.{statement}
 use Rattle.sheet.proofs.put.put.Tie as tie
 

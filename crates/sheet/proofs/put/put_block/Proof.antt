@@ -1,11 +1,11 @@
 -- `sheet::put::put_block` meets its contract: two puts, one behind the other. Assumes nothing.
-use Rattle.sheet.specs.Puts.{nameLine}
-use Rattle.sheet.specs.Sheet.{rowKey, factorsText, patterns}
-use lib.ListN.{length-append}
 use mathlib.Core.Path.{_∙_}
-use Rattle.sheet.proofs.Pasting.{then}
 use native.Mathlib.Omega.{arith}
 use borrow.Author.Needs.{needs}
+use lib.ListN.{length-append}
+use Rattle.sheet.specs.Puts.{nameLine}
+use Rattle.sheet.specs.Sheet.{rowKey, factorsText, patterns}
+use Rattle.sheet.proofs.Pasting.{then}
 use Rattle.sheet.proofs.put.put_block.Statement.{statement}
 use Rattle.sheet.proofs.put.put_block.Tie as tie
 

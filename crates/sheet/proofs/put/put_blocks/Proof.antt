@@ -1,22 +1,22 @@
 -- `sheet::put::put_blocks` meets its contract. The invariant: putting the blocks that are left comes to putting them all. Assumes nothing.
-use Rattle.sheet.proofs.Printing.{blocks-line, good-next, finite-take, finite-drop}
-use Rattle.sheet.proofs.Pasting.{Left, left-all, left-more, left-none, left-room}
-use Rattle.sheet.proofs.Parts.{part-end, part-of, row-within}
-use Rattle.sheet.specs.Puts.{blockText}
-use Rattle.sheet.specs.Sheet.{blank, goodNames, allFinite, blocksText, blocksOf}
-use Rattle.quant.specs.declared.name.Name.{Name}
-use Rattle.quant.specs.Name.{isName}
-use Rattle.quant.proofs.Places.{both}
+use Prim.Native.Nat.{ℕ, _+_, _*_, _-_, _≤_}
+use mathlib.Core.Bool.{true}
+use mathlib.Core.List.{List}
+use mathlib.Core.Path.{_≡_, sym, ap, _∙_}
+use native.Mathlib.Nat.{mul-le-mul, zero-mul}
+use native.Mathlib.Numerals.{add-one}
+use native.Mathlib.Omega.{arith}
+use borrow.Author.Needs.{needs}
 use lib.Ieee.{Float}
 use lib.ListN.{length, getD, take, drop}
-use native.Mathlib.Nat.{mul-le-mul, zero-mul}
-use mathlib.Core.List.{List}
-use native.Mathlib.Numerals.{add-one}
-use mathlib.Core.Bool.{true}
-use mathlib.Core.Path.{_≡_, sym, ap, _∙_}
-use native.Mathlib.Omega.{arith}
-use Prim.Native.Nat.{ℕ, _+_, _*_, _-_, _≤_}
-use borrow.Author.Needs.{needs}
+use Rattle.quant.proofs.Places.{both}
+use Rattle.quant.specs.Name.{isName}
+use Rattle.quant.specs.declared.name.Name.{Name}
+use Rattle.sheet.specs.Puts.{blockText}
+use Rattle.sheet.specs.Sheet.{blank, goodNames, allFinite, blocksText, blocksOf}
+use Rattle.sheet.proofs.Parts.{part-end, part-of, row-within}
+use Rattle.sheet.proofs.Pasting.{Left, left-all, left-more, left-none, left-room}
+use Rattle.sheet.proofs.Printing.{blocks-line, good-next, finite-take, finite-drop}
 use Rattle.sheet.proofs.put.put_blocks.Statement.{statement}
 use Rattle.sheet.proofs.put.put_blocks.Tie as tie
 

@@ -1,8 +1,8 @@
 -- `sheet::put::put_byte` meets its contract. Assumes nothing.
-use Rattle.sheet.proofs.Pasting.{one-pasted}
 use mathlib.Core.Path.{refl}
 use native.Mathlib.Omega.{arith}
 use borrow.Author.Needs.{needs}
+use Rattle.sheet.proofs.Pasting.{one-pasted}
 use Rattle.sheet.proofs.put.put_byte.Statement.{statement}
 use Rattle.sheet.proofs.put.put_byte.Tie as tie
 

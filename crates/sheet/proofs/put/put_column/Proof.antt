@@ -1,6 +1,6 @@
 -- `sheet::put::put_column` meets its contract. Assumes nothing.
-use Rattle.sheet.specs.Sheet.{columnKey}
 use borrow.Author.Needs.{needs}
+use Rattle.sheet.specs.Sheet.{columnKey}
 use Rattle.sheet.proofs.put.put_column.Statement.{statement}
 use Rattle.sheet.proofs.put.put_column.Tie as tie
 

@@ -1,18 +1,18 @@
 -- `sheet::put::put_columns` meets its contract. The invariant: putting the lines that are left comes to putting them all. Assumes nothing.
-use Rattle.quant.specs.Name.{isName}
-use Rattle.sheet.proofs.Printing.{columns-line, good-next}
-use Rattle.sheet.proofs.Pasting.{Left, left-all, left-more, left-none, left-room}
-use Rattle.sheet.proofs.Parts.{part-end}
-use Rattle.sheet.specs.Puts.{nameLine}
-use Rattle.sheet.specs.Sheet.{blank, columnKey, goodNames, columnsText}
-use Rattle.quant.proofs.Places.{both}
-use lib.ListN.{getD, take, drop}
-use native.Mathlib.Numerals.{add-one}
+use Prim.Native.Nat.{_-_, _≤_}
 use mathlib.Core.Bool.{true}
 use mathlib.Core.Path.{_≡_, sym, ap, _∙_}
+use native.Mathlib.Numerals.{add-one}
 use native.Mathlib.Omega.{arith}
-use Prim.Native.Nat.{_-_, _≤_}
 use borrow.Author.Needs.{needs}
+use lib.ListN.{getD, take, drop}
+use Rattle.quant.proofs.Places.{both}
+use Rattle.quant.specs.Name.{isName}
+use Rattle.sheet.specs.Puts.{nameLine}
+use Rattle.sheet.specs.Sheet.{blank, columnKey, goodNames, columnsText}
+use Rattle.sheet.proofs.Parts.{part-end}
+use Rattle.sheet.proofs.Pasting.{Left, left-all, left-more, left-none, left-room}
+use Rattle.sheet.proofs.Printing.{columns-line, good-next}
 use Rattle.sheet.proofs.put.put_columns.Statement.{statement}
 use Rattle.sheet.proofs.put.put_columns.Tie as tie
 

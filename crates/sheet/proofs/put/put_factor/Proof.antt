@@ -1,10 +1,10 @@
 -- `sheet::put::put_factor` meets its contract: three puts, one behind the other. Assumes nothing.
-use Rattle.sheet.specs.Sheet.{factorKey}
 use mathlib.Core.Path.{_∙_}
-use Rattle.sheet.proofs.Printing.{word-put, no-nan}
-use Rattle.sheet.proofs.Pasting.{then}
 use native.Mathlib.Omega.{arith}
 use borrow.Author.Needs.{needs}
+use Rattle.sheet.specs.Sheet.{factorKey}
+use Rattle.sheet.proofs.Pasting.{then}
+use Rattle.sheet.proofs.Printing.{word-put, no-nan}
 use Rattle.sheet.proofs.put.put_factor.Statement.{statement}
 use Rattle.sheet.proofs.put.put_factor.Tie as tie
 

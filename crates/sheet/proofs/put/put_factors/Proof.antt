@@ -1,19 +1,19 @@
 -- `sheet::put::put_factors` meets its contract. The invariant: putting the lines that are left comes to putting them all. Assumes nothing.
+use Prim.Native.Nat.{_-_, _≤_}
+use mathlib.Core.Bool.{true}
 use mathlib.Core.List.{List}
-use Rattle.sheet.proofs.Printing.{factors-line, finite-next, factor-line-long}
-use Rattle.sheet.proofs.Pasting.{Left, left-all, left-more, left-none, left-room}
+use mathlib.Core.Path.{_≡_, sym, ap, _∙_}
+use native.Mathlib.Numerals.{add-one}
+use native.Mathlib.Omega.{arith}
+use borrow.Author.Needs.{needs}
+use lib.Ieee.{nan, Float}
+use lib.Ieee.Scale.{finite}
+use lib.ListN.{length, getD, drop, drop-of-length-le}
+use Rattle.quant.proofs.Places.{both}
 use Rattle.sheet.specs.Puts.{factorLine}
 use Rattle.sheet.specs.Sheet.{allFinite, factorsText, patterns}
-use Rattle.quant.proofs.Places.{both}
-use lib.Ieee.Scale.{finite}
-use lib.Ieee.{nan, Float}
-use lib.ListN.{length, getD, drop, drop-of-length-le}
-use native.Mathlib.Numerals.{add-one}
-use mathlib.Core.Bool.{true}
-use mathlib.Core.Path.{_≡_, sym, ap, _∙_}
-use native.Mathlib.Omega.{arith}
-use Prim.Native.Nat.{_-_, _≤_}
-use borrow.Author.Needs.{needs}
+use Rattle.sheet.proofs.Pasting.{Left, left-all, left-more, left-none, left-room}
+use Rattle.sheet.proofs.Printing.{factors-line, finite-next, factor-line-long}
 use Rattle.sheet.proofs.put.put_factors.Statement.{statement}
 use Rattle.sheet.proofs.put.put_factors.Tie as tie
 

@@ -1,9 +1,9 @@
 -- `sheet::put::put_head` meets its contract: three puts, one behind the other. Assumes nothing.
-use Rattle.sheet.specs.Sheet.{countText, channelsKey}
 use mathlib.Core.Path.{_∙_}
-use Rattle.sheet.proofs.Pasting.{then}
 use native.Mathlib.Omega.{arith}
 use borrow.Author.Needs.{needs}
+use Rattle.sheet.specs.Sheet.{countText, channelsKey}
+use Rattle.sheet.proofs.Pasting.{then}
 use Rattle.sheet.proofs.put.put_head.Statement.{statement}
 use Rattle.sheet.proofs.put.put_head.Tie as tie
 

@@ -1,9 +1,9 @@
 -- `sheet::put::put_name` meets its contract: three puts, one behind the other. Assumes nothing.
 use mathlib.Core.Path.{_∙_}
-use Rattle.sheet.proofs.Printing.{name-long, name-put, name-line-long}
-use Rattle.sheet.proofs.Pasting.{then}
 use native.Mathlib.Omega.{arith}
 use borrow.Author.Needs.{needs}
+use Rattle.sheet.proofs.Pasting.{then}
+use Rattle.sheet.proofs.Printing.{name-long, name-put, name-line-long}
 use Rattle.sheet.proofs.put.put_name.Statement.{statement}
 use Rattle.sheet.proofs.put.put_name.Tie as tie
 

@@ -1,9 +1,9 @@
 -- `sheet::put::put_sheet` meets its contract: three puts, one behind the other. Assumes nothing.
-use Rattle.sheet.specs.Sheet.{countText, channelsKey}
-use Rattle.sheet.proofs.Printing.{text-is, text-parts}
-use Rattle.sheet.proofs.Pasting.{then}
 use mathlib.Core.Path.{_∙_}
 use native.Mathlib.Omega.{arith}
+use Rattle.sheet.specs.Sheet.{countText, channelsKey}
+use Rattle.sheet.proofs.Pasting.{then}
+use Rattle.sheet.proofs.Printing.{text-is, text-parts}
 use Rattle.sheet.proofs.put.put_sheet.Statement.{statement}
 use Rattle.sheet.proofs.put.put_sheet.Tie as tie
 

@@ -1,7 +1,7 @@
 -- `sheet::read::accepted` meets its contract: the columns array is the columns, then blanks. Assumes nothing.
-use Rattle.sheet.proofs.Steps.{names-eight}
-use Rattle.sheet.specs.Sheet.{answerOf, namesOf}
 use mathlib.Core.Path.{refl}
+use Rattle.sheet.specs.Sheet.{answerOf, namesOf}
+use Rattle.sheet.proofs.Steps.{names-eight}
 use Rattle.sheet.proofs.read.accepted.Statement.{statement}
 use Rattle.sheet.proofs.read.accepted.Tie as tie
 

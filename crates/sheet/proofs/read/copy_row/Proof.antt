@@ -1,14 +1,14 @@
 -- `sheet::read::copy_row` meets its contract. The invariant: the first k numbers of the row stand in the matrix that came. Assumes nothing.
-use Rattle.sheet.proofs.Filling.{row-long, row-at}
-use lib.Ieee.{nan}
-use native.Mathlib.Numerals.{add-one}
-use Rattle.sheet.specs.Sheet.{doubles}
-use lib.Seq.{paste, paste-zero, paste-suc, take-length}
-use lib.ListN.{length, take, drop, length-set}
-use mathlib.Core.Path.{_≡_, refl, _∙_}
-use native.Mathlib.Omega.{arith}
 use Prim.Native.Nat.{_-_, _≤_}
+use mathlib.Core.Path.{_≡_, refl, _∙_}
+use native.Mathlib.Numerals.{add-one}
+use native.Mathlib.Omega.{arith}
 use borrow.Author.Needs.{needs}
+use lib.Ieee.{nan}
+use lib.ListN.{length, take, drop, length-set}
+use lib.Seq.{paste, paste-zero, paste-suc, take-length}
+use Rattle.sheet.specs.Sheet.{doubles}
+use Rattle.sheet.proofs.Filling.{row-long, row-at}
 use Rattle.sheet.proofs.read.copy_row.Statement.{statement}
 use Rattle.sheet.proofs.read.copy_row.Tie as tie
 

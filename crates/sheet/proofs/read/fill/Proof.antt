@@ -1,15 +1,15 @@
 -- `sheet::read::fill` meets its contract. The invariant: pasting the rows of the columns that are left gives what pasting them all gave. Assumes nothing.
+use Prim.Native.Nat.{ℕ, _+_, _*_, _-_, _≤_, _<_}
+use mathlib.Core.List.{List}
+use mathlib.Core.Path.{sym, _∙_, ap}
 use native.Mathlib.Nat.{zero-add}
+use native.Mathlib.Omega.{arith}
+use borrow.Author.Needs.{needs}
+use lib.Ieee.{Float}
+use lib.ListN.{length}
 use Rattle.sheet.specs.Sheet.{blank, matrixOf, SoFar, accepts}
 use Rattle.sheet.proofs.Filling.{Filled, filled-none, filled-more, filled-end, column-found, whole-is}
 use Rattle.sheet.proofs.Parts.{row-within}
-use lib.ListN.{length}
-use mathlib.Core.Path.{sym, _∙_, ap}
-use mathlib.Core.List.{List}
-use lib.Ieee.{Float}
-use native.Mathlib.Omega.{arith}
-use Prim.Native.Nat.{ℕ, _+_, _*_, _-_, _≤_, _<_}
-use borrow.Author.Needs.{needs}
 use Rattle.sheet.proofs.read.fill.Statement.{statement}
 use Rattle.sheet.proofs.read.fill.Tie as tie
 

@@ -1,14 +1,14 @@
 -- `sheet::read::lines_of` meets its contract. The invariant: reading from here on comes to what reading the whole text comes to. Assumes nothing.
+use Prim.Native.Nat.{_+_, _-_, _≤_}
 use mathlib.Core.List.{[]}
-use Rattle.sheet.proofs.Cutting.{open-from, line-from, bad-line, good-line}
+use mathlib.Core.Path.{_≡_, sym, _∙_, subst, ap}
+use native.Mathlib.Omega.{arith}
+use borrow.Author.Needs.{needs}
+use lib.ListN.{length, drop, drop-of-length-le}
 use Rattle.lines.proofs.Lines.{line-ends-within}
 use Rattle.sheet.specs.Reader.{soFar, Fits, readText, Parses}
 use Rattle.sheet.specs.Sheet.{nothing, Outcome, cut, step, onward, SoFar}
-use lib.ListN.{length, drop, drop-of-length-le}
-use mathlib.Core.Path.{_≡_, sym, _∙_, subst, ap}
-use native.Mathlib.Omega.{arith}
-use Prim.Native.Nat.{_+_, _-_, _≤_}
-use borrow.Author.Needs.{needs}
+use Rattle.sheet.proofs.Cutting.{open-from, line-from, bad-line, good-line}
 use Rattle.sheet.proofs.read.lines_of.Statement.{statement}
 use Rattle.sheet.proofs.read.lines_of.Tie as tie
 
@@ -29,7 +29,7 @@ loop-holds : tie.Need-loop-holds Inv-loop μ-loop
 unfolding nothing
 loop-holds c =
     let start = c .before .before in
-    (omega arith, omega arith, c .fresh .ensures .1, ap (λ (s : SoFar). readText 1 s (start .args .text .now)) (c .fresh .ensures .0))
+    (omega arith, omega arith, c .fresh .ensures .fits, ap (λ (s : SoFar). readText 1 s (start .args .text .now)) (c .fresh .ensures .is))
 
 line-end-requires : tie.Need-line-end-requires Inv-loop μ-loop
 line-end-requires c κs = search needs

@@ -1,19 +1,19 @@
 -- `sheet::read::read` meets its contract: its answer and its matrix are those of the outcome. Assumes nothing.
-use Rattle.sheet.specs.declared.state.Verdict.{Verdict}
-use Rattle.sheet.specs.declared.read.Reading.{Reading}
-use Rattle.sheet.specs.Reader.{ends, readText, Answers}
-use Rattle.sheet.specs.Sheet.{Read, Outcome, refuses, nothing, outcome, matrixOf}
-use Rattle.quant.specs.declared.refusal.Refusal.the-variants.{WrongSize}
-use lib.ListN.{length}
-use lib.Ieee.{Float}
-use lib.Dec.{leb}
-use borrow.Author.Tests.{le-leb, lt-leb}
-use mathlib.Core.List.{List}
-use mathlib.Core.Bool.{and-false}
-use mathlib.Core.Path.{_≡_, refl, sym, ap, _∙_}
 use Prim.Native.Nat.{ℕ, _≤_, _<_}
+use mathlib.Core.Bool.{and-false}
+use mathlib.Core.List.{List}
+use mathlib.Core.Path.{_≡_, refl, sym, ap, _∙_}
 use native.Mathlib.Omega.{arith}
 use borrow.Author.Needs.{needs}
+use borrow.Author.Tests.{le-leb, lt-leb}
+use lib.Dec.{leb}
+use lib.Ieee.{Float}
+use lib.ListN.{length}
+use Rattle.quant.specs.declared.refusal.Refusal.the-variants.{WrongSize}
+use Rattle.sheet.specs.Reader.{ends, readText, Answers}
+use Rattle.sheet.specs.Sheet.{Read, Outcome, refuses, nothing, outcome, matrixOf}
+use Rattle.sheet.specs.declared.read.Reading.{Reading}
+use Rattle.sheet.specs.declared.state.Verdict.{Verdict}
 use Rattle.sheet.proofs.read.read.Statement.{statement}
 use Rattle.sheet.proofs.read.read.Tie as tie
 

@@ -1,7 +1,7 @@
 -- `sheet::read::refused` meets its contract. Assumes nothing.
-use Rattle.sheet.specs.Sheet.{answerOf, namesOf, eight, blank}
 use mathlib.Core.Path.{refl}
 use borrow.Author.Needs.{needs}
+use Rattle.sheet.specs.Sheet.{answerOf, namesOf, eight, blank}
 use Rattle.sheet.proofs.read.refused.Statement.{statement}
 use Rattle.sheet.proofs.read.refused.Tie as tie
 

@@ -1,7 +1,7 @@
 -- `sheet::state::complete` meets its contract: each array has as many elements as are counted. Assumes nothing.
-use Rattle.sheet.proofs.Steps.{square-few, complete-is}
-use borrow.Author.Tests.{eq-eqb, ne-eqb, le-leb, lt-leb}
 use native.Mathlib.Omega.{arith}
+use borrow.Author.Tests.{eq-eqb, ne-eqb, le-leb, lt-leb}
+use Rattle.sheet.proofs.Steps.{square-few, complete-is}
 use Rattle.sheet.proofs.state.complete.Statement.{statement}
 use Rattle.sheet.proofs.state.complete.Tie as tie
 

@@ -1,13 +1,13 @@
 -- `sheet::state::count_step` meets its contract: its tests are those of one digit 1..8 behind the key. Assumes nothing.
-use Rattle.sheet.proofs.Steps.{count-long, count-low, count-high, count-digit}
-use Rattle.sheet.specs.Reader.{Steps}
-use Rattle.sheet.specs.Sheet.{channelsKey, behind, value, countStep, goes, SoFar}
-use lib.ListN.{drop}
 use Prim.Native.Nat.{_-_}
 use mathlib.Core.Path.{_≡_, subst}
 use native.Mathlib.Omega.{arith}
-use Rattle.sheet.proofs.Keys.{missing, there, reaches}
 use borrow.Author.Needs.{needs}
+use lib.ListN.{drop}
+use Rattle.sheet.specs.Reader.{Steps}
+use Rattle.sheet.specs.Sheet.{channelsKey, behind, value, countStep, goes, SoFar}
+use Rattle.sheet.proofs.Keys.{missing, there, reaches}
+use Rattle.sheet.proofs.Steps.{count-long, count-low, count-high, count-digit}
 use Rattle.sheet.proofs.state.count_step.Statement.{statement}
 use Rattle.sheet.proofs.state.count_step.Tie as tie
 
@@ -94,7 +94,7 @@ returns-5 c =
     let line = start .args .line .now in
     let e : behind channelsKey line ≡ value (drop 9 line) = there channelsKey line _ (at-starts .starts .ensures) (at-if1 .if1 .left) in
     rw (e, count-digit line (omega arith) (at-if3 .if3 .left) (at-if4 .if4 .left))
-    (subst (λ (s : SoFar). Steps (c .went .result) (goes s)) (c .before .fresh .ensures .0) (c .went .ensures))
+    (subst (λ (s : SoFar). Steps (c .went .result) (goes s)) (c .before .fresh .ensures .is) (c .went .ensures))
 
 pub count-step-spec : {M : Type 1} → statement M
 count-step-spec =

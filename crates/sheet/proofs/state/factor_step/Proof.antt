@@ -1,11 +1,11 @@
 -- `sheet::state::factor_step` meets its contract: 16 bytes behind the key, all of them digits. Assumes nothing.
-use Rattle.sheet.proofs.Steps.{factor-short, factor-read, factor-bad}
-use Rattle.sheet.specs.Sheet.{factorKey, behind, value, factorStep}
-use lib.ListN.{drop}
 use mathlib.Core.Path.{_≡_, sym, _∙_}
 use native.Mathlib.Omega.{arith}
-use Rattle.sheet.proofs.Keys.{missing, there, reaches}
 use borrow.Author.Needs.{needs}
+use lib.ListN.{drop}
+use Rattle.sheet.specs.Sheet.{factorKey, behind, value, factorStep}
+use Rattle.sheet.proofs.Keys.{missing, there, reaches}
+use Rattle.sheet.proofs.Steps.{factor-short, factor-read, factor-bad}
 use Rattle.sheet.proofs.state.factor_step.Statement.{statement}
 use Rattle.sheet.proofs.state.factor_step.Tie as tie
 

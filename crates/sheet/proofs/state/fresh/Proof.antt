@@ -1,8 +1,8 @@
 -- `sheet::state::fresh` meets its contract. Assumes nothing.
-use native.Mathlib.Omega.{arith}
 use mathlib.Core.Path.{refl}
-use Rattle.sheet.specs.Sheet.{blank, single, among}
+use native.Mathlib.Omega.{arith}
 use borrow.Author.Needs.{needs}
+use Rattle.sheet.specs.Sheet.{blank, single, among}
 use Rattle.sheet.proofs.state.fresh.Statement.{statement}
 use Rattle.sheet.proofs.state.fresh.Tie as tie
 
@@ -11,21 +11,23 @@ blank-requires c κs = search needs
 
 returns : tie.Need-returns
 unfolding blank single among
-returns c = (
-  refl,
-  record {
-    most = c .before .pre;
-    columns-most = omega arith;
-    rows-most = omega arith;
-    factors-most = omega arith;
-    columns-long = refl;
-    rows-long = refl;
-    factors-long = refl;
-    blanks = rw (c .blank .ensures);
-    single-rows = refl;
-    rows-columns = refl;
-  },
-)
+returns c =
+    record {
+      is = refl;
+      fits =
+          record {
+            most = c .before .pre;
+            columns-most = omega arith;
+            rows-most = omega arith;
+            factors-most = omega arith;
+            columns-long = refl;
+            rows-long = refl;
+            factors-long = refl;
+            blanks = rw (c .blank .ensures);
+            single-rows = refl;
+            rows-columns = refl;
+          };
+    }
 
 pub fresh-spec : {M : Type 1} → statement M
 fresh-spec = tie.close (tie.spec blank-requires returns)

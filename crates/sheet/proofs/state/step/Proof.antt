@@ -1,7 +1,7 @@
 -- `sheet::state::step` meets its contract: its tests are the definition's, since each array has as many elements as are counted. Assumes nothing.
-use Rattle.sheet.proofs.Steps.{rows-few, step-count, step-column, step-factor, step-row, step-none}
 use native.Mathlib.Omega.{arith}
 use borrow.Author.Needs.{needs}
+use Rattle.sheet.proofs.Steps.{rows-few, step-count, step-column, step-factor, step-row, step-none}
 use Rattle.sheet.proofs.state.step.Statement.{statement}
 use Rattle.sheet.proofs.state.step.Tie as tie
 

@@ -1,10 +1,10 @@
 -- `sheet::state::with_column` meets its contract. Assumes nothing.
-use Rattle.sheet.proofs.Steps.{column-goes, column-fits}
-use Rattle.sheet.specs.Sheet.{isIn, columnNamed}
-use lib.ListN.{take}
 use mathlib.Core.Bool.{true, false}
 use mathlib.Core.Path.{_≡_, sym, _∙_}
 use borrow.Author.Needs.{needs}
+use lib.ListN.{take}
+use Rattle.sheet.specs.Sheet.{isIn, columnNamed}
+use Rattle.sheet.proofs.Steps.{column-goes, column-fits}
 use Rattle.sheet.proofs.state.with_column.Statement.{statement}
 use Rattle.sheet.proofs.state.with_column.Tie as tie
 

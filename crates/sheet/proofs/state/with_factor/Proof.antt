@@ -1,13 +1,13 @@
 -- `sheet::state::with_factor` meets its contract. Assumes nothing.
-use Rattle.sheet.proofs.Steps.{few-factors, factor-goes, factor-fits}
+use mathlib.Core.Bool.{true, false}
+use mathlib.Core.Path.{_≡_, _∙_}
+use native.Mathlib.Omega.{arith}
+use borrow.Author.Needs.{needs}
+use lib.Ieee.{binary64, ofBits}
+use lib.Ieee.Scale.{finite}
 use Rattle.quant.proofs.Judging.{taken, passed}
 use Rattle.sheet.specs.Sheet.{factorBits}
-use lib.Ieee.Scale.{finite}
-use lib.Ieee.{binary64, ofBits}
-use mathlib.Core.Bool.{true, false}
-use native.Mathlib.Omega.{arith}
-use mathlib.Core.Path.{_≡_, _∙_}
-use borrow.Author.Needs.{needs}
+use Rattle.sheet.proofs.Steps.{few-factors, factor-goes, factor-fits}
 use Rattle.sheet.proofs.state.with_factor.Statement.{statement}
 use Rattle.sheet.proofs.state.with_factor.Tie as tie
 

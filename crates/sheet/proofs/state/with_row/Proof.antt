@@ -1,11 +1,11 @@
 -- `sheet::state::with_row` meets its contract. Assumes nothing.
-use Rattle.sheet.proofs.Steps.{row-goes, row-fits}
-use Rattle.quant.proofs.Judging.{taken, passed}
-use Rattle.sheet.specs.Sheet.{isIn, rowNamed}
-use lib.ListN.{take}
 use mathlib.Core.Bool.{true, false}
 use mathlib.Core.Path.{_≡_, sym, _∙_}
 use borrow.Author.Needs.{needs}
+use lib.ListN.{take}
+use Rattle.quant.proofs.Judging.{taken, passed}
+use Rattle.sheet.specs.Sheet.{isIn, rowNamed}
+use Rattle.sheet.proofs.Steps.{row-goes, row-fits}
 use Rattle.sheet.proofs.state.with_row.Statement.{statement}
 use Rattle.sheet.proofs.state.with_row.Tie as tie
 
