@@ -4,7 +4,7 @@ use Prim.Native.Nat.{ℕ, zero, suc, _+_, _*_, _≤_, _<_}
 use mathlib.Core.Bool.{Bool, true, false, _||_}
 use mathlib.Core.List.{List, [], _∷_, _++_}
 use mathlib.Core.Path.{_≡_, refl, sym, ap, _∙_}
-use native.Mathlib.Nat.{mul-le-mul, suc-mul, zero-mul}
+use native.Mathlib.Nat.{suc-mul, zero-mul}
 use native.Mathlib.Numerals.{add-one}
 use native.Mathlib.Omega.{arith}
 use borrow.Author.Tests.{eqb-true, ltb-true}
@@ -21,7 +21,7 @@ use Rattle.sheet.specs.Sheet.{SoFar, isIn, position, among, complete, do
 use Rattle.sheet.specs.declared.state.State.{State}
 use Rattle.sheet.proofs.Among.{is-in}
 use Rattle.sheet.proofs.Each.{each, same-self}
-use Rattle.sheet.proofs.Parts.{part-cons, part-end, part-of, row-within}
+use Rattle.sheet.proofs.Parts.{part-cons, part-end, part-of, row-within, few}
 use Rattle.sheet.proofs.Pasting.{none-pasted, two-pasted}
 use Rattle.sheet.proofs.Steps.{complete-is, columns-read, rows-read}
 
@@ -126,11 +126,11 @@ module _ (s : State) (f : Fits s) (e : complete (soFar s) ≡ true) where
       let k = counted in
       let columns : List Name = take (s .column) (s .columns) in
       let rows : List Name = take (s .row) (s .rows) in
-      let few : length columns ≤ length rows = rw (columns-read s f, rows-read s f) (omega (arith, k .columned, k .rowed)) in
-      let there : among rows columns ≡ true = among-all rows columns (λ x. each x columns rows (f .single-rows) (f .rows-columns) few) in
+      let as-many : length columns ≤ length rows = rw (columns-read s f, rows-read s f) (omega (arith, k .columned, k .rowed)) in
+      let there : among rows columns ≡ true = among-all rows columns (λ x. each x columns rows (f .single-rows) (f .rows-columns) as-many) in
       record {
         most = f .most;
-        square = omega (arith, mul-le-mul {n₁ = s .count} {m₁ = s .count} {n₂ = 8} {m₂ = 8} (f .most) (f .most));
+        square = few (f .most) (f .most);
         columns-long = f .columns-long;
         rows-long = f .rows-long;
         factors-long = f .factors-long;

@@ -29,3 +29,7 @@ module _ {A : Type 0} where
 -- a row of a square is within it
 pub row-within : (count row : ℕ) → row < count → row * count + count ≤ count * count
 row-within count row h = omega (arith, suc-mul row count, mul-le-mul {n₁ = suc row} {m₁ = count} {n₂ = count} {m₂ = count} h (omega arith))
+
+-- a product of two numbers that are at most eight
+pub few : {a b : ℕ} → a ≤ 8 → b ≤ 8 → a * b ≤ 64
+few {a} {b} h k = omega (arith, mul-le-mul {n₁ = a} {m₁ = b} {n₂ = 8} {m₂ = 8} h k)

@@ -24,6 +24,7 @@ use Rattle.sheet.specs.Reader.{soFar, begun, Fits}
 use Rattle.sheet.specs.Sheet.{channelsKey, columnKey, rowKey, factorKey, behind, eight, step, complete, value, SoFar, goes, stops, countStep, columnNamed, columnStep, rowNamed, rowStep, factorBits, factorStep, isIn, blank, among}
 use Rattle.sheet.specs.declared.state.State.{State}
 use Rattle.sheet.proofs.Each.{among-append, among-more, single-more}
+use Rattle.sheet.proofs.Parts.{few}
 
 -- ---- `channels=N`
 
@@ -54,6 +55,14 @@ module _ (line : List ℕ) where
     count-digit j k = rw last (simp (le-leb 49 (getD line 9 0) j, le-leb (getD line 9 0) 56 k))
 
 -- ---- a name more
+
+take-replicate : (k n : ℕ) → k ≤ n → take k (replicate n blank) ≡ replicate k blank
+take-replicate zero n h = refl
+take-replicate (suc k) zero h = absurd (none h)
+  where
+    none : suc k ≤ 0 → ⊥
+    none j = omega arith
+take-replicate (suc k) (suc n) h = ap (λ (l : List Name). blank ∷ l) (take-replicate k n (omega arith))
 
 abbrev pub withColumn : State → Name → State
 withColumn s n =
@@ -107,6 +116,9 @@ still-blank l i n h e b =
     tail r k p = cc
 
 module _ (s : State) (f : Fits s) where
+  pub rows-few : s .row * s .count ≤ 64
+  rows-few = few (omega (arith, f)) (f .most)
+
   module _ (h : s .column < s .count) (n : Name) where
     pub column-goes : isIn n (take (s .column) (s .columns)) ≡ false → columnNamed (soFar s) (Named n) ≡ goes (soFar (withColumn s n))
     unfolding columnNamed
@@ -155,15 +167,12 @@ module _ (s : State) (f : Fits s) where
         }
 
   module _ (h : s .factor < s .row * s .count) (bits : ℕ) where
-    pub few-factors : s .row * s .count ≤ 64
-    few-factors = omega (arith, mul-le-mul {n₁ = s .row} {m₁ = s .count} {n₂ = 8} {m₂ = 8} (omega (arith, f)) (f .most))
-
     pub factor-goes : finite (ofBits binary64 bits) ≡ true → factorBits (soFar s) bits ≡ goes (soFar (withFactor s bits))
     unfolding factorBits
     factor-goes e = rw e (ap goes (λ i. record { count = s .count; columns = soFar s .columns; rows = soFar s .rows; factors = sym more i }))
       where
         more : take (s .factor + 1) (set (s .factors) (s .factor) bits) ≡ take (s .factor) (s .factors) ++ bits ∷ []
-        more = one-more (s .factors) (s .factor) bits (omega (arith, f .factors-long, few-factors))
+        more = one-more (s .factors) (s .factor) bits (omega (arith, f .factors-long, rows-few))
 
     pub factor-fits : Fits (withFactor s bits)
     factor-fits =
@@ -182,19 +191,19 @@ module _ (s : State) (f : Fits s) where
 
 -- ---- which line is due
 
-part-long : {A : Type 0} (l : List A) (k n : ℕ) → k ≤ length l → take (length l - k) (drop k l) ≡ drop k l
-part-long l k n h = take-all (length l - k) (drop k l) (rw length-drop (le-refl (length l - k)))
+part-long : {A : Type 0} (l : List A) (k : ℕ) → k ≤ length l → take (length l - k) (drop k l) ≡ drop k l
+part-long l k h = take-all (length l - k) (drop k l) (rw length-drop (le-refl (length l - k)))
 
 module _ (s : SoFar) (line : List ℕ) (m : Naming) where
   pub column-read : behind columnKey line ≡ value (drop 7 line) → 7 ≤ length line
       → m ≡ namingOf (take (length line - 7) (drop 7 line)) → columnStep s (behind columnKey line) ≡ columnNamed s m
   unfolding columnStep
-  column-read e h n = rw (e, n, part-long line 7 0 h)
+  column-read e h n = rw (e, n, part-long line 7 h)
 
   pub row-read : behind rowKey line ≡ value (drop 4 line) → 4 ≤ length line
       → m ≡ namingOf (take (length line - 4) (drop 4 line)) → rowStep s (behind rowKey line) ≡ rowNamed s m
   unfolding rowStep
-  row-read e h n = rw (e, n, part-long line 4 0 h)
+  row-read e h n = rw (e, n, part-long line 4 h)
 
 module _ (s : SoFar) (line : List ℕ) (e : behind factorKey line ≡ value (drop 7 line)) where
   pub factor-short : (length line ≡ 23 → ⊥) → 7 ≤ length line → factorStep s (behind factorKey line) ≡ stops Layout
@@ -239,12 +248,6 @@ module _ (s : State) (f : Fits s) where
 
   pub rows-read : length (take (s .row) (s .rows)) ≡ s .row
   rows-read = length-take-le (s .row) (s .rows) (omega (arith, f))
-
-  pub rows-few : s .row * s .count ≤ 64
-  rows-few = omega (arith, mul-le-mul {n₁ = s .row} {m₁ = s .count} {n₂ = 8} {m₂ = 8} (omega (arith, f)) (f .most))
-
-  pub square-few : s .count * s .count ≤ 64
-  square-few = omega (arith, mul-le-mul {n₁ = s .count} {m₁ = s .count} {n₂ = 8} {m₂ = 8} (f .most) (f .most))
 
   pub factors-read : length (take (s .factor) (s .factors)) ≡ s .factor
   factors-read = length-take-le (s .factor) (s .factors) (omega (arith, f .factors-most, rows-few, f .factors-long))
@@ -304,14 +307,6 @@ module _ (s : State) (f : Fits s) where
   pub complete-is : complete (soFar s) ≡ (leb 1 (s .count) && eqb (s .column) (s .count) && eqb (s .row) (s .count) && eqb (s .factor) (s .count * s .count))
   unfolding complete
   complete-is = rw (columns-read, rows-read, factors-read)
-
-  take-replicate : (k n : ℕ) → k ≤ n → take k (replicate n blank) ≡ replicate k blank
-  take-replicate zero n h = refl
-  take-replicate (suc k) zero h = absurd (none h)
-    where
-      none : suc k ≤ 0 → ⊥
-      none j = omega arith
-  take-replicate (suc k) (suc n) h = ap (λ (l : List Name). blank ∷ l) (take-replicate k n (omega arith))
 
   pub names-eight : s .columns ≡ eight (take (s .column) (s .columns))
   unfolding eight

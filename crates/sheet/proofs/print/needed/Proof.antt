@@ -1,7 +1,6 @@
 -- `sheet::print::needed` meets its contract. The invariant: with the lines that are left the size is the whole. Assumes nothing.
 use Prim.Native.Nat.{_+_, _*_, _-_, _≤_}
 use mathlib.Core.Path.{_≡_, refl}
-use native.Mathlib.Nat.{mul-le-mul}
 use native.Mathlib.Numerals.{add-one}
 use native.Mathlib.Omega.{arith}
 use borrow.Author.Needs.{needs}
@@ -9,7 +8,7 @@ use lib.ListN.{take, drop}
 use lib.Seq.{length-take-le}
 use Rattle.sheet.specs.Puts.{namesSize}
 use Rattle.sheet.specs.Sheet.{blank}
-use Rattle.sheet.proofs.Parts.{part-end}
+use Rattle.sheet.proofs.Parts.{part-end, few}
 use Rattle.sheet.proofs.Printing.{size-next, size-most}
 use Rattle.sheet.proofs.print.needed.Statement.{statement}
 use Rattle.sheet.proofs.print.needed.Tie as tie
@@ -21,7 +20,7 @@ abbrev μ-loop : tie.MeasureT-loop
 μ-loop count names size₀ i₀ size i = count - i
 
 square : (c : tie.Start Inv-loop μ-loop) → c .args .count * c .args .count ≤ 64
-square c = omega (arith, mul-le-mul {n₁ = c .args .count} {m₁ = c .args .count} {n₂ = 8} {m₂ = 8} (c .pre) (c .pre))
+square c = few (c .pre) (c .pre)
 
 mul-size : tie.Need-mul-size Inv-loop μ-loop
 mul-size c = omega (arith, square c)

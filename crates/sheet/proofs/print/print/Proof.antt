@@ -2,7 +2,7 @@
 use Prim.Native.Nat.{_*_, _≤_}
 use mathlib.Core.Bool.{true}
 use mathlib.Core.Path.{_≡_, refl, sym, ap, _∙_}
-use native.Mathlib.Nat.{mul-le-mul, zero-add}
+use native.Mathlib.Nat.{zero-add}
 use native.Mathlib.Omega.{arith}
 use borrow.Author.Needs.{needs}
 use lib.ListN.{length, take}
@@ -10,6 +10,7 @@ use lib.Seq.{length-take-le}
 use Rattle.quant.proofs.Judging.{taken, passed}
 use Rattle.sheet.specs.Sheet.{allFinite, bytesAfter, printFits, goodNames, sheetText, sheetOf}
 use Rattle.sheet.specs.declared.print.Printed.{Printed}
+use Rattle.sheet.proofs.Parts.{few}
 use Rattle.sheet.proofs.Printing.{same-finite, sized, of-printed, no-room, bad-name, bad-number, doubled, printed, Sized}
 use Rattle.sheet.proofs.print.print.Statement.{statement}
 use Rattle.sheet.proofs.print.print.Tie as tie
@@ -28,9 +29,7 @@ sizes : (c : tie.Else1) → Sizes (c .before .before .before .before)
 sizes c = sized _ _ _ _ (fit c)
 
 square : (c : tie.Else1) → c .before .before .before .before .args .count * c .before .before .before .before .args .count ≤ 64
-square c =
-    let count = c .before .before .before .before .args .count in
-    omega (arith, mul-le-mul {n₁ = count} {m₁ = count} {n₂ = 8} {m₂ = 8} (sizes c .most) (sizes c .most))
+square c = few (sizes c .most) (sizes c .most)
 
 abbrev Good : tie.Start → Type 0
 Good s = goodNames (take (s .args .count) (s .args .names)) ≡ true

@@ -1,9 +1,9 @@
 -- `sheet::print::sizes_fit` meets its contract: its tests are the definition's, and the size is the text's. Assumes nothing.
-use native.Mathlib.Nat.{mul-le-mul}
 use native.Mathlib.Omega.{arith}
 use borrow.Author.Needs.{needs}
 use borrow.Author.Tests.{le-leb, lt-leb}
 use Rattle.sheet.specs.Sheet.{printFits}
+use Rattle.sheet.proofs.Parts.{few}
 use Rattle.sheet.proofs.Printing.{text-long}
 use Rattle.sheet.proofs.print.sizes_fit.Statement.{statement}
 use Rattle.sheet.proofs.print.sizes_fit.Tie as tie
@@ -21,7 +21,7 @@ returns-2 c =
 mul-if3 : tie.Need-mul-if3
 mul-if3 c =
     let start = c .before .before .before in
-    omega (arith, mul-le-mul {n₁ = start .args .count} {m₁ = start .args .count} {n₂ = 8} {m₂ = 8} (c .if2 .left) (c .if2 .left))
+    omega (arith, few (c .if2 .left) (c .if2 .left))
 
 returns-3 : tie.Need-returns-3
 unfolding printFits

@@ -3,7 +3,7 @@ use Prim.Native.Nat.{ℕ, _+_, _*_, _-_, _≤_}
 use mathlib.Core.Bool.{true}
 use mathlib.Core.List.{List}
 use mathlib.Core.Path.{_≡_, sym, ap, _∙_}
-use native.Mathlib.Nat.{mul-le-mul, zero-mul}
+use native.Mathlib.Nat.{zero-mul}
 use native.Mathlib.Numerals.{add-one}
 use native.Mathlib.Omega.{arith}
 use borrow.Author.Needs.{needs}
@@ -14,7 +14,7 @@ use Rattle.quant.specs.Name.{isName}
 use Rattle.quant.specs.declared.name.Name.{Name}
 use Rattle.sheet.specs.Puts.{blockText}
 use Rattle.sheet.specs.Sheet.{blank, goodNames, allFinite, blocksText, blocksOf}
-use Rattle.sheet.proofs.Parts.{part-end, part-of, row-within}
+use Rattle.sheet.proofs.Parts.{part-end, part-of, row-within, few}
 use Rattle.sheet.proofs.Pasting.{Left, left-all, left-more, left-none, left-room}
 use Rattle.sheet.proofs.Printing.{blocks-line, good-next, finite-take, finite-drop}
 use Rattle.sheet.proofs.put.put_blocks.Statement.{statement}
@@ -42,7 +42,7 @@ row-fits : (c : tie.In-loop Inv-loop μ-loop)
 row-fits c =
     let start = c .before .before .before .before in
     let count = start .args .count in
-    let square = mul-le-mul {n₁ = count} {m₁ = count} {n₂ = 8} {m₂ = 8} (start .pre .0 .most) (start .pre .0 .most) in
+    let square = few (start .pre .0 .most) (start .pre .0 .most) in
     omega (arith, row-within count (c .before .loop .i) (omega arith))
 
 row-in : (c : tie.In-loop Inv-loop μ-loop)

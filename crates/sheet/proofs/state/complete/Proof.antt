@@ -1,7 +1,8 @@
 -- `sheet::state::complete` meets its contract: each array has as many elements as are counted. Assumes nothing.
 use native.Mathlib.Omega.{arith}
 use borrow.Author.Tests.{eq-eqb, ne-eqb, le-leb, lt-leb}
-use Rattle.sheet.proofs.Steps.{square-few, complete-is}
+use Rattle.sheet.proofs.Parts.{few}
+use Rattle.sheet.proofs.Steps.{complete-is}
 use Rattle.sheet.proofs.state.complete.Statement.{statement}
 use Rattle.sheet.proofs.state.complete.Tie as tie
 
@@ -29,7 +30,7 @@ returns-3 c =
 mul-result : tie.Need-mul-result
 mul-result c =
     let start = c .before .before .before .before .before .before .before in
-    omega (arith, square-few (start .args .s) (start .pre))
+    omega (arith, few (start .pre .most) (start .pre .most))
 
 returns-4 : tie.Need-returns-4
 returns-4 c =

@@ -7,7 +7,7 @@ use lib.Ieee.{binary64, ofBits}
 use lib.Ieee.Scale.{finite}
 use Rattle.quant.proofs.Judging.{taken, passed}
 use Rattle.sheet.specs.Sheet.{factorBits}
-use Rattle.sheet.proofs.Steps.{few-factors, factor-goes, factor-fits}
+use Rattle.sheet.proofs.Steps.{rows-few, factor-goes, factor-fits}
 use Rattle.sheet.proofs.state.with_factor.Statement.{statement}
 use Rattle.sheet.proofs.state.with_factor.Tie as tie
 
@@ -30,15 +30,15 @@ returns c =
     rw e (c .stopped .ensures)
 
 mul-t : tie.Need-mul-t
-mul-t c = omega (arith, few-factors (c .before .before .before .args .s) (c .before .before .before .pre .0) (c .before .before .before .pre .1) 0)
+mul-t c = omega (arith, rows-few (c .before .before .before .args .s) (c .before .before .before .pre .0))
 
 element-write-t : tie.Need-element-write-t
 element-write-t c =
     let start = c .before .before .before in
-    omega (arith, few-factors (start .args .s) (start .pre .0) (start .pre .1) 0)
+    omega (arith, rows-few (start .args .s) (start .pre .0))
 
 add-t : tie.Need-add-t
-add-t c = omega (arith, few-factors (c .before .before .before .args .s) (c .before .before .before .pre .0) (c .before .before .before .pre .1) 0)
+add-t c = omega (arith, rows-few (c .before .before .before .args .s) (c .before .before .before .pre .0))
 
 went-requires : tie.Need-went-requires
 went-requires c κs =
