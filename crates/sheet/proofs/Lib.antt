@@ -1,0 +1,10 @@
+pub mod Parts
+pub mod Keys
+pub mod Among
+pub mod Each
+pub mod Steps
+pub mod Cutting
+pub mod Pasting
+pub mod Filling
+pub mod Printing
+pub mod Example

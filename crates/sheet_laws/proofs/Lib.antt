@@ -1,0 +1,16 @@
+pub mod Lines
+pub mod Steps
+pub mod Names
+pub mod Accepted
+pub mod Spelled
+pub mod Backwards
+pub mod Parts
+pub mod Growing
+pub mod Only
+pub mod Once
+pub mod Rows
+pub mod Factors
+pub mod Arranged
+pub mod Printing
+pub mod Laws
+pub mod Example

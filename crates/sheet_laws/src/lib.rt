@@ -1,0 +1,1 @@
+// Laws only, and no code: what the definition of the crosstalk sheet has to mean.
