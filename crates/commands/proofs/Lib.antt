@@ -4,3 +4,4 @@ pub mod Calls
 pub mod Full
 pub mod Zones
 pub mod Sound
+pub mod Own
