@@ -22,7 +22,7 @@ use Rattle.pulse.specs.Weight.{negligible, weighedOf}
 use Rattle.tables.specs.declared.Channel.{Channel}
 use Rattle.tables.specs.declared.Tables.{Tables}
 use Rattle.tables.specs.declared.Found.the-variants.{At}
-use Rattle.tables.specs.Tables.{shapesIn, isIn, noName, found, channelAt}
+use Rattle.tables.specs.Tables.{shapesIn, isIn, found, channelAt}
 use Rattle.commands.specs.declared.command.Play.{Play}
 use Rattle.commands.specs.declared.command.Command.{Command}
 use Rattle.commands.specs.declared.command.Command.the-variants as C
@@ -32,17 +32,7 @@ use Rattle.commands.specs.Command.{wellFormed, required, tooLong}
 use Rattle.commands.specs.Step.{stops, goesOn, withOsc, movedBy, turnedAt}
 use Rattle.commands.specs.Play.{rowsOf, stores, storedAt, storedWith, plateauOf, binWith, pushed, playedAt, played}
 use Rattle.commands.specs.Run.{acted, stepOf}
-use Rattle.commands.specs.Apart.{isSwap}
-
--- the channel that a command names; a barrier names none
-abbrev pub named : Command → Name
-named (C.Play p) = p .channel
-named (C.ShiftPhase n x) = n
-named (C.SetPhase n x) = n
-named (C.ShiftFreq n x) = n
-named (C.SetFreq n x) = n
-named (C.SwapPhase n m) = n
-named C.Barrier = noName
+use Rattle.commands.specs.Apart.{named, isSwap}
 
 -- what a channel's commands go by
 pub record View : Type 0 where
