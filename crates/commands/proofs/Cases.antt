@@ -9,7 +9,7 @@ use lib.Ieee.{Float, lt}
 use lib.Ieee.Scale.{finite}
 use lib.ListN.{length, take, drop, getD, set, length-take, length-set, List·getD-map}
 use lib.Seq.{map-set-same}
-use borrow.Author.Tests.{leb-false}
+use borrow.Author.Tests.{leb-true, leb-false}
 use Rattle.quant.specs.declared.name.Name.{Name}
 use Rattle.quant.specs.Name.{sameName}
 use Rattle.quant.specs.declared.refusal.Refusal.{Refusal}
@@ -46,48 +46,48 @@ use Rattle.commands.proofs.Rows.{not-full}
 
 -- What the step of a command c from the tables t comes to. A pulse is stored with a start that is finite, in a bin that is there or the
 -- next, where both have room.
-pub data Kind (t : Tables) (c : Command) : Step → Type 0 where
-  refuses : (r : Refusal) → Kind t c (stops t r)
-  goes : Kind t c (goesOn t)
-  turns : (i : ℕ) (o : OscState) → found t (named c) ≡ At i → Kind t c (goesOn (withOsc t i o))
-  swaps : (i j : ℕ) (o q : OscState) → isSwap c ≡ true → Kind t c (goesOn (withOsc (withOsc t i o) j q))
+pub data Kind (t : Tables) (bins : List (List Float)) (c : Command) : Step → Type 0 where
+  refuses : (r : Refusal) → Kind t bins c (stops t r)
+  goes : Kind t bins c (goesOn t)
+  turns : (i : ℕ) (o : OscState) → found t (named c) ≡ At i → Kind t bins c (goesOn (withOsc t i o))
+  swaps : (i j : ℕ) (o q : OscState) → isSwap c ≡ true → Kind t bins c (goesOn (withOsc (withOsc t i o) j q))
   puts : (i place : ℕ) (new : Bool) (start : Float) (w : Weight) (row : List Float) → found t (named c) ≡ At i → finite start ≡ true
       → place ≤ channelAt t i .bins → (new ≡ false → place < channelAt t i .bins) → (new ≡ true → channelAt t i .bins < 64)
-      → channelAt t i .pulses < 1024 → Kind t c (stores t i place new start w row)
+      → (new ≡ true → length (rowsOf t bins i) ≤ place) → channelAt t i .pulses < 1024 → Kind t bins c (stores t i place new start w row)
 
 -- ---- the cases of a step
 
-module _ (t : Tables) (c : Command) where
-  one-of : (b : Bool) (x y : Step) → (b ≡ true → Kind t c x) → (b ≡ false → Kind t c y) → Kind t c (cond b x y)
+module _ (t : Tables) (bins : List (List Float)) (c : Command) where
+  one-of : (b : Bool) (x y : Step) → (b ≡ true → Kind t bins c x) → (b ≡ false → Kind t bins c y) → Kind t bins c (cond b x y)
   one-of true x y h k = h refl
   one-of false x y h k = k refl
 
-  turned-kind : (i : ℕ) (m : Moved) → found t (named c) ≡ At i → Kind t c (turned t i m)
+  turned-kind : (i : ℕ) (m : Moved) → found t (named c) ≡ At i → Kind t bins c (turned t i m)
   turned-kind i m there =
       one-of (m .refused) (stops t NotFinite) (goesOn (withOsc t i (m .osc))) (λ _. refuses NotFinite) (λ _. turns i (m .osc) there)
 
-  turned-at-kind : (f : Found) → found t (named c) ≡ f → (time : Float) → Kind t c (turnedAt t f c time)
+  turned-at-kind : (f : Found) → found t (named c) ≡ f → (time : Float) → Kind t bins c (turnedAt t f c time)
   unfolding turnedAt
   turned-at-kind Nowhere e time = refuses UnknownChannel
   turned-at-kind (At i) e time = turned-kind i (movedBy c time (channelAt t i .osc)) e
 
   module _ (swap : isSwap c ≡ true) where
-    swapped-to-kind : (i j : ℕ) (s : Swapped) → Kind t c (swappedTo t i j s)
+    swapped-to-kind : (i j : ℕ) (s : Swapped) → Kind t bins c (swappedTo t i j s)
     swapped-to-kind i j s =
         one-of (s .refused) (stops t NotFinite) (goesOn (withOsc (withOsc t i (s .one)) j (s .two))) (λ _. refuses NotFinite) (λ _. swaps i j (s .one) (s .two) swap)
 
-    swapped-at-kind : (f g : Found) (time : Float) → Kind t c (swappedAt t f g time)
+    swapped-at-kind : (f g : Found) (time : Float) → Kind t bins c (swappedAt t f g time)
     unfolding swappedAt
     swapped-at-kind Nowhere g time = refuses UnknownChannel
     swapped-at-kind (At i) Nowhere time = refuses UnknownChannel
     swapped-at-kind (At i) (At j) time = swapped-to-kind i j (swappedPhases (channelAt t i .osc) (channelAt t j .osc) time)
 
-    swapped-kind : (n m : Name) (time : Float) → Kind t c (swappedBetween t n m time)
+    swapped-kind : (n m : Name) (time : Float) → Kind t bins c (swappedBetween t n m time)
     swapped-kind n m time =
         let s = swappedAt t (found t n) (found t m) time in
         one-of (sameName n m) (goesOn t) s (λ _. goes) (λ _. swapped-at-kind (found t n) (found t m) time)
 
-  module _ (bins : List (List Float)) (start : Float) (known : finite start ≡ true) where
+  module _ (start : Float) (known : finite start ≡ true) where
     module _ (i : ℕ) (there : found t (named c) ≡ At i) (row : List Float) where
       abbrev place : ℕ
       place = placeOf row (rowsOf t bins i)
@@ -95,7 +95,7 @@ module _ (t : Tables) (c : Command) where
       few-rows : length (rowsOf t bins i) ≤ channelAt t i .bins
       few-rows = rw (length-take (channelAt t i .bins) (take 64 (drop (64 * i) bins))) (omega arith)
 
-      stored-kind : (w : Weight) → Kind t c (storedAt t bins i start w row)
+      stored-kind : (w : Weight) → Kind t bins c (storedAt t bins i start w row)
       stored-kind w =
           let new = isNew t bins i place in
           one-of (isFull t bins i place) (stops t Full) (stores t i place new start w row)
@@ -104,15 +104,15 @@ module _ (t : Tables) (c : Command) where
             let room = not-full new (channelAt t i .bins) (channelAt t i .pulses) e in
             let within = place-first row (rowsOf t bins i) .within in
             let few = few-rows in
-            puts i place new start w row there known (omega arith) (λ old. let under = leb-false (length (rowsOf t bins i)) place old in omega arith) (room .0) (room .1))
+            puts i place new start w row there known (omega arith) (λ old. let under = leb-false (length (rowsOf t bins i)) place old in omega arith) (room .0) (leb-true (length (rowsOf t bins i)) place) (room .1))
 
-      stored-with-kind : (w : Weighed) → Kind t c (storedWith t bins i start w row)
+      stored-with-kind : (w : Weighed) → Kind t bins c (storedWith t bins i start w row)
       unfolding storedWith
       stored-with-kind Overflow = refuses NotFinite
       stored-with-kind (Fine w) = stored-kind w
 
     module _ (span : Float) (p : Play) (is : named c ≡ p .channel) where
-      pushed-kind : (i : ℕ) → found t (p .channel) ≡ At i → Kind t c (pushed t bins i start p (binFor t i p span))
+      pushed-kind : (i : ℕ) → found t (p .channel) ≡ At i → Kind t bins c (pushed t bins i start p (binFor t i p span))
       pushed-kind i there =
           let b = binFor t i p span in
           let w = weighedOf (p .amplitude .0) (p .phase .0) (p .drag) in
@@ -122,12 +122,12 @@ module _ (t : Tables) (c : Command) where
           (λ _. one-of quiet (goesOn t) storing (λ _. goes) (λ _. stored-with-kind i (ap (found t) is ∙ there) (rowOf b) w))
           (λ _. refuses NotFinite)
 
-      played-at-kind : (f : Found) → found t (p .channel) ≡ f → Kind t c (playedAt t bins f start span p)
+      played-at-kind : (f : Found) → found t (p .channel) ≡ f → Kind t bins c (playedAt t bins f start span p)
       unfolding playedAt
       played-at-kind Nowhere e = refuses UnknownChannel
       played-at-kind (At i) e = pushed-kind i e
 
-      played-kind : Kind t c (played t bins start span p)
+      played-kind : Kind t bins c (played t bins start span p)
       played-kind =
           let f = found t (p .channel) in
           let placed = playedAt t bins f start span p in
@@ -137,14 +137,14 @@ module _ (t : Tables) (c : Command) where
           (λ _. one-of low (stops t NegativePlateau) placed (λ _. refuses NegativePlateau) (λ _. played-at-kind f refl))
 
 module _ (t : Tables) (bins : List (List Float)) where
-  acted-kind : (start : Float) → finite start ≡ true → (span : Float) (c : Command) → Kind t c (acted t bins start span c)
+  acted-kind : (start : Float) → finite start ≡ true → (span : Float) (c : Command) → Kind t bins c (acted t bins start span c)
   unfolding acted isSwap
-  acted-kind start known span (C.Play p) = played-kind t (C.Play p) bins start known span p refl
-  acted-kind start known span (C.ShiftPhase n x) = turned-at-kind t (C.ShiftPhase n x) (found t n) refl start
-  acted-kind start known span (C.SetPhase n x) = turned-at-kind t (C.SetPhase n x) (found t n) refl start
-  acted-kind start known span (C.ShiftFreq n x) = turned-at-kind t (C.ShiftFreq n x) (found t n) refl start
-  acted-kind start known span (C.SetFreq n x) = turned-at-kind t (C.SetFreq n x) (found t n) refl start
-  acted-kind start known span (C.SwapPhase n m) = swapped-kind t (C.SwapPhase n m) refl n m start
+  acted-kind start known span (C.Play p) = played-kind t bins (C.Play p) start known span p refl
+  acted-kind start known span (C.ShiftPhase n x) = turned-at-kind t bins (C.ShiftPhase n x) (found t n) refl start
+  acted-kind start known span (C.SetPhase n x) = turned-at-kind t bins (C.SetPhase n x) (found t n) refl start
+  acted-kind start known span (C.ShiftFreq n x) = turned-at-kind t bins (C.ShiftFreq n x) (found t n) refl start
+  acted-kind start known span (C.SetFreq n x) = turned-at-kind t bins (C.SetFreq n x) (found t n) refl start
+  acted-kind start known span (C.SwapPhase n m) = swapped-kind t bins (C.SwapPhase n m) refl n m start
   acted-kind start known span C.Barrier = goes
 
   and-left : (x y : Bool) → (x && y) ≡ true → x ≡ true
@@ -155,11 +155,11 @@ module _ (t : Tables) (bins : List (List Float)) where
   start-known : (a : Arranged) → wellFormed a ≡ true → finite (a .start .0) ≡ true
   start-known a e = and-left (finite (a .start .0)) (finite (a .span .0)) (and-left (finite (a .start .0) && finite (a .span .0)) (good (a .command)) e)
 
-  pub step-kind : (a : Arranged) → Kind t (a .command) (stepOf t bins a)
+  pub step-kind : (a : Arranged) → Kind t bins (a .command) (stepOf t bins a)
   step-kind a =
       let s = acted t bins (a .start .0) (a .span .0) (a .command) in
-      one-of t (a .command) (wellFormed a) (cond (tooLong t a) (stops t Oversize) s) (stops t Malformed)
-      (λ e. one-of t (a .command) (tooLong t a) (stops t Oversize) s (λ _. refuses Oversize) (λ _. acted-kind (a .start .0) (start-known a e) (a .span .0) (a .command)))
+      one-of t bins (a .command) (wellFormed a) (cond (tooLong t a) (stops t Oversize) s) (stops t Malformed)
+      (λ e. one-of t bins (a .command) (tooLong t a) (stops t Oversize) s (λ _. refuses Oversize) (λ _. acted-kind (a .start .0) (start-known a e) (a .span .0) (a .command)))
       (λ _. refuses Malformed)
 
 -- ---- what follows
@@ -170,29 +170,29 @@ pub record Leaves (t : Tables) (s : Step) : Type 0 where
   pub bins : (bins : List (List Float)) → binsAfter s bins ≡ bins
   pub pulses : (pulses : List Pulse) → pulsesAfter s pulses ≡ pulses
 
-leaves : (t : Tables) (c : Command) (s : Step) → Kind t c s → s .stop ≡ true → Leaves t s
-leaves t c _ (refuses r) e = record { tables = refl; bins = λ _. refl; pulses = λ _. refl }
-leaves t c _ goes e = absurd (true≢false (sym e))
-leaves t c _ (turns i o there) e = absurd (true≢false (sym e))
-leaves t c _ (swaps i j o q swap) e = absurd (true≢false (sym e))
-leaves t c _ (puts i place new start w row there known most old room pulses) e = absurd (true≢false (sym e))
+leaves : (t : Tables) (bins : List (List Float)) (c : Command) (s : Step) → Kind t bins c s → s .stop ≡ true → Leaves t s
+leaves t bins c _ (refuses r) e = record { tables = refl; bins = λ _. refl; pulses = λ _. refl }
+leaves t bins c _ goes e = absurd (true≢false (sym e))
+leaves t bins c _ (turns i o there) e = absurd (true≢false (sym e))
+leaves t bins c _ (swaps i j o q swap) e = absurd (true≢false (sym e))
+leaves t bins c _ (puts i place new start w row there known most old room last pulses) e = absurd (true≢false (sym e))
 
 pub refused-leaves : (t : Tables) (bins : List (List Float)) (a : Arranged) → stepOf t bins a .stop ≡ true → Leaves t (stepOf t bins a)
-refused-leaves t bins a = leaves t (a .command) (stepOf t bins a) (step-kind t bins a)
+refused-leaves t bins a = leaves t bins (a .command) (stepOf t bins a) (step-kind t bins a)
 
 -- where the channels have their eight places, what a step writes lies within 512 rows and 8,192 records
 pub record Within (s : Step) : Type 0 where
   pub row : s .opens ≡ true → s .at < 512
   pub pulse : s .put ≡ true → s .from + s .count < 8192
 
-kept-within : (t : Tables) (c : Command) (s : Step) → length (t .channels) ≡ 8 → Kind t c s → Within s
-kept-within t c _ eight (refuses r) = record { row = λ e. absurd (true≢false (sym e)); pulse = λ e. absurd (true≢false (sym e)) }
-kept-within t c _ eight goes = record { row = λ e. absurd (true≢false (sym e)); pulse = λ e. absurd (true≢false (sym e)) }
-kept-within t c _ eight (turns i o there) = record { row = λ e. absurd (true≢false (sym e)); pulse = λ e. absurd (true≢false (sym e)) }
-kept-within t c _ eight (swaps i j o q swap) = record { row = λ e. absurd (true≢false (sym e)); pulse = λ e. absurd (true≢false (sym e)) }
-kept-within t c _ eight (puts i place new start w row there known most old room pulses) =
+kept-within : (t : Tables) (bins : List (List Float)) (c : Command) (s : Step) → length (t .channels) ≡ 8 → Kind t bins c s → Within s
+kept-within t bins c _ eight (refuses r) = record { row = λ e. absurd (true≢false (sym e)); pulse = λ e. absurd (true≢false (sym e)) }
+kept-within t bins c _ eight goes = record { row = λ e. absurd (true≢false (sym e)); pulse = λ e. absurd (true≢false (sym e)) }
+kept-within t bins c _ eight (turns i o there) = record { row = λ e. absurd (true≢false (sym e)); pulse = λ e. absurd (true≢false (sym e)) }
+kept-within t bins c _ eight (swaps i j o q swap) = record { row = λ e. absurd (true≢false (sym e)); pulse = λ e. absurd (true≢false (sym e)) }
+kept-within t bins c _ eight (puts i place new start w row there known most old room last pulses) =
     let h = found-eight t (named c) i eight there in
     record { row = λ e. let below = room e in omega arith; pulse = λ _. omega arith }
 
 pub step-within : (t : Tables) (bins : List (List Float)) → length (t .channels) ≡ 8 → (a : Arranged) → Within (stepOf t bins a)
-step-within t bins eight a = kept-within t (a .command) (stepOf t bins a) eight (step-kind t bins a)
+step-within t bins eight a = kept-within t bins (a .command) (stepOf t bins a) eight (step-kind t bins a)

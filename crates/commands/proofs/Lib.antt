@@ -5,3 +5,4 @@ pub mod Full
 pub mod Zones
 pub mod Sound
 pub mod Own
+pub mod Apart

@@ -277,12 +277,12 @@ module _ (t : Tables) (bins : List (List Float)) (pulses : List Pulse) (h : Soun
           each = λ j below. either (Stands after records j) j i (λ e. rw e stands-here) (λ apart. stands-there j below apart);
         }
 
-  kind-sound : (c : Command) (s : Step) → Kind t c s → Sound (s .tables) (binsAfter s bins) (pulsesAfter s pulses)
+  kind-sound : (c : Command) (s : Step) → Kind t bins c s → Sound (s .tables) (binsAfter s bins) (pulsesAfter s pulses)
   kind-sound c _ (refuses r) = h
   kind-sound c _ goes = h
   kind-sound c _ (turns i o there) = osc-sound t bins pulses h i o
   kind-sound c _ (swaps i j o q swap) = osc-sound (withOsc t i o) bins pulses (osc-sound t bins pulses h i o) j q
-  kind-sound c _ (puts i place new time w row there known most old room few) =
+  kind-sound c _ (puts i place new time w row there known most old room last few) =
       let s = stores t i place new time w row in
       stored-sound (named c) i place new time w row there known most old room few (binsAfter s bins) (bins-size s bins ∙ h .rows)
 
