@@ -55,7 +55,7 @@ found-named k n (c ∷ cs) i e = go (sameName (c .name) n) refl e (found-named (
         (omega (arith, h .0), rw next (h .1))
 
 module _ (t : Tables) (n : Name) (i : ℕ) (e : found t n ≡ At i) where
-  present : i < t .count
+  pub present : i < t .count
   present =
       let u = found-under 0 n (channelsIn t) i e in
       let short = rw (length-take (t .count) (t .channels)) at u in
@@ -96,7 +96,7 @@ found-by-names k n (c ∷ cs) (d ∷ ds) e =
     let tail : names cs ≡ names ds = cc in
     rw (head, found-by-names (suc k) n cs ds tail)
 
-found-stays : (t : Tables) (j : ℕ) (c : Channel) → c .name ≡ channelAt t j .name → (n : Name) → found (withChannel t j c) n ≡ found t n
+pub found-stays : (t : Tables) (j : ℕ) (c : Channel) → c .name ≡ channelAt t j .name → (n : Name) → found (withChannel t j c) n ≡ found t n
 found-stays t j c e n =
     let f : Channel → Name = λ (x : Channel). x .name in
     let same = map-set-same f (t .channels) j c noChannel e in
@@ -109,7 +109,7 @@ same-to : (n : Name) (i : ℕ) (t : Tables) (bins : List (List Float)) (pulses :
 same-to n i t bins pulses e =
     record { here = e; there = e; amp = refl; time = refl; oversize = refl; shapes = refl; channel = refl; its-rows = refl; its-list = refl }
 
-same-then : (n : Name) (i : ℕ) (t u v : Tables) (a b c : List (List Float)) (p q r : List Pulse) → SameTo n i t u a b p q → SameTo n i u v b c q r
+pub same-then : (n : Name) (i : ℕ) (t u v : Tables) (a b c : List (List Float)) (p q r : List Pulse) → SameTo n i t u a b p q → SameTo n i u v b c q r
     → SameTo n i t v a c p r
 same-then n i t u v a b c p q r h k =
     record {
@@ -159,7 +159,7 @@ module _ (n : Name) (i : ℕ) (t : Tables) (bins : List (List Float)) (pulses : 
           let further : j < i = omega (arith, apart) in
           part-behind (64 * j + 64) (64 * i) 64 (set bins (64 * j + place) row) bins (omega arith) (drop-set-lt (64 * j + 64) bins (64 * j + place) row (omega arith))
 
-  unmoved : (c : Command) (s : Step) → isSwap c ≡ false → sameName (named c) n ≡ false → Kind t bins c s → s .stop ≡ false
+  pub unmoved : (c : Command) (s : Step) → isSwap c ≡ false → sameName (named c) n ≡ false → Kind t bins c s → s .stop ≡ false
       → SameTo n i (s .tables) t (binsAfter s bins) bins (pulsesAfter s pulses) pulses
   unmoved c _ single other (refuses r) f = absurd (true≢false f)
   unmoved c _ single other goes f = same-to n i t bins pulses e

@@ -6,3 +6,4 @@ pub mod Zones
 pub mod Sound
 pub mod Own
 pub mod Apart
+pub mod Alone

@@ -286,7 +286,7 @@ module _ (t : Tables) (bins : List (List Float)) (pulses : List Pulse) (h : Soun
       let s = stores t i place new time w row in
       stored-sound (named c) i place new time w row there known most old room few (binsAfter s bins) (bins-size s bins ∙ h .rows)
 
-  step-sound : (a : Arranged) → let s = stepOf t bins a in Sound (s .tables) (binsAfter s bins) (pulsesAfter s pulses)
+  pub step-sound : (a : Arranged) → let s = stepOf t bins a in Sound (s .tables) (binsAfter s bins) (pulsesAfter s pulses)
   step-sound a = kind-sound (a .command) (stepOf t bins a) (step-kind t bins a)
 
 -- ---- a call

@@ -6,6 +6,8 @@ use mathlib.Core.Bool.{Bool, true, false, _&&_, not, cond}
 use mathlib.Core.List.{List, [], _∷_}
 use lib.Ieee.{Float}
 use Rattle.quant.specs.declared.name.Name.{Name}
+use Rattle.quant.specs.declared.refusal.Answer.{Answer}
+use Rattle.quant.specs.declared.refusal.Answer.the-variants.{Done, Refused}
 use Rattle.quant.specs.Name.{sameName}
 use Rattle.pulse.specs.declared.list.Pulse.{Pulse}
 use Rattle.tables.specs.declared.Tables.{Tables}
@@ -54,6 +56,10 @@ onlyFor n (a ∷ more) = cond (isFor n (a .command)) (a ∷ onlyFor n more) (onl
 unfoldable pub noSwaps : List Arranged → Bool
 noSwaps [] = true
 noSwaps (a ∷ more) = not (isSwap (a .command)) && noSwaps more
+
+unfoldable pub isDone : Answer → Bool
+isDone (Done k) = true
+isDone (Refused r k) = false
 
 -- the channel named n stands at the same place i of both tables and looks the same: what its commands go by, its state and counts, its
 -- bins' rows and its records
