@@ -1,18 +1,15 @@
 -- Channels do not meet, second half: a command for a channel goes by what that channel sees alone; so a list of commands without swaps
 -- leaves each channel as its own commands do. Assumes nothing.
-use Prim.Native.Nat.{ℕ, zero, suc, _+_, _*_, _≤_, _<_}
+use Prim.Native.Nat.{ℕ, suc, _+_, _*_, _≤_, _<_}
 use native.Mathlib.Omega.{arith}
 use native.Mathlib.Numerals.{add-one}
 use mathlib.Core.Path.{_≡_, refl, sym, ap, subst, _∙_}
 use mathlib.Core.Bool.{Bool, true, false, _&&_, not, cond, true≢false}
 use mathlib.Core.List.{List, [], _∷_, _++_}
-use borrow.Author.Tests.{le-leb, eq-eqb}
 use lib.Ieee.{Float}
-use lib.ListN.{length, take, drop, getD, set, length-take, length-drop}
+use lib.ListN.{length, take, drop, set, length-take, length-drop}
 use lib.Seq.{getD-set-same, take-suc-set, take-set-lt, drop-set-add}
 use Rattle.quant.specs.declared.name.Name.{Name}
-use Rattle.quant.specs.declared.refusal.Answer.{Answer}
-use Rattle.quant.specs.declared.refusal.Answer.the-variants.{Done, Refused}
 use Rattle.quant.specs.Name.{isName, sameName}
 use Rattle.quant.proofs.Naming.{same-exactly}
 use Rattle.executor.specs.declared.osc.OscState.{OscState}
@@ -37,7 +34,8 @@ use Rattle.commands.specs.Apart.{named, isFor, isSwap, onlyFor, noSwaps,
 use Rattle.commands.proofs.Cases as Cases
 use Rattle.commands.proofs.Cases.{Kind, step-kind}
 use Rattle.commands.proofs.Own.{View, viewOf, Own, refuses, same, turns, puts, realize, own, own-step}
-use Rattle.commands.proofs.Apart.{present, found-stays, same-then, unmoved}
+use Rattle.commands.proofs.Apart.{found-stays, same-to, same-then, unmoved}
+use Rattle.commands.proofs.Calls.{fits}
 use Rattle.commands.proofs.Sound.{step-sound}
 
 -- ---- what holds of a pulse that is stored
@@ -179,3 +177,124 @@ module _ (n : Name) (i : ℕ) (t u : Tables) (bins rows : List (List Float)) (pu
       alongside x (stepOf t bins a) (stepOf u rows a) (own-step t bins i a single at-t) (own-step u rows i a single at-u ∙ ap (realize u i) theirs)
       (put-facts t bins (a .command) i (stepOf t bins a) (step-kind t bins a) at-t)
       (put-facts u rows (a .command) i (stepOf u rows a) (step-kind u rows a) at-u)
+
+-- ---- a list of commands
+
+-- a good name is not the empty one, so a barrier is for no channel
+empty-not : isName noName ≡ false
+unfolding isName
+empty-not = refl
+
+no-empty : (n : Name) → isName n ≡ true → (b : Bool) → sameName noName n ≡ b → b ≡ false
+no-empty n good true e = absurd (true≢false (sym good ∙ ap isName (sym (same-exactly noName n .0 e)) ∙ empty-not))
+no-empty n good false e = refl
+
+not-for : (n : Name) → isName n ≡ true → (c : Command) → isSwap c ≡ false → isFor n c ≡ false → sameName (named c) n ≡ false
+unfolding isSwap isFor
+not-for n good (C.Play p) e f = f
+not-for n good (C.ShiftPhase m x) e f = f
+not-for n good (C.SetPhase m x) e f = f
+not-for n good (C.ShiftFreq m x) e f = f
+not-for n good (C.SetFreq m x) e f = f
+not-for n good (C.SwapPhase a b) e f = absurd (true≢false e)
+not-for n good C.Barrier e f = no-empty n good (sameName noName n) refl
+
+is-for : (n : Name) (c : Command) → isSwap c ≡ false → isFor n c ≡ true → named c ≡ n
+unfolding isSwap isFor
+is-for n (C.Play p) e f = same-exactly (p .channel) n .0 f
+is-for n (C.ShiftPhase m x) e f = same-exactly m n .0 f
+is-for n (C.SetPhase m x) e f = same-exactly m n .0 f
+is-for n (C.ShiftFreq m x) e f = same-exactly m n .0 f
+is-for n (C.SetFreq m x) e f = same-exactly m n .0 f
+is-for n (C.SwapPhase a b) e f = absurd (true≢false e)
+is-for n C.Barrier e f = absurd (true≢false (sym f))
+
+and-both : (x y : Bool) → (x && y) ≡ true → (x ≡ true) × (y ≡ true)
+and-both true y e = (refl, e)
+and-both false y e = absurd (true≢false (sym e))
+
+not-true : (b : Bool) → not b ≡ true → b ≡ false
+not-true true e = sym e
+not-true false e = refl
+
+-- two runs that end alike: both done, and the channel looks the same
+pub record EndAlike (n : Name) (i : ℕ) (r q : Ran) : Type 0 where
+  pub done : isDone (q .result .answer) ≡ true
+  pub same : SameTo n i (r .result .tables) (q .result .tables) (r .bins) (q .bins) (r .pulses) (q .pulses)
+
+module _ (n : Name) (good : isName n ≡ true) (i : ℕ) where
+  alone : (j k : ℕ) (t u : Tables) (commands : List Arranged) (bins rows : List (List Float)) (pulses records : List Pulse)
+      → Sound t bins pulses → Sound u rows records → SameTo n i t u bins rows pulses records → noSwaps commands ≡ true
+      → isDone (ran j t commands bins pulses .result .answer) ≡ true
+      → EndAlike n i (ran j t commands bins pulses) (ran k u (onlyFor n commands) rows records)
+  unfolding ran onlyFor noSwaps isDone
+  alone j k t u [] bins rows pulses records h g s free done = record { done = refl; same = s }
+  alone j k t u (a ∷ more) bins rows pulses records h g s free done =
+      by-name (isFor n (a .command)) refl
+      (alone (suc j) k (p .tables) u more (binsAfter p bins) rows (pulsesAfter p pulses) records (step-sound t bins pulses h a) g)
+      (alone (suc j) (suc k) (p .tables) (q .tables) more (binsAfter p bins) (binsAfter q rows) (pulsesAfter p pulses) (pulsesAfter q records) (step-sound t bins pulses h a) (step-sound u rows records g a))
+    where
+      p : Step
+      p = stepOf t bins a
+
+      q : Step
+      q = stepOf u rows a
+
+      later : Ran
+      later = ran (suc j) (p .tables) more (binsAfter p bins) (pulsesAfter p pulses)
+
+      theirs : Ran
+      theirs = ran (suc k) (q .tables) (onlyFor n more) (binsAfter q rows) (pulsesAfter q records)
+
+      parts : (not (isSwap (a .command)) ≡ true) × (noSwaps more ≡ true)
+      parts = and-both (not (isSwap (a .command))) (noSwaps more) free
+
+      single : isSwap (a .command) ≡ false
+      single = not-true (isSwap (a .command)) (parts .0)
+
+      -- the step does not stop, since the run is done
+      no-stop : (b : Bool) → isDone (cond b (ranTo (refusedAt t (p .why) j) bins pulses) later .result .answer) ≡ true → b ≡ false
+      no-stop true e = sym e
+      no-stop false e = refl
+
+      goes-on : p .stop ≡ false
+      goes-on = no-stop (p .stop) done
+
+      done' : isDone (later .result .answer) ≡ true
+      done' = rw goes-on at done
+
+      by-name : (b : Bool) → isFor n (a .command) ≡ b
+          → (SameTo n i (p .tables) u (binsAfter p bins) rows (pulsesAfter p pulses) records → noSwaps more ≡ true → isDone (later .result .answer) ≡ true
+          → EndAlike n i later (ran k u (onlyFor n more) rows records))
+          → (SameTo n i (p .tables) (q .tables) (binsAfter p bins) (binsAfter q rows) (pulsesAfter p pulses) (pulsesAfter q records) → noSwaps more ≡ true
+          → isDone (later .result .answer) ≡ true → EndAlike n i later theirs)
+          → EndAlike n i (cond (p .stop) (ranTo (refusedAt t (p .why) j) bins pulses) later) (ran k u (cond b (a ∷ onlyFor n more) (onlyFor n more)) rows records)
+      by-name false e other own' =
+          let left = unmoved n i t bins pulses h (s .here) (a .command) p single (not-for n good (a .command) single e) (step-kind t bins a) goes-on in
+          rw goes-on (other (same-then n i (p .tables) t u (binsAfter p bins) bins rows (pulsesAfter p pulses) pulses records left s) (parts .1) done')
+      by-name true e other own' =
+          let both = own-alike n i t u bins rows pulses records h g s a single (is-for n (a .command) single e) in
+          let stop' : q .stop ≡ false = both .stop ∙ goes-on in
+          rw (goes-on, stop') (own' (both .goes-on goes-on) (parts .1) done')
+
+-- ---- the law
+
+few-for : (n : Name) (commands : List Arranged) → length (onlyFor n commands) ≤ length commands
+unfolding onlyFor
+few-for n [] = omega arith
+few-for n (a ∷ more) = go (isFor n (a .command)) (few-for n more)
+  where
+    go : (b : Bool) → length (onlyFor n more) ≤ length more → length (cond b (a ∷ onlyFor n more) (onlyFor n more)) ≤ suc (length more)
+    go true h = omega arith
+    go false h = omega arith
+
+-- Where a call without swaps is done, a call with only the commands for the channel n is done too, and the channel's state and counts, its
+-- bins' rows and its records are the same after both.
+pub channels-apart : (n : Name) (i : ℕ) (t : Tables) (commands : List Arranged) (bins : List (List Float)) (pulses : List Pulse) → isName n ≡ true
+    → found t n ≡ At i → Sound t bins pulses → length commands ≤ 1024 → noSwaps commands ≡ true → isDone (executed t commands bins pulses .result .answer) ≡ true
+    → EndAlike n i (executed t commands bins pulses) (executed t (onlyFor n commands) bins pulses)
+channels-apart n i t commands bins pulses good here h few free done =
+    let whole = fits commands bins pulses t few (h .rows) (h .records) in
+    let less = few-for n commands in
+    rw (whole, fits (onlyFor n commands) bins pulses t (omega arith) (h .rows) (h .records))
+    (alone n good i 0 0 t t commands bins bins pulses pulses h h (same-to n i t bins pulses here) free (rw whole at done))

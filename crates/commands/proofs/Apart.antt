@@ -2,40 +2,33 @@
 -- are. A command for another channel leaves what this one sees; a command for this one goes by what it sees alone. Assumes nothing.
 use Prim.Native.Nat.{ℕ, zero, suc, _+_, _-_, _*_, _≤_, _<_}
 use native.Mathlib.Omega.{arith}
-use native.Mathlib.Numerals.{add-one}
-use mathlib.Core.Path.{_≡_, refl, sym, ap, subst, _∙_}
-use mathlib.Core.Bool.{Bool, true, false, _&&_, not, cond, true≢false}
-use mathlib.Core.List.{List, [], _∷_, _++_, map}
+use mathlib.Core.Path.{_≡_, refl, sym, ap, _∙_}
+use mathlib.Core.Bool.{Bool, true, false, cond, true≢false}
+use mathlib.Core.List.{List, [], _∷_, map}
 use borrow.Author.Tests.{ltb-true, ltb-false}
 use lib.Dec.{ltb}
 use lib.Ieee.{Float}
-use lib.Ieee.Scale.{finite}
-use lib.ListN.{length, take, drop, getD, set, length-take, length-drop}
-use lib.Seq.{getD-set-same, getD-set-other, getD-take, map-set-same, take-suc-set, take-take, take-set-le, take-set-lt, drop-set-lt, drop-set-add}
+use lib.ListN.{take, drop, getD, set, length-take}
+use lib.Seq.{getD-set-other, getD-take, map-set-same, take-set-le, drop-set-lt}
 use Rattle.quant.specs.declared.name.Name.{Name}
-use Rattle.quant.specs.Name.{isName, sameName}
+use Rattle.quant.specs.Name.{sameName}
 use Rattle.quant.proofs.Naming.{same-exactly}
 use Rattle.pulse.specs.declared.list.Pulse.{Pulse}
-use Rattle.pulse.specs.declared.weight.Weight.{Weight}
-use Rattle.pulse.specs.List.{placed, stored}
-use Rattle.pulse.proofs.Stored.{stored-list}
+use Rattle.pulse.specs.List.{stored}
 use Rattle.tables.specs.declared.Channel.{Channel}
 use Rattle.tables.specs.declared.Tables.{Tables}
-use Rattle.tables.specs.declared.Found.{Found}
-use Rattle.tables.specs.declared.Found.the-variants.{At, Nowhere}
-use Rattle.tables.specs.Tables.{channelsIn, shapesIn, foundFrom, found, noName, noChannel, channelAt, withChannels, withChannel}
-use Rattle.tables.proofs.Finding.{found-under, found-eight}
+use Rattle.tables.specs.declared.Found.the-variants.{At}
+use Rattle.tables.specs.Tables.{channelsIn, foundFrom, found, noChannel, channelAt, withChannel}
+use Rattle.tables.proofs.Finding.{found-under}
 use Rattle.commands.specs.declared.command.Command.{Command}
 use Rattle.commands.specs.declared.command.Command.the-variants as C
-use Rattle.commands.specs.declared.command.Arranged.{Arranged}
 use Rattle.commands.specs.declared.step.Step.{Step}
-use Rattle.commands.specs.Step.{binsAfter, pulsesAfter, stops, goesOn, withOsc}
-use Rattle.commands.specs.Play.{rowsOf, grown, pulseAt, stores}
-use Rattle.commands.specs.Run.{stepOf}
-use Rattle.commands.specs.Sound.{listOf, Stands, Sound}
-use Rattle.commands.specs.Apart.{named, isFor, isSwap, onlyFor, noSwaps, SameTo}
+use Rattle.commands.specs.Step.{binsAfter, pulsesAfter}
+use Rattle.commands.specs.Play.{grown, pulseAt}
+use Rattle.commands.specs.Sound.{Sound}
+use Rattle.commands.specs.Apart.{named, isSwap, SameTo}
 use Rattle.commands.proofs.Zones.{zone-stays, part-before, part-behind}
-use Rattle.commands.proofs.Cases.{Kind, refuses, goes, turns, swaps, puts, step-kind}
+use Rattle.commands.proofs.Cases.{Kind, refuses, goes, turns, swaps, puts}
 
 -- ---- names
 
@@ -105,7 +98,7 @@ found-stays t j c e n =
 
 -- ---- what looks the same
 
-same-to : (n : Name) (i : ℕ) (t : Tables) (bins : List (List Float)) (pulses : List Pulse) → found t n ≡ At i → SameTo n i t t bins bins pulses pulses
+pub same-to : (n : Name) (i : ℕ) (t : Tables) (bins : List (List Float)) (pulses : List Pulse) → found t n ≡ At i → SameTo n i t t bins bins pulses pulses
 same-to n i t bins pulses e =
     record { here = e; there = e; amp = refl; time = refl; oversize = refl; shapes = refl; channel = refl; its-rows = refl; its-list = refl }
 

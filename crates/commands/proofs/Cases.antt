@@ -7,8 +7,7 @@ use mathlib.Core.Bool.{Bool, true, false, _&&_, not, cond, true≢false}
 use mathlib.Core.List.{List}
 use lib.Ieee.{Float, lt}
 use lib.Ieee.Scale.{finite}
-use lib.ListN.{length, take, drop, getD, set, length-take, length-set, List·getD-map}
-use lib.Seq.{map-set-same}
+use lib.ListN.{length, take, drop, length-take}
 use borrow.Author.Tests.{leb-true, leb-false}
 use Rattle.quant.specs.declared.name.Name.{Name}
 use Rattle.quant.specs.Name.{sameName}
@@ -26,11 +25,10 @@ use Rattle.pulse.specs.Bin.{rowOf, placeOf}
 use Rattle.pulse.specs.Envelope.{nought}
 use Rattle.pulse.specs.Weight.{negligible, weighedOf}
 use Rattle.pulse.proofs.Place.{place-first}
-use Rattle.tables.specs.declared.Channel.{Channel}
 use Rattle.tables.specs.declared.Tables.{Tables}
 use Rattle.tables.specs.declared.Found.{Found}
 use Rattle.tables.specs.declared.Found.the-variants.{At, Nowhere}
-use Rattle.tables.specs.Tables.{shapesIn, isIn, found, noChannel, channelAt}
+use Rattle.tables.specs.Tables.{shapesIn, isIn, found, channelAt}
 use Rattle.tables.proofs.Finding.{found-eight}
 use Rattle.commands.specs.declared.command.Play.{Play}
 use Rattle.commands.specs.declared.command.Command.{Command}
@@ -101,10 +99,10 @@ module _ (t : Tables) (bins : List (List Float)) (c : Command) where
           one-of (isFull t bins i place) (stops t Full) (stores t i place new start w row)
           (λ _. refuses Full)
           (λ e.
-            let room = not-full new (channelAt t i .bins) (channelAt t i .pulses) e in
-            let within = place-first row (rowsOf t bins i) .within in
-            let few = few-rows in
-            puts i place new start w row there known (omega arith) (λ old. let under = leb-false (length (rowsOf t bins i)) place old in omega arith) (room .0) (leb-true (length (rowsOf t bins i)) place) (room .1))
+          let room = not-full new (channelAt t i .bins) (channelAt t i .pulses) e in
+          let within = place-first row (rowsOf t bins i) .within in
+          let few = few-rows in
+          puts i place new start w row there known (omega arith) (λ old. let under = leb-false (length (rowsOf t bins i)) place old in omega arith) (room .0) (leb-true (length (rowsOf t bins i)) place) (room .1))
 
       stored-with-kind : (w : Weighed) → Kind t bins c (storedWith t bins i start w row)
       unfolding storedWith

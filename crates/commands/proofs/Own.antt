@@ -1,7 +1,7 @@
 -- What a command to one channel comes to, worked out from that channel alone: its record, its bins' rows, and the tolerances, the choice
 -- and the shapes. A step is this, carried over to the tables. Assumes nothing.
 use Prim.Native.Nat.{ℕ}
-use mathlib.Core.Path.{_≡_, refl, sym, ap, _∙_}
+use mathlib.Core.Path.{_≡_, refl}
 use mathlib.Core.Bool.{Bool, true, false, _&&_, _||_, not, cond, true≢false}
 use mathlib.Core.List.{List}
 use lib.Dec.{leb}
@@ -30,7 +30,7 @@ use Rattle.commands.specs.declared.command.Arranged.{Arranged}
 use Rattle.commands.specs.declared.step.Step.{Step}
 use Rattle.commands.specs.Command.{wellFormed, required, tooLong}
 use Rattle.commands.specs.Step.{stops, goesOn, withOsc, movedBy, turnedAt}
-use Rattle.commands.specs.Play.{rowsOf, stores, storedAt, storedWith, plateauOf, binWith, pushed, playedAt, played}
+use Rattle.commands.specs.Play.{rowsOf, stores, storedWith, plateauOf, binWith, playedAt, played}
 use Rattle.commands.specs.Run.{acted, stepOf}
 use Rattle.commands.specs.Apart.{named, isSwap}
 

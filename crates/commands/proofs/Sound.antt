@@ -9,7 +9,7 @@ use lib.Dec.{eqb, ltb}
 use borrow.Author.Tests.{eqb-true, eqb-false, ltb-true}
 use lib.Ieee.{Float, isNan, nan, inf, fin}
 use lib.Ieee.Scale.{finite}
-use lib.ListN.{length, take, drop, getD, set, length-set, length-take, List·getD-map}
+use lib.ListN.{length, getD, set, length-set, length-take, List·getD-map}
 use lib.Seq.{getD-set-same, getD-set-other, map-set-same}
 use Rattle.quant.specs.declared.name.Name.{Name}
 use Rattle.quant.specs.declared.refusal.Refusal.the-variants.{Unfit, Malformed, Full, WrongSize}
@@ -18,7 +18,7 @@ use Rattle.quant.specs.Settings.{isTolerance}
 use Rattle.executor.specs.declared.osc.OscState.{OscState}
 use Rattle.pulse.specs.declared.list.Pulse.{Pulse}
 use Rattle.pulse.specs.declared.weight.Weight.{Weight}
-use Rattle.pulse.specs.List.{placed, stored}
+use Rattle.pulse.specs.List.{stored}
 use Rattle.pulse.specs.Sorted.{sorted, timed}
 use Rattle.pulse.proofs.Stored.{stored-list, stored-sorted, stored-timed, stored-length}
 use Rattle.tables.specs.declared.Channel.{Channel}
@@ -37,7 +37,7 @@ use Rattle.commands.specs.Sound.{listOf, binned, Stands, Sound, Reached,
 use Rattle.commands.specs.Apart.{named}
 use Rattle.commands.proofs.Cases.{Kind, refuses, goes, turns, swaps, puts, step-kind}
 use Rattle.commands.proofs.Zones.{zone-stays, binned-more, binned-placed}
-use Rattle.commands.proofs.Calls.{bins-size, pulses-size}
+use Rattle.commands.proofs.Calls.{bins-size}
 
 -- ---- a channel with the counts of another
 
