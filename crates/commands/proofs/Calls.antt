@@ -105,7 +105,7 @@ ran-on k t (a ∷ xs) ys bins pulses = go (s .stop) (ran-on (suc k) (s .tables) 
     go false h = h
 
 -- a call whose sizes fit
-fits : (commands : List Arranged) (bins : List (List Float)) (pulses : List Pulse) (t : Tables)
+pub fits : (commands : List Arranged) (bins : List (List Float)) (pulses : List Pulse) (t : Tables)
     → length commands ≤ 1024 → length bins ≡ 512 → length pulses ≡ 8192
     → executed t commands bins pulses ≡ ran 0 t commands bins pulses
 fits commands bins pulses t few rows records = rw (le-leb (length commands) 1024 few, eq-eqb (length bins) 512 rows, eq-eqb (length pulses) 8192 records)

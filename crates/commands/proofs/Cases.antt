@@ -1,4 +1,4 @@
--- A step is one of three: it refuses, it goes on with nothing to store, or it stores a pulse for which there is room. So a refused step
+-- A step refuses, or goes on with nothing to store, or stores a pulse for which there is room. So a refused step
 -- changes nothing, and what a step writes lies within what is lent. Assumes nothing.
 use Prim.Native.Nat.{ℕ, _+_, _*_, _≤_, _<_}
 use native.Mathlib.Omega.{arith}
@@ -7,9 +7,8 @@ use mathlib.Core.Bool.{Bool, true, false, _&&_, not, cond, true≢false}
 use mathlib.Core.List.{List}
 use lib.Ieee.{Float, lt}
 use lib.Ieee.Scale.{finite}
-use lib.ListN.{length, take, drop, getD, set, length-take, length-set, List·getD-map}
-use lib.Seq.{map-set-same}
-use borrow.Author.Tests.{leb-false}
+use lib.ListN.{length, take, drop, length-take}
+use borrow.Author.Tests.{leb-true, leb-false}
 use Rattle.quant.specs.declared.name.Name.{Name}
 use Rattle.quant.specs.Name.{sameName}
 use Rattle.quant.specs.declared.refusal.Refusal.{Refusal}
@@ -26,11 +25,10 @@ use Rattle.pulse.specs.Bin.{rowOf, placeOf}
 use Rattle.pulse.specs.Envelope.{nought}
 use Rattle.pulse.specs.Weight.{negligible, weighedOf}
 use Rattle.pulse.proofs.Place.{place-first}
-use Rattle.tables.specs.declared.Channel.{Channel}
 use Rattle.tables.specs.declared.Tables.{Tables}
 use Rattle.tables.specs.declared.Found.{Found}
 use Rattle.tables.specs.declared.Found.the-variants.{At, Nowhere}
-use Rattle.tables.specs.Tables.{shapesIn, isIn, found, noChannel, channelAt}
+use Rattle.tables.specs.Tables.{shapesIn, isIn, found, channelAt}
 use Rattle.tables.proofs.Finding.{found-eight}
 use Rattle.commands.specs.declared.command.Play.{Play}
 use Rattle.commands.specs.declared.command.Command.{Command}
@@ -41,147 +39,111 @@ use Rattle.commands.specs.Command.{good, wellFormed, tooLong}
 use Rattle.commands.specs.Step.{stops, goesOn, binsAfter, pulsesAfter, withOsc, turned, movedBy, turnedAt, swappedTo, swappedAt, swappedBetween}
 use Rattle.commands.specs.Play.{rowsOf, isNew, isFull, stores, storedAt, storedWith, plateauOf, binFor, pushed, playedAt, played}
 use Rattle.commands.specs.Run.{acted, stepOf}
+use Rattle.commands.specs.Apart.{named, isSwap}
 use Rattle.commands.proofs.Rows.{not-full}
 
--- tables with the same channels, as far as their lists go: what an oscillator's change leaves
-pub record Alike (t u : Tables) : Type 0 where
-  pub count : u .count ≡ t .count
-  pub places : length (u .channels) ≡ length (t .channels)
-  pub bins : (i : ℕ) → channelAt u i .bins ≡ channelAt t i .bins
-  pub pulses : (i : ℕ) → channelAt u i .pulses ≡ channelAt t i .pulses
-
--- What a step from the tables t comes to. A pulse is stored with a start that is finite, in a bin that is there or the next, where both
--- have room.
-pub data Kind (t : Tables) : Step → Type 0 where
-  refuses : (r : Refusal) → Kind t (stops t r)
-  goes : (u : Tables) → Alike t u → Kind t (goesOn u)
-  puts : (n : Name) (i place : ℕ) (new : Bool) (start : Float) (w : Weight) (row : List Float) → found t n ≡ At i → finite start ≡ true
+-- What the step of a command c from the tables t comes to. A pulse is stored with a start that is finite, in a bin that is there or the
+-- next, where both have room.
+pub data Kind (t : Tables) (bins : List (List Float)) (c : Command) : Step → Type 0 where
+  refuses : (r : Refusal) → Kind t bins c (stops t r)
+  goes : Kind t bins c (goesOn t)
+  turns : (i : ℕ) (o : OscState) → found t (named c) ≡ At i → Kind t bins c (goesOn (withOsc t i o))
+  swaps : (i j : ℕ) (o q : OscState) → isSwap c ≡ true → Kind t bins c (goesOn (withOsc (withOsc t i o) j q))
+  puts : (i place : ℕ) (new : Bool) (start : Float) (w : Weight) (row : List Float) → found t (named c) ≡ At i → finite start ≡ true
       → place ≤ channelAt t i .bins → (new ≡ false → place < channelAt t i .bins) → (new ≡ true → channelAt t i .bins < 64)
-      → channelAt t i .pulses < 1024 → Kind t (stores t i place new start w row)
-
--- ---- oscillators
-
-alike : (t : Tables) → Alike t t
-alike t = record { count = refl; places = refl; bins = λ i. refl; pulses = λ i. refl }
-
-alike-then : (t u v : Tables) → Alike t u → Alike u v → Alike t v
-alike-then t u v h k =
-    record {
-      count = k .count ∙ h .count;
-      places = k .places ∙ h .places;
-      bins = λ i. k .bins i ∙ h .bins i;
-      pulses = λ i. k .pulses i ∙ h .pulses i;
-    }
-
--- a field that a new channel has in common with the one whose place it takes
-same-field : (f : Channel → ℕ) (l : List Channel) (i : ℕ) (c : Channel) → f c ≡ f (getD l i noChannel) → (j : ℕ) → f (getD (set l i c) j noChannel) ≡ f (getD l j noChannel)
-same-field f l i c e j =
-    sym (List·getD-map f (set l i c) j noChannel)
-    ∙ ap (λ (m : List ℕ). getD m j (f noChannel)) (map-set-same f l i c noChannel e)
-    ∙ List·getD-map f l j noChannel
-
-alike-osc : (t : Tables) (i : ℕ) (o : OscState) → Alike t (withOsc t i o)
-alike-osc t i o =
-    let c : Channel = record { name = channelAt t i .name; osc = o; bins = channelAt t i .bins; pulses = channelAt t i .pulses } in
-    record {
-      count = refl;
-      places = length-set (t .channels) i c;
-      bins = same-field (λ (x : Channel). x .bins) (t .channels) i c refl;
-      pulses = same-field (λ (x : Channel). x .pulses) (t .channels) i c refl;
-    }
+      → (new ≡ true → length (rowsOf t bins i) ≤ place) → channelAt t i .pulses < 1024 → Kind t bins c (stores t i place new start w row)
 
 -- ---- the cases of a step
 
-one-of : (t : Tables) (b : Bool) (x y : Step) → (b ≡ true → Kind t x) → (b ≡ false → Kind t y) → Kind t (cond b x y)
-one-of t true x y h k = h refl
-one-of t false x y h k = k refl
+module _ (t : Tables) (bins : List (List Float)) (c : Command) where
+  one-of : (b : Bool) (x y : Step) → (b ≡ true → Kind t bins c x) → (b ≡ false → Kind t bins c y) → Kind t bins c (cond b x y)
+  one-of true x y h k = h refl
+  one-of false x y h k = k refl
 
-turned-kind : (t : Tables) (i : ℕ) (m : Moved) → Kind t (turned t i m)
-turned-kind t i m =
-    let after = withOsc t i (m .osc) in
-    one-of t (m .refused) (stops t NotFinite) (goesOn after) (λ _. refuses NotFinite) (λ _. goes after (alike-osc t i (m .osc)))
+  turned-kind : (i : ℕ) (m : Moved) → found t (named c) ≡ At i → Kind t bins c (turned t i m)
+  turned-kind i m there =
+      one-of (m .refused) (stops t NotFinite) (goesOn (withOsc t i (m .osc))) (λ _. refuses NotFinite) (λ _. turns i (m .osc) there)
 
-turned-at-kind : (t : Tables) (f : Found) (c : Command) (time : Float) → Kind t (turnedAt t f c time)
-unfolding turnedAt
-turned-at-kind t Nowhere c time = refuses UnknownChannel
-turned-at-kind t (At i) c time = turned-kind t i (movedBy c time (channelAt t i .osc))
+  turned-at-kind : (f : Found) → found t (named c) ≡ f → (time : Float) → Kind t bins c (turnedAt t f c time)
+  unfolding turnedAt
+  turned-at-kind Nowhere e time = refuses UnknownChannel
+  turned-at-kind (At i) e time = turned-kind i (movedBy c time (channelAt t i .osc)) e
 
-swapped-to-kind : (t : Tables) (i j : ℕ) (s : Swapped) → Kind t (swappedTo t i j s)
-swapped-to-kind t i j s =
-    let between = withOsc t i (s .one) in
-    let after = withOsc between j (s .two) in
-    let same = alike-then t between after (alike-osc t i (s .one)) (alike-osc between j (s .two)) in
-    one-of t (s .refused) (stops t NotFinite) (goesOn after) (λ _. refuses NotFinite) (λ _. goes after same)
+  module _ (swap : isSwap c ≡ true) where
+    swapped-to-kind : (i j : ℕ) (s : Swapped) → Kind t bins c (swappedTo t i j s)
+    swapped-to-kind i j s =
+        one-of (s .refused) (stops t NotFinite) (goesOn (withOsc (withOsc t i (s .one)) j (s .two))) (λ _. refuses NotFinite) (λ _. swaps i j (s .one) (s .two) swap)
 
-swapped-at-kind : (t : Tables) (f g : Found) (time : Float) → Kind t (swappedAt t f g time)
-unfolding swappedAt
-swapped-at-kind t Nowhere g time = refuses UnknownChannel
-swapped-at-kind t (At i) Nowhere time = refuses UnknownChannel
-swapped-at-kind t (At i) (At j) time = swapped-to-kind t i j (swappedPhases (channelAt t i .osc) (channelAt t j .osc) time)
+    swapped-at-kind : (f g : Found) (time : Float) → Kind t bins c (swappedAt t f g time)
+    unfolding swappedAt
+    swapped-at-kind Nowhere g time = refuses UnknownChannel
+    swapped-at-kind (At i) Nowhere time = refuses UnknownChannel
+    swapped-at-kind (At i) (At j) time = swapped-to-kind i j (swappedPhases (channelAt t i .osc) (channelAt t j .osc) time)
 
-swapped-kind : (t : Tables) (n m : Name) (time : Float) → Kind t (swappedBetween t n m time)
-swapped-kind t n m time =
-    let s = swappedAt t (found t n) (found t m) time in
-    one-of t (sameName n m) (goesOn t) s (λ _. goes t (alike t)) (λ _. swapped-at-kind t (found t n) (found t m) time)
+    swapped-kind : (n m : Name) (time : Float) → Kind t bins c (swappedBetween t n m time)
+    swapped-kind n m time =
+        let s = swappedAt t (found t n) (found t m) time in
+        one-of (sameName n m) (goesOn t) s (λ _. goes) (λ _. swapped-at-kind (found t n) (found t m) time)
+
+  module _ (start : Float) (known : finite start ≡ true) where
+    module _ (i : ℕ) (there : found t (named c) ≡ At i) (row : List Float) where
+      abbrev place : ℕ
+      place = placeOf row (rowsOf t bins i)
+
+      few-rows : length (rowsOf t bins i) ≤ channelAt t i .bins
+      few-rows = rw (length-take (channelAt t i .bins) (take 64 (drop (64 * i) bins))) (omega arith)
+
+      stored-kind : (w : Weight) → Kind t bins c (storedAt t bins i start w row)
+      stored-kind w =
+          let new = isNew t bins i place in
+          one-of (isFull t bins i place) (stops t Full) (stores t i place new start w row)
+          (λ _. refuses Full)
+          (λ e.
+          let room = not-full new (channelAt t i .bins) (channelAt t i .pulses) e in
+          let within = place-first row (rowsOf t bins i) .within in
+          let few = few-rows in
+          puts i place new start w row there known (omega arith) (λ old. let under = leb-false (length (rowsOf t bins i)) place old in omega arith) (room .0) (leb-true (length (rowsOf t bins i)) place) (room .1))
+
+      stored-with-kind : (w : Weighed) → Kind t bins c (storedWith t bins i start w row)
+      unfolding storedWith
+      stored-with-kind Overflow = refuses NotFinite
+      stored-with-kind (Fine w) = stored-kind w
+
+    module _ (span : Float) (p : Play) (is : named c ≡ p .channel) where
+      pushed-kind : (i : ℕ) → found t (p .channel) ≡ At i → Kind t bins c (pushed t bins i start p (binFor t i p span))
+      pushed-kind i there =
+          let b = binFor t i p span in
+          let w = weighedOf (p .amplitude .0) (p .phase .0) (p .drag) in
+          let storing = storedWith t bins i start w (rowOf b) in
+          let quiet = negligible (p .amplitude .0) (t .amp .0) in
+          one-of (finite (b .global .0) && finite (b .envelope .plateau .0)) (cond quiet (goesOn t) storing) (stops t NotFinite)
+          (λ _. one-of quiet (goesOn t) storing (λ _. goes) (λ _. stored-with-kind i (ap (found t) is ∙ there) (rowOf b) w))
+          (λ _. refuses NotFinite)
+
+      played-at-kind : (f : Found) → found t (p .channel) ≡ f → Kind t bins c (playedAt t bins f start span p)
+      unfolding playedAt
+      played-at-kind Nowhere e = refuses UnknownChannel
+      played-at-kind (At i) e = pushed-kind i e
+
+      played-kind : Kind t bins c (played t bins start span p)
+      played-kind =
+          let f = found t (p .channel) in
+          let placed = playedAt t bins f start span p in
+          let low = lt (plateauOf p span) nought in
+          one-of (p .shaped && not (isIn (p .shape) (shapesIn t))) (stops t UnknownShape) (cond low (stops t NegativePlateau) placed)
+          (λ _. refuses UnknownShape)
+          (λ _. one-of low (stops t NegativePlateau) placed (λ _. refuses NegativePlateau) (λ _. played-at-kind f refl))
 
 module _ (t : Tables) (bins : List (List Float)) where
-  module _ (n : Name) (i : ℕ) (there : found t n ≡ At i) (start : Float) (known : finite start ≡ true) (row : List Float) where
-    abbrev place : ℕ
-    place = placeOf row (rowsOf t bins i)
-
-    few-rows : length (rowsOf t bins i) ≤ channelAt t i .bins
-    few-rows = rw (length-take (channelAt t i .bins) (take 64 (drop (64 * i) bins))) (omega arith)
-
-    stored-kind : (w : Weight) → Kind t (storedAt t bins i start w row)
-    stored-kind w =
-        let new = isNew t bins i place in
-        one-of t (isFull t bins i place) (stops t Full) (stores t i place new start w row)
-        (λ _. refuses Full)
-        (λ e.
-        let room = not-full new (channelAt t i .bins) (channelAt t i .pulses) e in
-        let within = place-first row (rowsOf t bins i) .within in
-        let few = few-rows in
-        puts n i place new start w row there known (omega arith) (λ old. let under = leb-false (length (rowsOf t bins i)) place old in omega arith) (room .0) (room .1))
-
-    stored-with-kind : (w : Weighed) → Kind t (storedWith t bins i start w row)
-    unfolding storedWith
-    stored-with-kind Overflow = refuses NotFinite
-    stored-with-kind (Fine w) = stored-kind w
-
-  module _ (start : Float) (known : finite start ≡ true) (span : Float) where
-    pushed-kind : (p : Play) (i : ℕ) → found t (p .channel) ≡ At i → Kind t (pushed t bins i start p (binFor t i p span))
-    pushed-kind p i there =
-        let b = binFor t i p span in
-        let w = weighedOf (p .amplitude .0) (p .phase .0) (p .drag) in
-        let storing = storedWith t bins i start w (rowOf b) in
-        let quiet = negligible (p .amplitude .0) (t .amp .0) in
-        one-of t (finite (b .global .0) && finite (b .envelope .plateau .0)) (cond quiet (goesOn t) storing) (stops t NotFinite)
-        (λ _. one-of t quiet (goesOn t) storing (λ _. goes t (alike t)) (λ _. stored-with-kind (p .channel) i there start known (rowOf b) w))
-        (λ _. refuses NotFinite)
-
-    played-at-kind : (p : Play) (f : Found) → found t (p .channel) ≡ f → Kind t (playedAt t bins f start span p)
-    unfolding playedAt
-    played-at-kind p Nowhere e = refuses UnknownChannel
-    played-at-kind p (At i) e = pushed-kind p i e
-
-    played-kind : (p : Play) → Kind t (played t bins start span p)
-    played-kind p =
-        let f = found t (p .channel) in
-        let placed = playedAt t bins f start span p in
-        let low = lt (plateauOf p span) nought in
-        one-of t (p .shaped && not (isIn (p .shape) (shapesIn t))) (stops t UnknownShape) (cond low (stops t NegativePlateau) placed)
-        (λ _. refuses UnknownShape)
-        (λ _. one-of t low (stops t NegativePlateau) placed (λ _. refuses NegativePlateau) (λ _. played-at-kind p f refl))
-
-    acted-kind : (c : Command) → Kind t (acted t bins start span c)
-    unfolding acted
-    acted-kind (C.Play p) = played-kind p
-    acted-kind (C.ShiftPhase n x) = turned-at-kind t (found t n) (C.ShiftPhase n x) start
-    acted-kind (C.SetPhase n x) = turned-at-kind t (found t n) (C.SetPhase n x) start
-    acted-kind (C.ShiftFreq n x) = turned-at-kind t (found t n) (C.ShiftFreq n x) start
-    acted-kind (C.SetFreq n x) = turned-at-kind t (found t n) (C.SetFreq n x) start
-    acted-kind (C.SwapPhase n m) = swapped-kind t n m start
-    acted-kind C.Barrier = goes t (alike t)
+  acted-kind : (start : Float) → finite start ≡ true → (span : Float) (c : Command) → Kind t bins c (acted t bins start span c)
+  unfolding acted isSwap
+  acted-kind start known span (C.Play p) = played-kind t bins (C.Play p) start known span p refl
+  acted-kind start known span (C.ShiftPhase n x) = turned-at-kind t bins (C.ShiftPhase n x) (found t n) refl start
+  acted-kind start known span (C.SetPhase n x) = turned-at-kind t bins (C.SetPhase n x) (found t n) refl start
+  acted-kind start known span (C.ShiftFreq n x) = turned-at-kind t bins (C.ShiftFreq n x) (found t n) refl start
+  acted-kind start known span (C.SetFreq n x) = turned-at-kind t bins (C.SetFreq n x) (found t n) refl start
+  acted-kind start known span (C.SwapPhase n m) = swapped-kind t bins (C.SwapPhase n m) refl n m start
+  acted-kind start known span C.Barrier = goes
 
   and-left : (x y : Bool) → (x && y) ≡ true → x ≡ true
   and-left true y e = refl
@@ -191,11 +153,11 @@ module _ (t : Tables) (bins : List (List Float)) where
   start-known : (a : Arranged) → wellFormed a ≡ true → finite (a .start .0) ≡ true
   start-known a e = and-left (finite (a .start .0)) (finite (a .span .0)) (and-left (finite (a .start .0) && finite (a .span .0)) (good (a .command)) e)
 
-  pub step-kind : (a : Arranged) → Kind t (stepOf t bins a)
+  pub step-kind : (a : Arranged) → Kind t bins (a .command) (stepOf t bins a)
   step-kind a =
       let s = acted t bins (a .start .0) (a .span .0) (a .command) in
-      one-of t (wellFormed a) (cond (tooLong t a) (stops t Oversize) s) (stops t Malformed)
-      (λ e. one-of t (tooLong t a) (stops t Oversize) s (λ _. refuses Oversize) (λ _. acted-kind (a .start .0) (start-known a e) (a .span .0) (a .command)))
+      one-of t bins (a .command) (wellFormed a) (cond (tooLong t a) (stops t Oversize) s) (stops t Malformed)
+      (λ e. one-of t bins (a .command) (tooLong t a) (stops t Oversize) s (λ _. refuses Oversize) (λ _. acted-kind (a .start .0) (start-known a e) (a .span .0) (a .command)))
       (λ _. refuses Malformed)
 
 -- ---- what follows
@@ -206,25 +168,29 @@ pub record Leaves (t : Tables) (s : Step) : Type 0 where
   pub bins : (bins : List (List Float)) → binsAfter s bins ≡ bins
   pub pulses : (pulses : List Pulse) → pulsesAfter s pulses ≡ pulses
 
-leaves : (t : Tables) (s : Step) → Kind t s → s .stop ≡ true → Leaves t s
-leaves t _ (refuses r) e = record { tables = refl; bins = λ _. refl; pulses = λ _. refl }
-leaves t _ (goes u same) e = absurd (true≢false (sym e))
-leaves t _ (puts n i place new start w row there known most old room pulses) e = absurd (true≢false (sym e))
+leaves : (t : Tables) (bins : List (List Float)) (c : Command) (s : Step) → Kind t bins c s → s .stop ≡ true → Leaves t s
+leaves t bins c _ (refuses r) e = record { tables = refl; bins = λ _. refl; pulses = λ _. refl }
+leaves t bins c _ goes e = absurd (true≢false (sym e))
+leaves t bins c _ (turns i o there) e = absurd (true≢false (sym e))
+leaves t bins c _ (swaps i j o q swap) e = absurd (true≢false (sym e))
+leaves t bins c _ (puts i place new start w row there known most old room last pulses) e = absurd (true≢false (sym e))
 
 pub refused-leaves : (t : Tables) (bins : List (List Float)) (a : Arranged) → stepOf t bins a .stop ≡ true → Leaves t (stepOf t bins a)
-refused-leaves t bins a = leaves t (stepOf t bins a) (step-kind t bins a)
+refused-leaves t bins a = leaves t bins (a .command) (stepOf t bins a) (step-kind t bins a)
 
 -- where the channels have their eight places, what a step writes lies within 512 rows and 8,192 records
 pub record Within (s : Step) : Type 0 where
   pub row : s .opens ≡ true → s .at < 512
   pub pulse : s .put ≡ true → s .from + s .count < 8192
 
-kept-within : (t : Tables) (s : Step) → length (t .channels) ≡ 8 → Kind t s → Within s
-kept-within t _ eight (refuses r) = record { row = λ e. absurd (true≢false (sym e)); pulse = λ e. absurd (true≢false (sym e)) }
-kept-within t _ eight (goes u same) = record { row = λ e. absurd (true≢false (sym e)); pulse = λ e. absurd (true≢false (sym e)) }
-kept-within t _ eight (puts n i place new start w row there known most old room pulses) =
-    let h = found-eight t n i eight there in
+kept-within : (t : Tables) (bins : List (List Float)) (c : Command) (s : Step) → length (t .channels) ≡ 8 → Kind t bins c s → Within s
+kept-within t bins c _ eight (refuses r) = record { row = λ e. absurd (true≢false (sym e)); pulse = λ e. absurd (true≢false (sym e)) }
+kept-within t bins c _ eight goes = record { row = λ e. absurd (true≢false (sym e)); pulse = λ e. absurd (true≢false (sym e)) }
+kept-within t bins c _ eight (turns i o there) = record { row = λ e. absurd (true≢false (sym e)); pulse = λ e. absurd (true≢false (sym e)) }
+kept-within t bins c _ eight (swaps i j o q swap) = record { row = λ e. absurd (true≢false (sym e)); pulse = λ e. absurd (true≢false (sym e)) }
+kept-within t bins c _ eight (puts i place new start w row there known most old room last pulses) =
+    let h = found-eight t (named c) i eight there in
     record { row = λ e. let below = room e in omega arith; pulse = λ _. omega arith }
 
 pub step-within : (t : Tables) (bins : List (List Float)) → length (t .channels) ≡ 8 → (a : Arranged) → Within (stepOf t bins a)
-step-within t bins eight a = kept-within t (stepOf t bins a) eight (step-kind t bins a)
+step-within t bins eight a = kept-within t bins (a .command) (stepOf t bins a) eight (step-kind t bins a)

@@ -31,8 +31,8 @@ use Rattle.commands.specs.declared.command.Command.the-variants as C
 use Rattle.commands.specs.declared.command.Arranged.{Arranged}
 use Rattle.commands.specs.declared.step.Step.{Step}
 use Rattle.commands.specs.Command.{wellFormed, tooLong}
-use Rattle.commands.specs.Step.{stops, goesOn, withOsc, turned, movedBy, turnedAt, swappedTo, swappedAt, swappedBetween}
-use Rattle.commands.specs.Play.{rowsOf, isNew, isFull, stores, storedAt, storedWith, plateauOf, binFor, pushed, playedAt, played}
+use Rattle.commands.specs.Step.{stops, goesOn, withOsc, movedBy, turnedAt, swappedTo, swappedAt, swappedBetween}
+use Rattle.commands.specs.Play.{rowsOf, isNew, isFull, stores, storedAt, storedWith, plateauOf, binFor, playedAt}
 use Rattle.commands.specs.Run.{acted, stepOf}
 
 -- the row and the place of the bin of a play

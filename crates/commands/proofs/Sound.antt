@@ -9,8 +9,8 @@ use lib.Dec.{eqb, ltb}
 use borrow.Author.Tests.{eqb-true, eqb-false, ltb-true}
 use lib.Ieee.{Float, isNan, nan, inf, fin}
 use lib.Ieee.Scale.{finite}
-use lib.ListN.{length, take, drop, getD, set, length-set, length-take}
-use lib.Seq.{getD-set-same, getD-set-other}
+use lib.ListN.{length, getD, set, length-set, length-take, List·getD-map}
+use lib.Seq.{getD-set-same, getD-set-other, map-set-same}
 use Rattle.quant.specs.declared.name.Name.{Name}
 use Rattle.quant.specs.declared.refusal.Refusal.the-variants.{Unfit, Malformed, Full, WrongSize}
 use Rattle.quant.specs.Name.{isName}
@@ -18,7 +18,7 @@ use Rattle.quant.specs.Settings.{isTolerance}
 use Rattle.executor.specs.declared.osc.OscState.{OscState}
 use Rattle.pulse.specs.declared.list.Pulse.{Pulse}
 use Rattle.pulse.specs.declared.weight.Weight.{Weight}
-use Rattle.pulse.specs.List.{placed, stored}
+use Rattle.pulse.specs.List.{stored}
 use Rattle.pulse.specs.Sorted.{sorted, timed}
 use Rattle.pulse.proofs.Stored.{stored-list, stored-sorted, stored-timed, stored-length}
 use Rattle.tables.specs.declared.Channel.{Channel}
@@ -27,15 +27,17 @@ use Rattle.tables.specs.declared.Found.{Found}
 use Rattle.tables.specs.declared.Found.the-variants.{At, Nowhere}
 use Rattle.tables.specs.Tables.{found, isIn, shapesIn, done, refused, noChannel, channelAt, fresh, finiteOsc, withChannels, withChannel, settled, withAdded, withShape, settledShape, withAddedShape, channelsIn, nought, empty, made}
 use Rattle.tables.proofs.Finding.{found-eight, found-under}
+use Rattle.commands.specs.declared.command.Command.{Command}
 use Rattle.commands.specs.declared.command.Arranged.{Arranged}
 use Rattle.commands.specs.declared.step.Step.{Step}
-use Rattle.commands.specs.Step.{binsAfter, pulsesAfter}
+use Rattle.commands.specs.Step.{binsAfter, pulsesAfter, withOsc}
 use Rattle.commands.specs.Play.{grown, pulseAt, stores}
 use Rattle.commands.specs.Run.{Ran, ranTo, refusedAt, stepOf, ran, sizesFit, executed}
 use Rattle.commands.specs.Sound.{listOf, binned, Stands, Sound, Reached, start, channel, shape, call}
-use Rattle.commands.proofs.Cases.{Alike, Kind, refuses, goes, puts, step-kind}
+use Rattle.commands.specs.Apart.{named}
+use Rattle.commands.proofs.Cases.{Kind, refuses, goes, turns, swaps, puts, step-kind}
 use Rattle.commands.proofs.Zones.{zone-stays, binned-more, binned-placed}
-use Rattle.commands.proofs.Calls.{bins-size, pulses-size}
+use Rattle.commands.proofs.Calls.{bins-size}
 
 -- ---- a channel with the counts of another
 
@@ -55,6 +57,46 @@ stands-fresh : (u : Tables) (pulses : List Pulse) (i : ℕ) → channelAt u i .b
 unfolding sorted timed binned
 stands-fresh u pulses i b p =
     record { most-bins = rw b (omega arith); most-pulses = rw p (omega arith); in-order = rw p refl; in-time = rw p refl; in-bins = rw (b, p) refl }
+
+-- ---- an oscillator changed
+
+-- tables with the same channels, as far as their lists go
+record Alike (t u : Tables) : Type 0 where
+  count : u .count ≡ t .count
+  places : length (u .channels) ≡ length (t .channels)
+  bins : (i : ℕ) → channelAt u i .bins ≡ channelAt t i .bins
+  pulses : (i : ℕ) → channelAt u i .pulses ≡ channelAt t i .pulses
+
+-- a field that a new channel has in common with the one whose place it takes
+pub same-field : {A : Type 0} (f : Channel → A) (l : List Channel) (i : ℕ) (c : Channel) → f c ≡ f (getD l i noChannel) → (j : ℕ)
+    → f (getD (set l i c) j noChannel) ≡ f (getD l j noChannel)
+same-field {A} f l i c e j =
+    sym (List·getD-map f (set l i c) j noChannel)
+    ∙ ap (λ (m : List A). getD m j (f noChannel)) (map-set-same f l i c noChannel e)
+    ∙ List·getD-map f l j noChannel
+
+alike-osc : (t : Tables) (i : ℕ) (o : OscState) → Alike t (withOsc t i o)
+alike-osc t i o =
+    let c : Channel = record { name = channelAt t i .name; osc = o; bins = channelAt t i .bins; pulses = channelAt t i .pulses } in
+    record {
+      count = refl;
+      places = length-set (t .channels) i c;
+      bins = same-field (λ (x : Channel). x .bins) (t .channels) i c refl;
+      pulses = same-field (λ (x : Channel). x .pulses) (t .channels) i c refl;
+    }
+
+alike-sound : (t u : Tables) (bins : List (List Float)) (pulses : List Pulse) → Sound t bins pulses → Alike t u → Sound u bins pulses
+alike-sound t u bins pulses h same =
+    record {
+      eight = same .places ∙ h .eight;
+      rows = h .rows;
+      records = h .records;
+      few = rw (same .count) (h .few);
+      each = λ j below. stands-alike t u pulses j (same .bins j) (same .pulses j) (h .each j (rw (same .count) at below));
+    }
+
+osc-sound : (t : Tables) (bins : List (List Float)) (pulses : List Pulse) → Sound t bins pulses → (i : ℕ) (o : OscState) → Sound (withOsc t i o) bins pulses
+osc-sound t bins pulses h i o = alike-sound t (withOsc t i o) bins pulses h (alike-osc t i o)
 
 -- ---- one place set
 
@@ -235,22 +277,17 @@ module _ (t : Tables) (bins : List (List Float)) (pulses : List Pulse) (h : Soun
           each = λ j below. either (Stands after records j) j i (λ e. rw e stands-here) (λ apart. stands-there j below apart);
         }
 
-  kind-sound : (s : Step) → Kind t s → Sound (s .tables) (binsAfter s bins) (pulsesAfter s pulses)
-  kind-sound _ (refuses r) = h
-  kind-sound _ (goes u same) =
-      record {
-        eight = same .places ∙ h .eight;
-        rows = h .rows;
-        records = h .records;
-        few = rw (same .count) (h .few);
-        each = λ j below. stands-alike t u pulses j (same .bins j) (same .pulses j) (h .each j (rw (same .count) at below));
-      }
-  kind-sound _ (puts n i place new time w row there known most old room few) =
+  kind-sound : (c : Command) (s : Step) → Kind t bins c s → Sound (s .tables) (binsAfter s bins) (pulsesAfter s pulses)
+  kind-sound c _ (refuses r) = h
+  kind-sound c _ goes = h
+  kind-sound c _ (turns i o there) = osc-sound t bins pulses h i o
+  kind-sound c _ (swaps i j o q swap) = osc-sound (withOsc t i o) bins pulses (osc-sound t bins pulses h i o) j q
+  kind-sound c _ (puts i place new time w row there known most old room last few) =
       let s = stores t i place new time w row in
-      stored-sound n i place new time w row there known most old room few (binsAfter s bins) (bins-size s bins ∙ h .rows)
+      stored-sound (named c) i place new time w row there known most old room few (binsAfter s bins) (bins-size s bins ∙ h .rows)
 
-  step-sound : (a : Arranged) → let s = stepOf t bins a in Sound (s .tables) (binsAfter s bins) (pulsesAfter s pulses)
-  step-sound a = kind-sound (stepOf t bins a) (step-kind t bins a)
+  pub step-sound : (a : Arranged) → let s = stepOf t bins a in Sound (s .tables) (binsAfter s bins) (pulsesAfter s pulses)
+  step-sound a = kind-sound (a .command) (stepOf t bins a) (step-kind t bins a)
 
 -- ---- a call
 

@@ -8,7 +8,7 @@ use mathlib.Core.Bool.{Bool, true, false, _&&_, cond}
 use mathlib.Core.List.{List, [], _∷_}
 use lib.Dec.{ltb}
 use borrow.Author.Tests.{ltb-true, ltb-false, lt-ltb}
-use lib.ListN.{length, take, drop}
+use lib.ListN.{take, drop}
 use lib.Seq.{take-nil, take-take, drop-drop}
 use Rattle.pulse.specs.declared.list.Pulse.{Pulse}
 use Rattle.pulse.specs.List.{anyBefore, placed, stored}
@@ -24,14 +24,14 @@ module _ {A : Type 0} where
   part-of-front (suc m) n (x ∷ xs) = part-of-front m n xs ∙ ap (λ (k : ℕ). drop (suc m) (take k (x ∷ xs))) (sym (suc-add m n))
 
   -- it lies before what differs
-  part-before : (k m n : ℕ) (a b : List A) → m + n ≤ k → take k a ≡ take k b → take n (drop m a) ≡ take n (drop m b)
+  pub part-before : (k m n : ℕ) (a b : List A) → m + n ≤ k → take k a ≡ take k b → take n (drop m a) ≡ take n (drop m b)
   part-before k m n a b h e =
       part-of-front m n a
       ∙ ap (drop m) (sym (take-take (m + n) k a h) ∙ ap (take (m + n)) e ∙ take-take (m + n) k b h)
       ∙ sym (part-of-front m n b)
 
   -- it lies behind what differs
-  part-behind : (k m n : ℕ) (a b : List A) → k ≤ m → drop k a ≡ drop k b → take n (drop m a) ≡ take n (drop m b)
+  pub part-behind : (k m n : ℕ) (a b : List A) → k ≤ m → drop k a ≡ drop k b → take n (drop m a) ≡ take n (drop m b)
   part-behind k m n a b h e =
       let up : k + (m - k) ≡ m = omega arith in
       let at : (l : List A) → drop m l ≡ drop (m - k) (drop k l) = λ l. ap (λ (j : ℕ). drop j l) (sym up) ∙ sym (drop-drop (m - k) k l) in

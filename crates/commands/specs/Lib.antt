@@ -4,3 +4,4 @@ pub mod Play
 pub mod Run
 pub mod Words
 pub mod Sound
+pub mod Apart
