@@ -2,12 +2,45 @@
 // `execute` takes slices of structs and is proved by hand; all else is covered.
 ghost use mathlib.Core.Path.{_≡_};
 ghost use Rattle.quant.specs.declared.refusal.Refusal.the-variants.{WrongSize};
-ghost use Rattle.commands.specs.Run.{sizesFit, doneAt, refusedAt};
+ghost use Rattle.commands.specs.Run.{ranTo, executed, sizesFit, doneAt, refusedAt};
+use super::command::Arranged;
+use super::run::act;
+use pulse::list::Pulse;
+use pulse::list::store;
 use quant::judge::both;
 use quant::refusal::Answer;
 use quant::refusal::Refusal;
 use tables::Tabled;
 use tables::Tables;
+
+// Bins are 64 rows a channel and pulses 1,024 records a channel; other sizes, or over 1,024 commands, are refusal 13.
+pub fn execute(
+    t: Tables,
+    commands: &[Arranged],
+    bins: &mut [[f64; 5]],
+    pulses: &mut [Pulse],
+) -> Tabled
+    ensures { λ r. ⌜ ranTo r (now (bins .exit)) (now (pulses .exit)) ≡ executed t (now (commands .entry)) (now (bins .entry)) (now (pulses .entry)) ⌝ }
+{
+    if !sizes_fit(commands.len(), bins.len(), pulses.len()) {
+        return misfit(t);
+    }
+    let mut u = t;
+    let mut k: usize = 0;
+    while k < commands.len() {
+        let c = commands[k];
+        let s = act(u, bins, c);
+        if s.stop {
+            return refused(u, s.why, k);
+        }
+        if s.put {
+            store(pulses, s.from, s.count, s.pulse);
+        }
+        u = s.tables;
+        k += 1;
+    }
+    done(u, k)
+}
 
 fn sizes_fit(commands: usize, bins: usize, pulses: usize) -> bool
     ensures { λ r. ⌜ r ≡ sizesFit commands bins pulses ⌝ }
