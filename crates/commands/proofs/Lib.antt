@@ -1,2 +1,4 @@
 pub mod Rows
-pub mod Within
+pub mod Cases
+pub mod Calls
+pub mod Full

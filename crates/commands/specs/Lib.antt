@@ -2,3 +2,4 @@ pub mod Command
 pub mod Step
 pub mod Play
 pub mod Run
+pub mod Words

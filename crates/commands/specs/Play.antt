@@ -8,6 +8,7 @@ use lib.Ieee.{Float, binary64, sub, lt}
 use lib.Ieee.Scale.{finite}
 use lib.ListN.{length, take, drop}
 use Rattle.quant.specs.declared.refusal.Refusal.the-variants.{Unfit, Full, UnknownShape, NegativePlateau, UnknownChannel, NotFinite}
+use Rattle.executor.specs.declared.osc.OscState.{OscState}
 use Rattle.executor.specs.Osc.{totalOf}
 use Rattle.pulse.specs.declared.bin.Bin.{Bin}
 use Rattle.pulse.specs.declared.envelope.Envelope.{Envelope}
@@ -82,8 +83,11 @@ abbrev pub envelopeFor : Play → Float → Envelope
 envelopeFor p span = envelopeOf (cond (p .shaped) Hann Plain) (p .width .0) (plateauOf p span)
 
 -- "The pulse gets total as global frequency, the play's own frequency and phase. The oscillator's phase is not added."
+abbrev pub binWith : OscState → Play → Float → Bin
+binWith o p span = record { envelope = envelopeFor p span; global = record { 0 = totalOf o }; local = p .frequency }
+
 abbrev pub binFor : Tables → ℕ → Play → Float → Bin
-binFor t i p span = record { envelope = envelopeFor p span; global = record { 0 = totalOf (channelAt t i .osc) }; local = p .frequency }
+binFor t i p span = binWith (channelAt t i .osc) p span
 
 -- 8 of every play, then those that store nothing
 abbrev pub pushed : Tables → List (List Float) → ℕ → Float → Play → Bin → Step

@@ -1,7 +1,7 @@
 -- What one command comes to: it stops the run, or it goes on with other tables, with or without a pulse to store. Document 01,
 -- "Oscillators": what each command does to its channel. Definitions only.
 use Prim.Native.Nat.{ℕ}
-use mathlib.Core.Bool.{true, false, cond}
+use mathlib.Core.Bool.{Bool, true, false, cond}
 use mathlib.Core.List.{List}
 use lib.Ieee.{Float}
 use lib.ListN.{replicate, set}
@@ -53,9 +53,12 @@ pulsesAfter s pulses = cond (s .put) (stored (s .from) (s .count) (s .pulse) pul
 abbrev pub withOsc : Tables → ℕ → OscState → Tables
 withOsc t i o = withChannel t i (record { name = channelAt t i .name; osc = o; bins = channelAt t i .bins; pulses = channelAt t i .pulses })
 
--- 8 where a number worked out is not finite
+-- 8 where a number worked out is not finite; else other tables
+abbrev pub unlessRefused : Bool → Tables → Tables → Step
+unlessRefused refused t after = cond refused (stops t NotFinite) (goesOn after)
+
 abbrev pub turned : Tables → ℕ → Moved → Step
-turned t i m = cond (m .refused) (stops t NotFinite) (goesOn (withOsc t i (m .osc)))
+turned t i m = unlessRefused (m .refused) t (withOsc t i (m .osc))
 
 abbrev pub unmoved : OscState → Moved
 unmoved o = record { refused = false; osc = o }
@@ -78,7 +81,7 @@ turnedAt t (At i) c time = turned t i (movedBy c time (channelAt t i .osc))
 -- ---- two oscillators
 
 abbrev pub swappedTo : Tables → ℕ → ℕ → Swapped → Step
-swappedTo t i j s = cond (s .refused) (stops t NotFinite) (goesOn (withOsc (withOsc t i (s .one)) j (s .two)))
+swappedTo t i j s = unlessRefused (s .refused) t (withOsc (withOsc t i (s .one)) j (s .two))
 
 -- "One missing: 7"
 unfoldable pub swappedAt : Tables → Found → Found → Float → Step

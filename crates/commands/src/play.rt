@@ -6,11 +6,13 @@ ghost use lib.Dec.{leb, ltb};
 ghost use lib.ListN.{length};
 ghost use Rattle.tables.specs.Tables.{channelAt};
 ghost use Rattle.pulse.specs.Envelope.{nought};
-ghost use Rattle.commands.specs.Play.{rowsOf, isNew, isFull, grown, pulseAt, stores, storedAt, storedWith, plateauOf, envelopeFor, binFor, pushed, playedAt, played};
+ghost use Rattle.commands.specs.Play.{rowsOf, isNew, isFull, grown, pulseAt, stores, storedAt, storedWith, plateauOf, envelopeFor, binWith, pushed, playedAt, played};
 use super::command::Play;
 use super::step::Step;
 use super::step::goes_on;
+use super::step::osc_at;
 use super::step::stops;
+use executor::osc::OscState;
 use ieee::finite::is_finite;
 use pulse::bin::Bin;
 use pulse::bin::place;
@@ -47,15 +49,25 @@ pub(crate) fn play(t: Tables, bins: &[[f64; 5]], start: Time, span: Time, p: Pla
     }
     let channel = p.channel;
     match find(t, channel) {
-        Found::At(i) => push(t, bins, i, start, p, bin_for(t, i, p, span)),
+        Found::At(i) => push(t, bins, i, start, span, p, osc_at(t, i)),
         Found::Nowhere => stops(t, Refusal::UnknownChannel),
     }
 }
 
-fn push(t: Tables, bins: &[[f64; 5]], i: usize, start: Time, p: Play, b: Bin) -> Step
+// The pulse gets the oscillator's frequency, and the play's own phase.
+fn push(
+    t: Tables,
+    bins: &[[f64; 5]],
+    i: usize,
+    start: Time,
+    span: Time,
+    p: Play,
+    osc: OscState,
+) -> Step
     requires { ⌜ (i < 8) × (length (now bins) ≡ 512) ⌝ }
-    ensures { λ r. ⌜ r ≡ pushed t (now (bins .entry)) i (start .0) p b ⌝ }
+    ensures { λ r. ⌜ r ≡ pushed t (now (bins .entry)) i (start .0) p (binWith osc p (span .0)) ⌝ }
 {
+    let b = bin_with(osc, p, span);
     let e = b.envelope;
     if !both(is_finite(b.global.0), is_finite(e.plateau.0)) {
         return stops(t, Refusal::NotFinite);
@@ -146,12 +158,9 @@ fn grown(c: Channel, new: bool) -> Channel
     d
 }
 
-fn bin_for(t: Tables, i: usize, p: Play, span: Time) -> Bin
-    requires { ⌜ i < 8 ⌝ }
-    ensures { λ r. ⌜ r ≡ binFor t i p (span .0) ⌝ }
+fn bin_with(osc: OscState, p: Play, span: Time) -> Bin
+    ensures { λ r. ⌜ r ≡ binWith osc p (span .0) ⌝ }
 {
-    let c = t.channels[i];
-    let osc = c.osc;
     let envelope = envelope_for(p, span);
     let global = osc.total_freq();
     let local = p.frequency;

@@ -2,7 +2,7 @@
 ghost use mathlib.Core.Path.{_≡_};
 ghost use Prim.Native.Nat.{_<_};
 ghost use Rattle.tables.specs.Tables.{found, channelAt};
-ghost use Rattle.commands.specs.Step.{noPulse, stops, goesOn, withOsc, turned, unmoved, movedBy, turnedAt, swappedTo, swappedAt, swappedBetween};
+ghost use Rattle.commands.specs.Step.{noPulse, stops, goesOn, unlessRefused, withOsc, turned, unmoved, movedBy, turnedAt, swappedTo, swappedAt, swappedBetween};
 use super::command::Command;
 use executor::osc::Moved;
 use executor::osc::OscState;
@@ -101,23 +101,27 @@ fn turn_at(t: Tables, i: usize, m: Moved) -> Step
     requires { ⌜ i < 8 ⌝ }
     ensures { λ r. ⌜ r ≡ turned t i m ⌝ }
 {
-    if m.refused {
-        return stops(t, Refusal::NotFinite);
-    }
     let osc = m.osc;
-    goes_on(with_osc(t, i, osc))
+    unless_refused(m.refused, t, with_osc(t, i, osc))
 }
 
 fn swap_to(t: Tables, i: usize, j: usize, s: Swapped) -> Step
     requires { ⌜ (i < 8) × (j < 8) ⌝ }
     ensures { λ r. ⌜ r ≡ swappedTo t i j s ⌝ }
 {
-    if s.refused {
-        return stops(t, Refusal::NotFinite);
-    }
     let one = s.one;
     let two = s.two;
-    goes_on(with_osc(with_osc(t, i, one), j, two))
+    unless_refused(s.refused, t, with_osc(with_osc(t, i, one), j, two))
+}
+
+// The tables afterwards, or the tables that came and refusal 8.
+fn unless_refused(refused: bool, t: Tables, after: Tables) -> Step
+    ensures { λ r. ⌜ r ≡ unlessRefused refused t after ⌝ }
+{
+    if refused {
+        return stops(t, Refusal::NotFinite);
+    }
+    goes_on(after)
 }
 
 // What a command does to an oscillator at a time. Those that are no command to one oscillator leave it.
@@ -145,7 +149,7 @@ fn unmoved(osc: OscState) -> Moved
 }
 
 // The oscillator of the channel at a place.
-fn osc_at(t: Tables, i: usize) -> OscState
+pub(crate) fn osc_at(t: Tables, i: usize) -> OscState
     requires { ⌜ i < 8 ⌝ }
     ensures { λ r. ⌜ r ≡ channelAt t i .osc ⌝ }
 {

@@ -2,6 +2,7 @@
 pub mod Order
 pub mod Place
 pub mod Placed
+pub mod Records
 pub mod Rows
 pub mod Sorted
 pub mod Stored

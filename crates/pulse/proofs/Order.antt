@@ -1,8 +1,8 @@
 -- Of two numbers, one is at most the other: `le` is total where no NaN stands. So of two records with times, one stays before the other.
 -- Assumes nothing.
-use Prim.Native.Nat.{ℕ, _+_, _*_, _<_, _≤_}
+use Prim.Native.Nat.{ℕ, _+_, _*_, _≤_}
 use mathlib.Core.Path.{_≡_, refl, sym, _∙_}
-use mathlib.Core.Bool.{Bool, true, false, _&&_, _||_, not, true≢false, or-true, or-false, and-true, Bool·beq}
+use mathlib.Core.Bool.{Bool, true, false, _&&_, _||_, true≢false, and-true}
 use native.Mathlib.Omega.{arith}
 use borrow.Author.Tests.{ltb-false, eqb-false, eqb-true, lt-ltb, eq-eqb}
 use lib.Arith.{lt-of-le-ne}

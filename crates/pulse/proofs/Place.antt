@@ -45,8 +45,8 @@ place-first row (r ∷ rs) = by-row (sameRow r row) refl (place-first row rs) wh
     earlier (suc k) h = rest .before k (omega arith)
 
 -- a row that is the same is at the place or after it
-pub place-below : (row : List Float) (rows : List (List Float)) (k : ℕ) → k < length rows → sameRow (getD rows k []) row ≡ true → placeOf row rows ≤ k
-place-below row rows k h e = by-test (leb (placeOf row rows) k) refl where
+pub place-least : (row : List Float) (rows : List (List Float)) (k : ℕ) → k < length rows → sameRow (getD rows k []) row ≡ true → placeOf row rows ≤ k
+place-least row rows k h e = by-test (leb (placeOf row rows) k) refl where
   by-test : (b : Bool) → leb (placeOf row rows) k ≡ b → placeOf row rows ≤ k
   by-test true t = leb-true (placeOf row rows) k t
   by-test false t = absurd (true≢false (sym e ∙ place-first row rows .before k (leb-false (placeOf row rows) k t)))

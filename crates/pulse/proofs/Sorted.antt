@@ -1,12 +1,13 @@
 -- What `placed` does to a list. p parts the records that it finds into two runs, in their old order, and none of the second stays before
 -- it: so equal times stand in order of pushing. A sorted list stays sorted. By the records in turn. Assumes nothing.
-use Prim.Native.Nat.{ℕ, suc}
+use Prim.Native.Nat.{ℕ, zero, suc, _<_}
 use mathlib.Core.Path.{_≡_, refl, sym, ap, _∙_}
-use mathlib.Core.Bool.{Bool, true, false, _&&_, _||_, not, cond, or-false}
+use mathlib.Core.Bool.{Bool, true, false, not, cond, or-false}
 use mathlib.Core.List.{List, [], _∷_, _++_}
+use native.Mathlib.Omega.{arith}
 use borrow.Author.Tests.{not-true}
 use lib.Ieee.{isNan}
-use lib.ListN.{length}
+use lib.ListN.{length, getD}
 use Rattle.pulse.specs.declared.list.Pulse.{Pulse}
 use Rattle.pulse.specs.List.{staysBefore, anyBefore, placed}
 use Rattle.pulse.specs.Sorted.{sorted, timed}
@@ -28,6 +29,13 @@ parted p (q ∷ qs) = by-any (anyBefore (q ∷ qs) p) refl (parted p qs) where
   by-any : (b : Bool) → anyBefore (q ∷ qs) p ≡ b → Parted p qs → Parted p (q ∷ qs)
   by-any true e r = record { ys = q ∷ r .ys; zs = r .zs; found = ap (λ (l : List Pulse). q ∷ l) (r .found); left = rw e (ap (λ (l : List Pulse). q ∷ l) (r .left)); after = r .after }
   by-any false e r = record { ys = []; zs = q ∷ qs; found = refl; left = rw e; after = e }
+
+-- record by record
+pub none-stays : (p : Pulse) (zs : List Pulse) → anyBefore zs p ≡ false → (d : Pulse) (k : ℕ) → k < length zs → staysBefore (getD zs k d) p ≡ false
+unfolding anyBefore
+none-stays p [] e d k h = absurd (omega arith)
+none-stays p (z ∷ zs) e d zero h = none-left (staysBefore z p) (anyBefore zs p) e
+none-stays p (z ∷ zs) e d (suc k) h = none-stays p zs (none-right (staysBefore z p) (anyBefore zs p) e) d k (omega arith)
 
 pub length-placed : (p : Pulse) (xs : List Pulse) → length (placed p xs) ≡ suc (length xs)
 unfolding placed

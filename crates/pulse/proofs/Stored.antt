@@ -1,17 +1,19 @@
 -- What `stored` leaves: with room, the count's records and p among them; nothing before or after them, and no length, is touched. `among`
 -- joins three runs of known length, and each law cuts at a seam. Assumes nothing.
-use Prim.Native.Nat.{ℕ, suc, _+_, _<_, _≤_}
-use mathlib.Core.Path.{_≡_, refl, sym, ap, subst, _∙_}
+use Prim.Native.Nat.{ℕ, _+_, _<_, _≤_}
+use mathlib.Core.Path.{_≡_, refl, ap, _∙_}
 use mathlib.Core.Bool.{Bool, true, false}
 use mathlib.Core.List.{List, _++_}
 use native.Mathlib.Omega.{arith}
 use borrow.Author.Tests.{ltb-true, lt-ltb, le-ltb}
 use lib.Dec.{ltb}
+use lib.Ieee.{isNan}
 use lib.ListN.{length, take, drop, length-append, length-drop}
 use lib.Seq.{take-at, drop-at, drop-drop, length-take-le}
 use Rattle.pulse.specs.declared.list.Pulse.{Pulse}
 use Rattle.pulse.specs.List.{placed, among, stored}
-use Rattle.pulse.proofs.Sorted.{length-placed}
+use Rattle.pulse.specs.Sorted.{sorted, timed}
+use Rattle.pulse.proofs.Sorted.{length-placed, placed-sorted, placed-timed}
 
 module _ (from count : ℕ) (p : Pulse) (s : List Pulse) where
   pub stored-room : from + count < length s → stored from count p s ≡ among from count p s
@@ -55,6 +57,13 @@ module _ (from count : ℕ) (p : Pulse) (s : List Pulse) where
 
     pub stored-list : take (count + 1) (drop from (stored from count p s)) ≡ list
     stored-list = rw (stored-room h, at-list, take-at list back (count + 1) list-long)
+
+    pub stored-sorted : isNan (p .time .0) ≡ false → sorted (take count (drop from s)) ≡ true → timed (take count (drop from s)) ≡ true
+        → sorted (take (count + 1) (drop from (stored from count p s))) ≡ true
+    stored-sorted n e t = rw stored-list (placed-sorted p n (take count (drop from s)) e t)
+
+    pub stored-timed : isNan (p .time .0) ≡ false → timed (take count (drop from s)) ≡ true → timed (take (count + 1) (drop from (stored from count p s))) ≡ true
+    stored-timed n t = rw stored-list (placed-timed p n (take count (drop from s)) t)
 
   pub stored-front : take from (stored from count p s) ≡ front
   unfolding among

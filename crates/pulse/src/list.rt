@@ -1,10 +1,8 @@
 // The records of a channel, in a lent slice: by bin, then by time, equal times in order of pushing.
 // `store` takes a slice of records and is proved by hand; all else is covered.
 ghost use mathlib.Core.Path.{_≡_};
-ghost use mathlib.Core.Bool.{_&&_};
 ghost use Prim.Native.Nat.{_+_};
 ghost use lib.Dec.{ltb};
-ghost use lib.ListN.{length};
 ghost use Rattle.pulse.specs.List.{staysBefore, stored};
 use quant::complex::Complex;
 use quant::quantity::Time;

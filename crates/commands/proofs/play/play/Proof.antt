@@ -55,8 +55,8 @@ module _ (c : tie.After-known-told) where
       let a = s .args in
       found-eight (a .t) (a .p .channel) _ (eight-channels (a .t) _ (s .good .0)) (sym (c .before .before .before .find .ensures) ∙ c .before .i .given .1)
 
-bin-for-requires : tie.Need-bin-for-requires
-bin-for-requires c κs = there c
+osc-at-requires : tie.Need-osc-at-requires
+osc-at-requires c κs = there c
 
 push-requires : tie.Need-push-requires
 push-requires c κs = (there (c .before), c .before .before .before .before .before .before .before .before .before .before .before .before .before .pre)
@@ -72,7 +72,7 @@ unfolding playedAt
 returns-3 c =
     let a = c .before .before .before .before .before .before .before .before .before .before .before .before .before .before .args in
     let low : lt (plateauOf (a .p) (a .span .0)) nought ≡ false = rw (c .before .before .before .before .before .before .before .before .before .plateau-of .ensures) at (c .before .before .before .before .before .before .before .if2 .left) in
-    rw (c .push .ensures, c .before .bin-for .ensures, sym (flag (c .before .before .before .before .before .before .before .before .before .before .before)) ∙ c .before .before .before .before .before .before .before .before .before .before .if1 .left, low, sym (c .before .before .before .before .before .find .ensures) ∙ c .before .before .before .i .given .1)
+    rw (c .push .ensures, c .before .osc-at .ensures, sym (flag (c .before .before .before .before .before .before .before .before .before .before .before)) ∙ c .before .before .before .before .before .before .before .before .before .before .if1 .left, low, sym (c .before .before .before .before .before .find .ensures) ∙ c .before .before .before .i .given .1)
 
 returns-4 : tie.Need-returns-4
 unfolding playedAt
@@ -94,7 +94,7 @@ play-spec =
     returns-2
     find-requires
     enum-known-i
-    bin-for-requires
+    osc-at-requires
     push-requires
     enum-told
     stops-requires-3

@@ -1,12 +1,16 @@
 -- `commands::play::push` meets its contract. Assumes nothing.
 use borrow.Author.Needs.{needs}
-use Rattle.commands.specs.Play.{storedWith}
+use Rattle.pulse.specs.declared.bin.Bin.{Bin}
+use Rattle.commands.specs.Play.{storedWith, binWith}
 use Rattle.quant.proofs.Judging.{taken, passed}
 use lib.Ieee.Scale.{finite}
 use mathlib.Core.Bool.{_&&_}
 use mathlib.Core.Path.{_≡_, sym, _∙_}
 use Rattle.commands.proofs.play.push.Statement.{statement}
 use Rattle.commands.proofs.play.push.Tie as tie
+
+bin-with-requires : tie.Need-bin-with-requires
+bin-with-requires c κs = search needs
 
 is-finite-requires : tie.Need-is-finite-requires
 is-finite-requires c κs = search needs
@@ -18,8 +22,11 @@ both-requires : tie.Need-both-requires
 both-requires c κs = search needs
 
 module _ (d : tie.After-both) where
-  flag : d .both .result ≡ (finite (d .before .before .before .before .args .b .global .0) && finite (d .before .before .before .before .args .b .envelope .plateau .0))
-  flag = cc
+  abbrev bin : Bin
+  bin = let a = d .before .before .before .before .before .args in binWith (a .osc) (a .p) (a .span .0)
+
+  flag : d .both .result ≡ (finite (bin .global .0) && finite (bin .envelope .plateau .0))
+  flag = rw (d .both .ensures, d .before .is-finite2 .ensures, d .before .before .is-finite .ensures, d .before .before .before .before .bin-with .ensures)
 
 stops-requires : tie.Need-stops-requires
 stops-requires c κs = search needs
@@ -58,7 +65,7 @@ stops-requires-2 c κs = search needs
 
 returns-3 : tie.Need-returns-3
 unfolding storedWith
-returns-3 c = rw (c .store-at .ensures, c .before .row-of .ensures, passed _ _ (flag (c .before .before .before .before .before .before .before .before .before)) (c .before .before .before .before .before .before .before .before .if1 .left), sym (c .before .before .before .before .before .before .before .is-negligible .ensures) ∙ c .before .before .before .before .before .before .if2 .left, sym (c .before .before .before .before .before .weigh .ensures) ∙ c .before .before .before .w .given .1)
+returns-3 c = rw (c .store-at .ensures, c .before .row-of .ensures, c .before .before .before .before .before .before .before .before .before .before .before .before .before .bin-with .ensures, passed _ _ (flag (c .before .before .before .before .before .before .before .before .before)) (c .before .before .before .before .before .before .before .before .if1 .left), sym (c .before .before .before .before .before .before .before .is-negligible .ensures) ∙ c .before .before .before .before .before .before .if2 .left, sym (c .before .before .before .before .before .weigh .ensures) ∙ c .before .before .before .w .given .1)
 
 returns-4 : tie.Need-returns-4
 unfolding storedWith
@@ -68,6 +75,7 @@ pub push-spec : {M : Type 1} → statement M
 push-spec =
     tie.close
     (tie.spec
+    bin-with-requires
     is-finite-requires
     is-finite-requires-2
     both-requires

@@ -1,6 +1,6 @@
 -- `commands::run::act` meets its contract. Assumes nothing.
 use borrow.Author.Needs.{needs}
-use Rattle.commands.proofs.Within.{Within, step-within}
+use Rattle.commands.proofs.Cases.{Within, step-within}
 use Rattle.commands.specs.Step.{binsAfter}
 use Rattle.commands.specs.declared.step.Step.{Step}
 use Rattle.tables.proofs.Sizes.{eight-channels}

@@ -1,4 +1,4 @@
--- `pulse::has_room` meets its contract. Assumes nothing.
+-- `pulse::list::has_room` meets its contract: the sum is not formed, `count` is taken off the other side. Assumes nothing.
 use lib.Dec.{ltb}
 use borrow.Author.Tests.{le-ltb, lt-ltb, ltb-true, ltb-false}
 use mathlib.Core.Path.{_≡_, refl, sym, _∙_}
@@ -8,8 +8,6 @@ use native.Mathlib.Omega.{arith}
 use borrow.Author.Needs.{needs}
 use Rattle.pulse.proofs.list.has_room.Statement.{statement}
 use Rattle.pulse.proofs.list.has_room.Tie as tie
-use Rattle.pulse.proofs.list.has_room.Reads as reads
-use Rattle.pulse.proofs.list.has_room.Lts as lts
 
 -- `count` on either side
 moved : (len from count : ℕ) → count < len → ltb (from + count) len ≡ ltb from (len - count)
@@ -18,15 +16,12 @@ moved len from count h = by-test (ltb from (len - count)) refl where
   by-test true e = lt-ltb (from + count) len (omega (arith, ltb-true from (len - count) e)) ∙ sym e
   by-test false e = le-ltb (from + count) len (omega (arith, ltb-false from (len - count) e)) ∙ sym e
 
--- src/list.rt:43:9
 returns : tie.Need-returns
 returns c = rw (le-ltb (c .before .args .from + c .before .args .count) (c .before .args .len) (omega arith))
 
--- src/list.rt:45:12
 sub-result : tie.Need-sub-result
 sub-result c = search needs
 
--- src/list.rt:39:1
 returns-2 : tie.Need-returns-2
 returns-2 c = sym (moved _ _ _ (c .if1 .left))
 

@@ -1,25 +1,17 @@
--- `pulse::is_finite_pair` meets its contract. Assumes nothing.
+-- `pulse::weight::is_finite_pair` meets its contract: what its calls ensure, put together. Assumes nothing.
 use borrow.Author.Needs.{needs}
 use Rattle.pulse.proofs.weight.is_finite_pair.Statement.{statement}
 use Rattle.pulse.proofs.weight.is_finite_pair.Tie as tie
-use Rattle.pulse.proofs.weight.is_finite_pair.Reads as reads
-use Rattle.pulse.proofs.weight.is_finite_pair.Lts as lts
-use Rattle.ieee.proofs.finite.is_finite.Reads as is-finite-reads
-use Rattle.quant.proofs.judge.both.Reads as both-reads
 
--- src/weight.rt:59:10
 is-finite-requires : tie.Need-is-finite-requires
 is-finite-requires c κs = search needs
 
--- src/weight.rt:59:27
 is-finite-requires-2 : tie.Need-is-finite-requires-2
 is-finite-requires-2 c κs = search needs
 
--- src/weight.rt:59:5
 both-requires : tie.Need-both-requires
 both-requires c κs = search needs
 
--- src/weight.rt:56:1
 returns : tie.Need-returns
 returns c = rw (c .both .ensures, c .before .is-finite2 .ensures, c .before .before .is-finite .ensures)
 

@@ -1,35 +1,26 @@
--- `pulse::new` meets its contract. Assumes nothing.
+-- `pulse::envelope::Envelope::new` meets its contract: by the shape, and for a shape by the width's test. Assumes nothing.
 use Rattle.pulse.specs.Envelope.{envelopeOf}
 use borrow.Author.Needs.{needs}
 use Rattle.pulse.proofs.envelope.Envelope.new.Statement.{statement}
 use Rattle.pulse.proofs.envelope.Envelope.new.Tie as tie
-use Rattle.pulse.proofs.envelope.Envelope.new.Reads as reads
-use Rattle.pulse.proofs.envelope.Envelope.new.Lts as lts
-use Rattle.quant.proofs.quantity.Time.add.Reads as add-reads
 
--- src/envelope.rt:25:24
 enum-told : tie.Need-enum-told
 enum-told c = search needs
 
--- src/envelope.rt:27:26
 add-requires : tie.Need-add-requires
 add-requires c κs = search needs
 
--- src/envelope.rt:30:20
 enum-told-2 : tie.Need-enum-told-2
 enum-told-2 c = search needs
 
--- src/envelope.rt:31:21
 returns : tie.Need-returns
 unfolding envelopeOf
 returns c = rw (c .before .before .enum-told2 .given .1, c .if1 .taken)
 
--- src/envelope.rt:20:5
 returns-2 : tie.Need-returns-2
 unfolding envelopeOf
 returns-2 c = rw (c .before .enum-told .given .1, c .add .ensures)
 
--- src/envelope.rt:20:5
 returns-3 : tie.Need-returns-3
 unfolding envelopeOf
 returns-3 c = rw (c .before .before .enum-told2 .given .1, c .if1 .left)
