@@ -42,14 +42,14 @@ pub fn execute(
     done(u, k)
 }
 
-fn sizes_fit(commands: usize, bins: usize, pulses: usize) -> bool
+pub(crate) fn sizes_fit(commands: usize, bins: usize, pulses: usize) -> bool
     ensures { λ r. ⌜ r ≡ sizesFit commands bins pulses ⌝ }
 {
     both(both(commands <= 1024, bins == 512), pulses == 8192)
 }
 
 // The three ways to end.
-fn done(t: Tables, run: usize) -> Tabled
+pub(crate) fn done(t: Tables, run: usize) -> Tabled
     ensures { λ r. ⌜ r ≡ doneAt t run ⌝ }
 {
     Tabled {
@@ -58,7 +58,7 @@ fn done(t: Tables, run: usize) -> Tabled
     }
 }
 
-fn refused(t: Tables, why: Refusal, run: usize) -> Tabled
+pub(crate) fn refused(t: Tables, why: Refusal, run: usize) -> Tabled
     ensures { λ r. ⌜ r ≡ refusedAt t why run ⌝ }
 {
     Tabled {
@@ -67,7 +67,7 @@ fn refused(t: Tables, why: Refusal, run: usize) -> Tabled
     }
 }
 
-fn misfit(t: Tables) -> Tabled
+pub(crate) fn misfit(t: Tables) -> Tabled
     ensures { λ r. ⌜ r ≡ refusedAt t WrongSize 0 ⌝ }
 {
     refused(t, Refusal::WrongSize, 0)
