@@ -2,10 +2,12 @@
 -- its first k. Assumes nothing.
 use Prim.Native.Nat.{ℕ, _+_, _<_, _≤_}
 use native.Mathlib.Numerals.{add-one}
-use mathlib.Core.Path.{_≡_, sym, _∙_}
-use mathlib.Core.Bool.{true, false, cond}
+use mathlib.Core.Path.{_≡_, refl, sym}
+use mathlib.Core.Bool.{Bool, true, false, _&&_, cond, true≢false}
 use mathlib.Core.List.{List}
+use borrow.Author.Tests.{eqb-true}
 use lib.Ieee.{Float}
+use lib.Dec.{leb, eqb}
 use lib.ListN.{length, getD, drop, drop-of-length-le}
 use lib.Seq.{drop-cons}
 use Rattle.pulse.specs.declared.list.Pulse.{Pulse}
@@ -15,7 +17,7 @@ use Rattle.commands.specs.declared.command.Command.the-variants as C
 use Rattle.commands.specs.declared.command.Arranged.{Arranged}
 use Rattle.commands.specs.declared.step.Step.{Step}
 use Rattle.commands.specs.Step.{binsAfter, pulsesAfter}
-use Rattle.commands.specs.Run.{Ran, ranTo, doneAt, refusedAt, stepOf, ran}
+use Rattle.commands.specs.Run.{Ran, ranTo, doneAt, refusedAt, stepOf, ran, sizesFit}
 use Rattle.commands.proofs.Cases.{refused-leaves}
 
 -- what is read past the end of a list
@@ -44,3 +46,11 @@ module _ (cs : List Arranged) (k : ℕ) (u : Tables) (bins : List (List Float)) 
 
       pub turned : s .stop ≡ false → ran (k + 1) (s .tables) (drop (k + 1) cs) rows (pulsesAfter s pulses) ≡ still
       turned y = rw (er, es) (sym (rw (rw es at y) at one-more))
+
+pub rows-fit : (i j k : ℕ) → sizesFit i j k ≡ true → j ≡ 512
+rows-fit i j k e = eqb-true j 512 (go (leb i 1024) (eqb j 512) e)
+  where
+    go : (a b : Bool) → (a && b && eqb k 8192) ≡ true → b ≡ true
+    go true true h = refl
+    go true false h = h
+    go false b h = absurd (true≢false (sym h))
