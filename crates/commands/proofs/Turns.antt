@@ -1,8 +1,8 @@
--- The command call in turn: one command of what is left to run, and the end. What is left after k commands is `ran k` of the list without
--- its first k. Assumes nothing.
-use Prim.Native.Nat.{ℕ, _+_, _<_, _≤_}
-use native.Mathlib.Numerals.{add-one}
-use mathlib.Core.Path.{_≡_, refl, sym}
+-- The loop of `execute`: what is left after k commands is `ran k` of the list without its first k, so that a turn is one command of it.
+-- Assumes nothing.
+use Prim.Native.Nat.{ℕ, _+_, _<_, _≤_, zero-le}
+use native.Mathlib.Numerals.{add-one, add-one-le}
+use mathlib.Core.Path.{_≡_, refl, sym, _∙_}
 use mathlib.Core.Bool.{Bool, true, false, _&&_, cond, true≢false}
 use mathlib.Core.List.{List}
 use borrow.Author.Tests.{eqb-true}
@@ -17,7 +17,8 @@ use Rattle.commands.specs.declared.command.Command.the-variants as C
 use Rattle.commands.specs.declared.command.Arranged.{Arranged}
 use Rattle.commands.specs.declared.step.Step.{Step}
 use Rattle.commands.specs.Step.{binsAfter, pulsesAfter}
-use Rattle.commands.specs.Run.{Ran, ranTo, doneAt, refusedAt, stepOf, ran, sizesFit}
+use Rattle.commands.specs.Run.{Ran, ranTo, doneAt, refusedAt, stepOf, ran, sizesFit, executed}
+use Rattle.commands.proofs.Callees.{IsTables}
 use Rattle.commands.proofs.Cases.{refused-leaves}
 
 -- what is read past the end of a list
@@ -54,3 +55,40 @@ rows-fit i j k e = eqb-true j 512 (go (leb i 1024) (eqb j 512) e)
     go true true h = refl
     go true false h = h
     go false b h = absurd (true≢false (sym h))
+
+-- ---- where the loop stands
+pub record Upto (t₀ : Tables) (cs : List Arranged) (bs₀ : List (List Float)) (ps₀ : List Pulse) : Type 0 where
+  pub k : ℕ
+  pub u : Tables
+  pub bs : List (List Float)
+  pub ps : List Pulse
+  pub good : IsTables u
+  pub within : k ≤ length cs
+  pub long-b : length bs ≡ length bs₀
+  pub long-p : length ps ≡ length ps₀
+  pub left : still cs k u bs ps ≡ executed t₀ cs bs₀ ps₀
+
+unfoldable pub begun : (t₀ : Tables) (cs : List Arranged) (bs₀ : List (List Float)) (ps₀ : List Pulse) → IsTables t₀ → sizesFit (length cs) (length bs₀) (length ps₀) ≡ true → Upto t₀ cs bs₀ ps₀
+begun t₀ cs bs₀ ps₀ g fit = record { k = 0; u = t₀; bs = bs₀; ps = ps₀; good = g; within = zero-le; long-b = refl; long-p = refl; left = rw fit }
+
+module _ (t₀ : Tables) (cs : List Arranged) (bs₀ : List (List Float)) (ps₀ : List Pulse) (t : Upto t₀ cs bs₀ ps₀) where
+  abbrev pub command : Arranged
+  command = getD cs (t .k) none
+
+  abbrev pub step : Step
+  step = stepOf (t .u) (t .bs) command
+
+  unfoldable pub next : t .k < length cs → (s : Step) (zs : List (List Float)) (us : List Pulse) → s ≡ step → zs ≡ binsAfter step (t .bs) → us ≡ pulsesAfter s (t .ps) → s .stop ≡ false
+      → length zs ≡ length (t .bs) → length us ≡ length (t .ps) → IsTables (s .tables) → Upto t₀ cs bs₀ ps₀
+  next more s zs us es ez eu goes-on lz lu g =
+      record {
+        k = t .k + 1;
+        u = s .tables;
+        bs = zs;
+        ps = us;
+        good = g;
+        within = add-one-le more;
+        long-b = lz ∙ t .long-b;
+        long-p = lu ∙ t .long-p;
+        left = rw eu (turned cs (t .k) (t .u) (t .bs) (t .ps) more s zs es ez goes-on ∙ t .left);
+      }
