@@ -1,5 +1,5 @@
 -- Words for a walk by hand: how a test that is known came out, what is left of a body after its first n statements, the arm of an `if`,
--- reads and writes of whole locals by their number, and what a caller has once a covered function of plain values has returned.
+-- reads and writes of locals and reads of their fields by number, and a call of a covered function of plain values.
 -- In a context F items come first, then the locals, the last one first, each with what ends it. Assumes `Given`.
 use Prim.Native.Nat.{ℕ, zero, suc, _+_, _*_, _-_}
 use mathlib.Core.Path.{_≡_, refl, sym, ap, subst, _∙_}
@@ -143,7 +143,7 @@ module _ {M : Type 1} {𝓤 : URA M} {H : Heap 𝓤} {A : Atoms 𝓤} {K : Type 
 
 -- some result r, of which the contract's fact holds, and which v stands for
 module _ {M : Type 1} {𝓤 : URA M} {H : Heap 𝓤} {A : Atoms 𝓤} {K : Type 0} {W : Given 𝓤 H A} {Γ : List (Item 𝓤)} {G : Goal 𝓤 H} where
-  pub answers : K → Soaks G → {Q : SProp 𝓤} (R : RattleType) (v : Val) (φ : R .Denot → Type 0) (E : R .Denot → SProp 𝓤)
+  answers : K → Soaks G → {Q : SProp 𝓤} (R : RattleType) (v : Val) (φ : R .Denot → Type 0) (E : R .Denot → SProp 𝓤)
       → ent 𝓤 Q (H .⇛ (ex 𝓤 (λ (r : R .Denot). sep 𝓤 (sep 𝓤 (emp 𝓤) (sem 𝓤 H A (R .own r (v ∷ [])))) (E r)))) → ((r : R .Denot) → ent 𝓤 (E r) (fact 𝓤 (φ r)))
       → ((r : R .Denot) → φ r → Is R r (v ∷ []) → Seq K W Γ G) → Seq K W (raw Q ∷ Γ) G
   answers t z R v φ E q says k =
