@@ -1,6 +1,8 @@
 pub mod Rows
 pub mod Cases
 pub mod Calls
+pub mod Callees
+pub mod Turns
 pub mod Full
 pub mod Zones
 pub mod Sound

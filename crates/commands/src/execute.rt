@@ -2,21 +2,54 @@
 // `execute` takes slices of structs and is proved by hand; all else is covered.
 ghost use mathlib.Core.Path.{_≡_};
 ghost use Rattle.quant.specs.declared.refusal.Refusal.the-variants.{WrongSize};
-ghost use Rattle.commands.specs.Run.{sizesFit, doneAt, refusedAt};
+ghost use Rattle.commands.specs.Run.{ranTo, executed, sizesFit, doneAt, refusedAt};
+use super::command::Arranged;
+use super::run::act;
+use pulse::list::Pulse;
+use pulse::list::store;
 use quant::judge::both;
 use quant::refusal::Answer;
 use quant::refusal::Refusal;
 use tables::Tabled;
 use tables::Tables;
 
-fn sizes_fit(commands: usize, bins: usize, pulses: usize) -> bool
+// Bins are 64 rows a channel and pulses 1,024 records a channel; other sizes, or over 1,024 commands, are refusal 13.
+pub fn execute(
+    t: Tables,
+    commands: &[Arranged],
+    bins: &mut [[f64; 5]],
+    pulses: &mut [Pulse],
+) -> Tabled
+    ensures { λ r. ⌜ ranTo r (now (bins .exit)) (now (pulses .exit)) ≡ executed t (now (commands .entry)) (now (bins .entry)) (now (pulses .entry)) ⌝ }
+{
+    if !sizes_fit(commands.len(), bins.len(), pulses.len()) {
+        return misfit(t);
+    }
+    let mut u = t;
+    let mut k: usize = 0;
+    while k < commands.len() {
+        let c = commands[k];
+        let s = act(u, bins, c);
+        if s.stop {
+            return refused(u, s.why, k);
+        }
+        if s.put {
+            store(pulses, s.from, s.count, s.pulse);
+        }
+        u = s.tables;
+        k += 1;
+    }
+    done(u, k)
+}
+
+pub(crate) fn sizes_fit(commands: usize, bins: usize, pulses: usize) -> bool
     ensures { λ r. ⌜ r ≡ sizesFit commands bins pulses ⌝ }
 {
     both(both(commands <= 1024, bins == 512), pulses == 8192)
 }
 
 // The three ways to end.
-fn done(t: Tables, run: usize) -> Tabled
+pub(crate) fn done(t: Tables, run: usize) -> Tabled
     ensures { λ r. ⌜ r ≡ doneAt t run ⌝ }
 {
     Tabled {
@@ -25,7 +58,7 @@ fn done(t: Tables, run: usize) -> Tabled
     }
 }
 
-fn refused(t: Tables, why: Refusal, run: usize) -> Tabled
+pub(crate) fn refused(t: Tables, why: Refusal, run: usize) -> Tabled
     ensures { λ r. ⌜ r ≡ refusedAt t why run ⌝ }
 {
     Tabled {
@@ -34,7 +67,7 @@ fn refused(t: Tables, why: Refusal, run: usize) -> Tabled
     }
 }
 
-fn misfit(t: Tables) -> Tabled
+pub(crate) fn misfit(t: Tables) -> Tabled
     ensures { λ r. ⌜ r ≡ refusedAt t WrongSize 0 ⌝ }
 {
     refused(t, Refusal::WrongSize, 0)

@@ -1,4 +1,5 @@
 -- What is proved of no one function.
+pub mod Lent
 pub mod Order
 pub mod Place
 pub mod Placed
