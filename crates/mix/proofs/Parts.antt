@@ -1,13 +1,13 @@
 -- What a call leaves: a part of each row lent and put back, by what the test of the sizes found. Assumes nothing.
 use Prim.Native.Nat.{ℕ, _+_, _-_, _≤_}
 use native.Mathlib.Omega.{arith}
-use mathlib.Core.Path.{_≡_, refl, sym, ap, _∙_}
+use mathlib.Core.Path.{_≡_, refl}
 use mathlib.Core.Bool.{Bool, true, false, _&&_, cond, false≢true}
-use mathlib.Core.List.{List, _++_}
-use lib.Dec.{leb, eqb}
+use mathlib.Core.List.{List}
+use lib.Dec.{eqb}
 use lib.ListN.{length}
 use lib.Ieee.{Float}
-use borrow.Author.Tests.{leb-true, eqb-true}
+use borrow.Author.Tests.{leb-true, le-leb}
 use borrow.Rule.Slice.PartMut.{midOf, putMid, post-is}
 use Rattle.mix.specs.Part.{holds, partFits, onPart, firstRow, secondRow}
 
@@ -36,6 +36,13 @@ module _ (rows i q s n : ℕ) (fit : partFits rows i q s n ≡ true) where
 
     pub second-holds : s + n ≤ q
     second-holds = leb-true (s + n) q (both-rows .1)
+
+-- a part of one row, and of two rows of one length
+pub fits-one : (i q s n : ℕ) → s + n ≤ i → partFits 1 i q s n ≡ true
+fits-one i q s n h = le-leb (s + n) i h
+
+pub fits-two : (i s n : ℕ) → s + n ≤ i → partFits 2 i i s n ≡ true
+fits-two i s n h = rw (le-leb (s + n) i h)
 
 -- a part is lent, and comes back as f of it
 put-back : (s n : ℕ) (f : List Float → List Float) (row ys : List Float) → ys ≡ f (midOf s (s + n - s) row) → putMid s (s + n - s) row ys ≡ onPart s n f row

@@ -6,13 +6,14 @@ ghost use Rattle.mix.specs.Envelope.{shapedBy};
 ghost use lib.ListN.{length};
 
 mod envelope;
+mod one_row;
 mod part;
 mod plateau;
 
-use envelope::envelope_row;
 use envelope::envelope_rows;
+use one_row::envelope_row;
+use one_row::plateau_row;
 use part::part_fits;
-use plateau::plateau_row;
 use plateau::plateau_rows;
 use quant::complex::Complex;
 

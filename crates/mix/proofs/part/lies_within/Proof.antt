@@ -1,5 +1,4 @@
 -- `mix::part::lies_within` meets its contract: with no wrap, the code asks what the definition asks. Assumes nothing.
-use borrow.Author.Needs.{needs}
 use native.Mathlib.Omega.{arith}
 use Prim.Native.Nat.{ℕ, suc, _+_, _-_, _≤_}
 use mathlib.Core.Path.{_≡_, refl}

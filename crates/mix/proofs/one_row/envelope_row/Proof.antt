@@ -1,15 +1,15 @@
--- `mix::envelope::envelope_row` meets its contract. The invariant: the samples laid so far and the points that are left, on the rest, make up the row;
+-- `mix::one_row::envelope_row` meets its contract. The invariant: the samples laid so far and the points that are left, on the rest, make up the row;
 -- `here` is the next point. Assumes nothing.
 use borrow.Author.Needs.{needs}
 use Prim.Native.Nat.{_-_}
 use native.Mathlib.Omega.{arith}
 use mathlib.Core.Path.{_≡_, refl}
 use lib.ListN.{length, drop, getD, length-set}
-use Rattle.mix.specs.Plateau.{real, imaginary}
+use Rattle.mix.specs.Plateau.{real}
 use Rattle.mix.specs.Envelope.{nought, shaped, shapedBy}
 use Rattle.mix.proofs.Turns.{Laid, envelope-turn, envelope-end}
-use Rattle.mix.proofs.envelope.envelope_row.Statement.{statement}
-use Rattle.mix.proofs.envelope.envelope_row.Tie as tie
+use Rattle.mix.proofs.one_row.envelope_row.Statement.{statement}
+use Rattle.mix.proofs.one_row.envelope_row.Tie as tie
 
 abbrev Inv-loop : tie.InvT-loop
 Inv-loop i₀ points amp drag rotation z₀ left₀ here₀ k₀ i z left here k = Laid (shapedBy real amp drag rotation points z₀ i₀) i₀ i k (shaped real amp drag rotation left (drop k points) z (drop k i)) × (here ≡ getD points k nought) × (length i₀ ≡ length points)

@@ -1,13 +1,13 @@
--- `mix::plateau::plateau_row` meets its contract. The invariant: the samples laid so far and the carrier on the rest make up the row. Assumes nothing.
+-- `mix::one_row::plateau_row` meets its contract. The invariant: the samples laid so far and the carrier on the rest make up the row. Assumes nothing.
 use borrow.Author.Needs.{needs}
 use Prim.Native.Nat.{_-_}
 use native.Mathlib.Omega.{arith}
-use mathlib.Core.Path.{_≡_, refl}
+use mathlib.Core.Path.{refl}
 use lib.ListN.{length, drop, length-set}
-use Rattle.mix.specs.Plateau.{carried, real, imaginary}
+use Rattle.mix.specs.Plateau.{carried, real}
 use Rattle.mix.proofs.Turns.{Laid, plateau-turn, plateau-end}
-use Rattle.mix.proofs.plateau.plateau_row.Statement.{statement}
-use Rattle.mix.proofs.plateau.plateau_row.Tie as tie
+use Rattle.mix.proofs.one_row.plateau_row.Statement.{statement}
+use Rattle.mix.proofs.one_row.plateau_row.Tie as tie
 
 abbrev Inv-loop : tie.InvT-loop
 Inv-loop i₀ rotation z₀ k₀ i z k = Laid (carried real z₀ rotation i₀) i₀ i k (carried real z rotation (drop k i))
