@@ -33,7 +33,7 @@ laid old xs front ys a e is size h =
     ∙ ap (λ (n : ℕ). drop n old) at in
     rw (post-is a e xs h, past, is, take-at front (drop a old) a size) (sym (append-assoc front ys (drop e old)))
 
-values-length : (n i : ℕ) (x dx : Float) → length (values n i x dx) ≡ n
+pub values-length : (n i : ℕ) (x dx : Float) → length (values n i x dx) ≡ n
 unfolding values
 values-length zero i x dx = refl
 values-length (suc n) i x dx = ap suc (values-length n (suc i) x dx)

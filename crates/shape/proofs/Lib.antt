@@ -1,3 +1,5 @@
 pub mod Points
 pub mod Laying
 pub mod Filling
+pub mod Envelopes
+pub mod Examples
