@@ -3,3 +3,4 @@ pub mod Laying
 pub mod Filling
 pub mod Envelopes
 pub mod Examples
+pub mod Between
