@@ -2,13 +2,13 @@
 -- the order of sizes, so where neither end overflows no point does. Assumes nothing.
 use Prim.Native.Nat.{ℕ, zero, suc, _+_, _-_, _*_, _^_, _≤_, _<_, compare, Ordering, Ordering·lt, Ordering·eq, Ordering·gt}
 use native.Mathlib.Omega.{arith}
-use native.Mathlib.Nat.{mul-pos, mul-comm, mul-assoc, mul-one, one-mul, mul-le-mul-right, zero-mul}
+use native.Mathlib.Nat.{mul-pos, mul-comm, mul-one, mul-le-mul-right, zero-mul}
 use mathlib.Core.Path.{_≡_, refl, sym, ap, subst, _∙_}
 use mathlib.Core.Logic.{inl, inr, _⊎_}
-use mathlib.Core.Bool.{Bool, true, false, not, _&&_, cond, Bool·beq}
+use mathlib.Core.Bool.{Bool, true, false, cond, Bool·beq}
 use lib.Dec.{T, ltb}
-use lib.IntN.{ℤ, pos}
-use lib.Ieee.{Float, nan, inf, fin, Format, binary64, prec, low, emax, up, down, unlike, odd, units, round, sum, add, mul, lt, eq, le, ofInt}
+use lib.IntN.{ℤ}
+use lib.Ieee.{Float, nan, inf, fin, binary64, up, down, unlike, odd, units, round, sum, add, mul, le, ofInt}
 use lib.Ieee.Fits.{round-is, down-pos}
 use lib.Ieee.Exact.{HasValue}
 use lib.Ieee.Back.{round-whole}
@@ -67,8 +67,8 @@ smaller-finite s t a b q Q h f =
     let order : T (le (round binary64 false a q) (round binary64 false b q)) = round-mono binary64 a q b q Q Q (mul-le-mul-right q h) in
     subst T (round-any false s a q)
     (elim (round-either a q) [
-      inl g ↦ g
-    | inr e ↦ absurd (none-larger (round binary64 false b q) (subst (λ (z : Float). T (le z (round binary64 false b q))) e order) large)
+      | inl g ↦ g
+      | inr e ↦ absurd (none-larger (round binary64 false b q) (subst (λ (z : Float). T (le z (round binary64 false b q))) e order) large)
     ])
 
 -- ---- sums with one sign or two: r lo + u c between u c and r hi + u c

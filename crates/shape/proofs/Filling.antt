@@ -1,7 +1,7 @@
 -- The scratch as its three parts are put into it one after the other, and what the call leaves. Assumes nothing.
-use Prim.Native.Nat.{ℕ, zero, suc, _+_, _-_, _≤_}
+use Prim.Native.Nat.{ℕ, zero, suc, _+_, _-_, _≤_, _<_}
 use native.Mathlib.Omega.{arith}
-use native.Mathlib.Nat.{le-refl}
+use native.Mathlib.Nat.{le-refl, le-trans, le-of-lt}
 use mathlib.Core.Path.{_≡_, refl, sym, ap, subst, _∙_}
 use mathlib.Core.Bool.{Bool, true, false, _&&_, cond, and-false}
 use mathlib.Core.List.{List, [], _++_, append-assoc}
@@ -9,7 +9,7 @@ use lib.Dec.{leb, ltb}
 use lib.ListN.{length, drop, replicate, length-append, length-drop, length-replicate}
 use lib.Seq.{take-at, drop-at, drop-drop}
 use lib.Ieee.{Float, lt, eq}
-use borrow.Author.Tests.{leb-true, ltb-false}
+use borrow.Author.Tests.{leb-true, leb-false, ltb-false}
 use borrow.Rule.Slice.PartMut.{midOf, putMid, post-is, mid-len}
 use Rattle.quant.specs.declared.refusal.Refusal.the-variants.{ShapeTooShort, EndPastRow, NotFinite}
 use Rattle.rows.specs.Rows.{allFinite}
@@ -18,8 +18,8 @@ use Rattle.shape.specs.declared.parts.Parted.the-variants as parted
 use Rattle.shape.specs.declared.envelope.Enveloped.the-variants.{Points, Refused}
 use Rattle.shape.specs.Hann.{one}
 use Rattle.shape.specs.Segment.{points, values}
-use Rattle.shape.specs.Parts.{nought, indexAt, t1, t3, unbroken, broken, inOrder, partedOf, least}
-use Rattle.shape.specs.Envelope.{shapeOf, finitePoints, filledOf, scratchFilled, Fitting}
+use Rattle.shape.specs.Parts.{nought, indexAt, t1, t3, unbroken, broken, inOrder, partedOf}
+use Rattle.shape.specs.Envelope.{least, limitOf, shapeOf, finitePoints, filledOf, scratchFilled, Fitting}
 
 -- ys are put into the place from a to e of a scratch that holds `front` and then what it held from a on
 pub laid : (old xs front ys : List Float) (a e : ℕ) → xs ≡ front ++ drop a old → length front ≡ a → a ≤ e → putMid a (e - a) xs ys ≡ (front ++ ys) ++ drop e old
@@ -145,9 +145,22 @@ module _ (room : ℕ) (q : Parts) where
 pub fits-more : (q : Parts) (n m : ℕ) → n ≤ m → Fitting q n → Fitting q m
 fits-more q n m h fit = record { head = fit .head; tail = fit .tail; room = omega (arith, fit .room) }
 
-pub least-right : (a b : ℕ) → least a b ≤ b
+least-left : (a b : ℕ) → least a b ≤ a
+least-left a b = by (leb a b) (leb-false a b)
+  where
+    by : (c : Bool) → (c ≡ false → b < a) → cond c a b ≤ a
+    by true f = le-refl a
+    by false f = le-of-lt (f refl)
+
+least-right : (a b : ℕ) → least a b ≤ b
 least-right a b = by (leb a b) (leb-true a b)
   where
     by : (c : Bool) → (c ≡ true → a ≤ b) → cond c a b ≤ b
     by true f = f refl
     by false f = le-refl b
+
+pub limit-scratch : (room n : ℕ) → limitOf room n ≤ n
+limit-scratch room n = le-trans (least-left (least room n) 65536) (least-right room n)
+
+pub limit-row : (room n : ℕ) → limitOf room n ≤ 65536
+limit-row room n = least-right (least room n) 65536

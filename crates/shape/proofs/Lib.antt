@@ -4,3 +4,4 @@ pub mod Filling
 pub mod Envelopes
 pub mod Examples
 pub mod Between
+pub mod Ends

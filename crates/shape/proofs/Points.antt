@@ -3,32 +3,19 @@ use Prim.Native.Nat.{ℕ, suc, _+_, _-_, _<_, _≤_}
 use native.Mathlib.Omega.{arith}
 use native.Mathlib.Numerals.{add-one}
 use mathlib.Core.Path.{_≡_, sym, ap, _∙_}
-use mathlib.Core.Bool.{Bool, _&&_}
 use mathlib.Core.List.{List, _∷_, _++_, append-nil}
 use lib.ListN.{length, take, set, replicate, length-set}
 use lib.Seq.{take-suc-set, append-snoc, take-all}
 use lib.Ieee.{Float}
-use lib.Ieee.Scale.{finite}
-use Rattle.rows.specs.Rows.{allFinite}
 use Rattle.shape.specs.Hann.{one, hannOf}
-use Rattle.shape.specs.Segment.{pointAt, points, values}
+use Rattle.shape.specs.Segment.{pointAt, values}
 
 left-suc : (i n : ℕ) → i < n → n - i ≡ suc (n - (i + 1))
 left-suc i n h = omega arith
 
-module _ (i n : ℕ) (h : i < n) (x dx : Float) where
-  points-turn : points (n - i) i x dx ≡ pointAt x dx i ∷ points (n - (i + 1)) (i + 1) x dx
-  unfolding points
-  points-turn = rw (left-suc i n h, add-one)
-
-  values-turn : values (n - i) i x dx ≡ hannOf (pointAt x dx i) ∷ values (n - (i + 1)) (i + 1) x dx
-  unfolding values
-  values-turn = rw (left-suc i n h, add-one)
-
-  -- point i is finite, or it is not
-  pub point-judged : (b : Bool) → finite (pointAt x dx i) ≡ b → allFinite (points (n - i) i x dx) ≡ (b && allFinite (points (n - (i + 1)) (i + 1) x dx))
-  unfolding allFinite
-  point-judged b e = rw (points-turn, e)
+values-turn : (i n : ℕ) → i < n → (x dx : Float) → values (n - i) i x dx ≡ hannOf (pointAt x dx i) ∷ values (n - (i + 1)) (i + 1) x dx
+unfolding values
+values-turn i n h x dx = rw (left-suc i n h, add-one)
 
 -- a sample is stored before the rest
 stored : (part : List Float) (i : ℕ) (y : Float) (rest : List Float) → i < length part → take (i + 1) (set part i y) ++ rest ≡ take i part ++ (y ∷ rest)

@@ -3,6 +3,7 @@
 use Prim.Native.Nat.{ℕ, _-_, _≤_}
 use mathlib.Core.Bool.{Bool, _&&_, cond}
 use mathlib.Core.List.{List, _++_}
+use lib.Dec.{leb}
 use lib.ListN.{drop, replicate}
 use lib.Ieee.{Float}
 use Rattle.quant.specs.declared.refusal.Refusal.the-variants.{NotFinite}
@@ -14,6 +15,15 @@ use Rattle.shape.specs.declared.envelope.Enveloped.{Enveloped}
 use Rattle.shape.specs.declared.envelope.Enveloped.the-variants.{Points, Refused}
 use Rattle.shape.specs.Hann.{one}
 use Rattle.shape.specs.Segment.{points, values}
+
+-- the smaller of two
+abbrev pub least : ℕ → ℕ → ℕ
+least a b = cond (leb a b) a b
+
+-- Room for the envelope: what is left of the row, where the scratch has n samples. Document 01 lends a scratch no shorter than the row, and rows have
+-- at most 65,536 samples; for a call with another scratch or room these are the limits.
+abbrev pub limitOf : ℕ → ℕ → ℕ
+limitOf room n = least (least room n) 65536
 
 -- the envelope: its head, the plateau of ones, its tail
 unfoldable pub shapeOf : Parts → List Float

@@ -73,7 +73,3 @@ partedOf width plateau offset rate dt room =
     cond (lt (t1 width plateau offset rate dt) nought) (Refused ShapeTooShort)
     (cond (ltb room (indexAt (t3 width plateau offset rate dt) rate)) (Refused EndPastRow)
     (cond (eq plateau nought) (Within (unbroken width plateau offset rate dt)) (ordered (broken width plateau offset rate dt))))
-
--- the smaller of two
-abbrev pub least : ℕ → ℕ → ℕ
-least a b = cond (leb a b) a b

@@ -1,9 +1,8 @@
 // An envelope, worked out into a lent scratch. The Rust's `get_envelope`.
 ghost use mathlib.Core.Path.{_≡_};
-ghost use Prim.Native.Nat.{_≤_};
 ghost use lib.ListN.{length};
-ghost use Rattle.shape.specs.Parts.{partedOf, least};
-ghost use Rattle.shape.specs.Envelope.{envelopedOf, scratchAfter, filledOf, scratchFilled, Fitting};
+ghost use Rattle.shape.specs.Parts.{partedOf};
+ghost use Rattle.shape.specs.Envelope.{least, limitOf, envelopedOf, scratchAfter, filledOf, scratchFilled, Fitting};
 use super::parts::Parted;
 use super::parts::Parts;
 use super::parts::lay_out;
@@ -21,7 +20,8 @@ pub enum Enveloped {
     Refused(Refusal),
 }
 
-// The points of the envelope, from the scratch's first sample on. A scratch shorter than the room is as if the room were its length.
+// The points of the envelope, from the scratch's first sample on. The scratch is no shorter than the row,
+// and a row has at most 65,536 samples; a room over either is cut to it.
 pub fn envelope(
     width: Time,
     plateau: Time,
@@ -31,10 +31,10 @@ pub fn envelope(
     room: usize,
     scratch: &mut [f64],
 ) -> Enveloped
-    ensures { λ r. ⌜ r ≡ envelopedOf (partedOf (width .0) (plateau .0) offset (rate .0) (dt .0) (least room (length (now (scratch .entry))))) ⌝ }
-    ensures { λ r. ⌜ now (scratch .exit) ≡ scratchAfter (partedOf (width .0) (plateau .0) offset (rate .0) (dt .0) (least room (length (now (scratch .entry))))) (now (scratch .entry)) ⌝ }
+    ensures { λ r. ⌜ r ≡ envelopedOf (partedOf (width .0) (plateau .0) offset (rate .0) (dt .0) (limitOf room (length (now (scratch .entry))))) ⌝ }
+    ensures { λ r. ⌜ now (scratch .exit) ≡ scratchAfter (partedOf (width .0) (plateau .0) offset (rate .0) (dt .0) (limitOf room (length (now (scratch .entry))))) (now (scratch .entry)) ⌝ }
 {
-    let limit = smaller(room, scratch.len());
+    let limit = smaller(smaller(room, scratch.len()), 65536);
     match lay_out(width, plateau, offset, rate, dt, limit) {
         Parted::Within(p) => fill(p, scratch),
         Parted::Refused(r) => Enveloped::Refused(r),
@@ -43,7 +43,7 @@ pub fn envelope(
 
 // All points are judged before the first is stored.
 fn fill(p: Parts, scratch: &mut [f64]) -> Enveloped
-    requires { ⌜ Fitting p (length (now scratch)) ⌝ }
+    requires { ⌜ Fitting p (length (now scratch)) × Fitting p 65536 ⌝ }
     ensures { λ r. ⌜ r ≡ filledOf p ⌝ }
     ensures { λ r. ⌜ now (scratch .exit) ≡ scratchFilled p (now (scratch .entry)) ⌝ }
 {
