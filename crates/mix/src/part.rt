@@ -3,7 +3,7 @@ ghost use mathlib.Core.Path.{_≡_};
 ghost use Rattle.mix.specs.Part.{holds, partFits};
 
 // Whether `count` samples from `start` on lie within one row of i samples, or within two of i and of q.
-pub fn part_fits(rows: usize, i: usize, q: usize, start: usize, count: usize) -> bool
+pub(crate) fn part_fits(rows: usize, i: usize, q: usize, start: usize, count: usize) -> bool
     ensures { λ r. ⌜ r ≡ partFits rows i q start count ⌝ }
 {
     if rows == 1 {

@@ -133,9 +133,9 @@ module _ (room : ℕ) (q : Parts) where
   pub within-fits : (w p o rate dt : Float) → partedOf w p o rate dt room ≡ parted.Within q → Fitting q room
   unfolding partedOf
   within-fits w p o rate dt e =
-      let u = unbroken w p o rate dt in
-      let v = broken w p o rate dt in
       let n = indexAt (t3 w p o rate dt) rate in
+      let u = unbroken w p o rate dt n in
+      let v = broken w p o rate dt n in
       settled u v (lt (t1 w p o rate dt) nought) (ltb room n) (eq p nought) (inOrder (v .start) (v .end) n)
       (λ h. record { head = le-refl n; tail = le-refl n; room = ltb-false room n h })
       (λ h k. let k' = both (leb (v .start) (v .end)) (leb (v .end) n) k in record { head = leb-true (v .start) (v .end) (k' .0); tail = leb-true (v .end) n (k' .1); room = ltb-false room n h })

@@ -5,14 +5,10 @@ use mathlib.Core.Bool.{true, false}
 use lib.Dec.{ltb}
 use lib.Ieee.{Float, lt, eq}
 use Rattle.quant.specs.declared.refusal.Refusal.the-variants.{ShapeTooShort, EndPastRow}
-use Rattle.shape.specs.declared.parts.Parts.{Parts}
 use Rattle.shape.specs.declared.parts.Parted.the-variants.{Within, Refused}
-use Rattle.shape.specs.Parts.{nought, indexAt, t1, t2, t3, x0, dx, x2, inOrder, partedOf}
+use Rattle.shape.specs.Parts.{nought, indexAt, t1, t2, t3, x0, dx, x2, unbroken, broken, inOrder, ordered, partedOf}
 
 module _ (w p o rate dt : Float) (room : ℕ) where
-  abbrev made : ℕ → ℕ → ℕ → Float → Parts
-  made s e n x = record { x0 = x0 w p o rate dt; dx = dx w p o rate dt; x2 = x; start = s; end = e; length = n }
-
   pub too-short : lt (t1 w p o rate dt) nought ≡ true → Refused ShapeTooShort ≡ partedOf w p o rate dt room
   unfolding partedOf
   too-short h = rw h
@@ -22,16 +18,18 @@ module _ (w p o rate dt : Float) (room : ℕ) where
     unfolding partedOf
     past-row h = rw (reaches, ← length, h)
 
-    module _ (within : ltb room n ≡ false) where
-      pub in-one : eq p nought ≡ true → Within (made n n n (x0 w p o rate dt)) ≡ partedOf w p o rate dt room
-      unfolding partedOf
-      in-one h = rw (reaches, ← length, within, h)
+    pub in-one : ltb room n ≡ false → eq p nought ≡ true → Within (unbroken w p o rate dt n) ≡ partedOf w p o rate dt room
+    unfolding partedOf
+    in-one within h = rw (reaches, ← length, within, h)
 
-      module _ (plateau : eq p nought ≡ false) (s e : ℕ) (start : s ≡ indexAt (t1 w p o rate dt) rate) (end : e ≡ indexAt (t2 w p o rate dt) rate) where
-        pub out-of-order : inOrder s e n ≡ false → Refused EndPastRow ≡ partedOf w p o rate dt room
-        unfolding partedOf
-        out-of-order h = rw (reaches, ← length, within, plateau, ← start, ← end, h)
+    pub in-three : ltb room n ≡ false → eq p nought ≡ false → ordered (broken w p o rate dt n) ≡ partedOf w p o rate dt room
+    unfolding partedOf
+    in-three within h = rw (reaches, ← length, within, h)
 
-        pub in-three : inOrder s e n ≡ true → (x : Float) → x ≡ x2 w p o rate dt e → Within (made s e n x) ≡ partedOf w p o rate dt room
-        unfolding partedOf
-        in-three h x is = rw (reaches, ← length, within, plateau, ← start, ← end, h, is)
+-- ---- with a plateau
+module _ (w p o rate dt : Float) (s e n : ℕ) (start : s ≡ indexAt (t1 w p o rate dt) rate) (end : e ≡ indexAt (t2 w p o rate dt) rate) where
+  pub out-of-order : inOrder s e n ≡ false → Refused EndPastRow ≡ ordered (broken w p o rate dt n)
+  out-of-order h = rw (← start, ← end, h)
+
+  pub in-turn : inOrder s e n ≡ true → (x : Float) → x ≡ x2 w p o rate dt e → Within (record { x0 = x0 w p o rate dt; dx = dx w p o rate dt; x2 = x; start = s; end = e; length = n }) ≡ ordered (broken w p o rate dt n)
+  in-turn h x is = rw (← start, ← end, h, is)

@@ -52,12 +52,12 @@ module _ (width plateau offset rate dt : Float) where
   abbrev pub x2 : ℕ → Float
   x2 end = div binary64 (fma binary64 (number end) dt (neg t2)) width
 
-  -- with a plateau of either zero all points are of the head
-  abbrev pub unbroken : Parts
-  unbroken = record { x0 = x0; dx = dx; x2 = x0; start = indexAt t3 rate; end = indexAt t3 rate; length = indexAt t3 rate }
+  -- of n points: with a plateau of either zero all are of the head
+  abbrev pub unbroken : ℕ → Parts
+  unbroken n = record { x0 = x0; dx = dx; x2 = x0; start = n; end = n; length = n }
 
-  abbrev pub broken : Parts
-  broken = record { x0 = x0; dx = dx; x2 = x2 (indexAt t2 rate); start = indexAt t1 rate; end = indexAt t2 rate; length = indexAt t3 rate }
+  abbrev pub broken : ℕ → Parts
+  broken n = record { x0 = x0; dx = dx; x2 = x2 (indexAt t2 rate); start = indexAt t1 rate; end = indexAt t2 rate; length = n }
 
 -- start, end and length in this order. So they are for every width and plateau that a command may carry: neither is below 0, so t1 is at most
 -- t2 and that at most t3, since rounding and ceilings keep the order.
@@ -70,6 +70,7 @@ ordered p = cond (inOrder (p .start) (p .end) (p .length)) (Within p) (Refused E
 -- 11 where t1 < 0, then 12 where the envelope has more samples than there is room for, which is so where its end overflows
 unfoldable pub partedOf : Float → Float → Float → Float → Float → ℕ → Parted
 partedOf width plateau offset rate dt room =
+    let n = indexAt (t3 width plateau offset rate dt) rate in
     cond (lt (t1 width plateau offset rate dt) nought) (Refused ShapeTooShort)
-    (cond (ltb room (indexAt (t3 width plateau offset rate dt) rate)) (Refused EndPastRow)
-    (cond (eq plateau nought) (Within (unbroken width plateau offset rate dt)) (ordered (broken width plateau offset rate dt))))
+    (cond (ltb room n) (Refused EndPastRow)
+    (cond (eq plateau nought) (Within (unbroken width plateau offset rate dt n)) (ordered (broken width plateau offset rate dt n))))

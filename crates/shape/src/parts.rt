@@ -1,6 +1,6 @@
 // Where the parts of an envelope begin and end among the samples. The Rust's `get_envelope_cached`, without its points.
 ghost use mathlib.Core.Path.{_≡_};
-ghost use Rattle.shape.specs.Parts.{indexAt, inOrder, partedOf};
+ghost use Rattle.shape.specs.Parts.{indexAt, inOrder, broken, ordered, partedOf};
 use ieee::ceil::ceil;
 use ieee::cut::Cut;
 use ieee::cut::cut_off;
@@ -39,8 +39,7 @@ pub fn lay_out(
     ensures { λ r. ⌜ r ≡ partedOf (width .0) (plateau .0) offset (rate .0) (dt .0) room ⌝ }
 {
     let late = offset * dt.0;
-    let half = width.0 / 2.0;
-    let t1 = half - late;
+    let t1 = width.0 / 2.0 - late;
     if t1 < 0.0 {
         return Parted::Refused(Refusal::ShapeTooShort);
     }
@@ -48,29 +47,37 @@ pub fn lay_out(
     if room < length {
         return Parted::Refused(Refusal::EndPastRow);
     }
-    let x0 = -t1 / width.0;
-    let dx = dt.0 / width.0;
     if plateau.0 == 0.0 {
+        let x0 = -t1 / width.0;
         return Parted::Within(Parts {
             x0,
-            dx,
+            dx: dt.0 / width.0,
             x2: x0,
             start: length,
             end: length,
             length,
         });
     }
-    let t2 = half + plateau.0 - late;
-    let start = index(t1, rate.0);
-    let end = index(t2, rate.0);
+    three_parts(width.0, plateau.0, offset, rate.0, dt.0, length)
+}
+
+// With a plateau, where t1 is not below 0 and the length is known.
+fn three_parts(width: f64, plateau: f64, offset: f64, rate: f64, dt: f64, length: usize) -> Parted
+    ensures { λ r. ⌜ r ≡ ordered (broken width plateau offset rate dt length) ⌝ }
+{
+    let late = offset * dt;
+    let half = width / 2.0;
+    let t1 = half - late;
+    let t2 = half + plateau - late;
+    let start = index(t1, rate);
+    let end = index(t2, rate);
     if !in_order(start, end, length) {
         return Parted::Refused(Refusal::EndPastRow);
     }
-    let x2 = mul_add(nearest_u64_to_f64(end as u64), dt.0, -t2) / width.0;
     Parted::Within(Parts {
-        x0,
-        dx,
-        x2,
+        x0: -t1 / width,
+        dx: dt / width,
+        x2: mul_add(nearest_u64_to_f64(end as u64), dt, -t2) / width,
         start,
         end,
         length,
