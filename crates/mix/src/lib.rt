@@ -1,9 +1,9 @@
 // One pulse added onto the rows of a channel, sample by sample, under a turning carrier. The Rust's `mix_add_plateau` and `mix_add_envelope`.
 ghost use mathlib.Core.Path.{_≡_};
-ghost use Rattle.mix.specs.Part.{partFits, firstRow, secondRow};
+ghost use lib.ListN.{length};
+ghost use Rattle.mix.specs.Part.{firstRow, secondRow};
 ghost use Rattle.mix.specs.Plateau.{carried, real, imaginary};
 ghost use Rattle.mix.specs.Envelope.{shapedBy};
-ghost use lib.ListN.{length};
 
 mod envelope;
 mod one_row;
