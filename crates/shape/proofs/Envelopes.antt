@@ -7,16 +7,18 @@ use mathlib.Core.Bool.{Bool, true, false, cond}
 use mathlib.Core.List.{List, _++_}
 use lib.ListN.{length, drop, getD, replicate, length-append, length-replicate}
 use lib.Seq.{drop-at}
-use lib.Ieee.{Float, nan}
+use lib.Dec.{ltb}
+use lib.Ieee.{Float, nan, lt, eq}
 use Rattle.quant.specs.declared.refusal.Refusal.{Refusal}
-use Rattle.quant.specs.declared.refusal.Refusal.the-variants.{NotFinite}
+use Rattle.quant.specs.declared.refusal.Refusal.the-variants.{ShapeTooShort, EndPastRow, NotFinite}
 use Rattle.shape.specs.declared.parts.Parts.{Parts}
 use Rattle.shape.specs.declared.parts.Parted.{Parted}
 use Rattle.shape.specs.declared.parts.Parted.the-variants as parted
 use Rattle.shape.specs.declared.envelope.Enveloped.the-variants.{Points, Refused}
 use Rattle.shape.specs.Hann.{one, hannOf}
 use Rattle.shape.specs.Segment.{pointAt, values}
-use Rattle.shape.specs.Envelope.{shapeOf, finitePoints, envelopedOf, scratchAfter, Fitting}
+use Rattle.shape.specs.Parts.{nought, indexAt, t1, t3, unbroken, broken, inOrder, partedOf}
+use Rattle.shape.specs.Envelope.{shapeOf, finitePoints, filledOf, envelopedOf, scratchAfter, Fitting}
 use Rattle.shape.proofs.Filling.{values-length}
 
 -- the value at point k of a segment
@@ -48,3 +50,27 @@ refused-stays (parted.Within p) old r e = by (finitePoints p) e
     by true e = let z : _≡_ {A = ℕ} 0 1 = cc in absurd (omega arith)
     by false e = refl
 refused-stays (parted.Refused s) old r e = refl
+
+-- ---- 11 is given exactly where t1 < 0 (that it is given there is `too-short` of proofs/Laying.antt)
+not-eleven : (p : Parts) → filledOf p ≡ Refused ShapeTooShort → ⊥
+not-eleven p e = by (finitePoints p) e
+  where
+    by : (b : Bool) → cond b (Points (p .length)) (Refused NotFinite) ≡ Refused ShapeTooShort → ⊥
+    by true e = let z : _≡_ {A = ℕ} 0 1 = cc in omega arith
+    by false e = let z : _≡_ {A = ℕ} 0 1 = cc in omega arith
+
+pub eleven : (w p o rate dt : Float) (room : ℕ) → envelopedOf (partedOf w p o rate dt room) ≡ Refused ShapeTooShort → lt (t1 w p o rate dt) nought ≡ true
+unfolding partedOf
+eleven w p o rate dt room e =
+    let n = indexAt (t3 w p o rate dt) rate in
+    let v = broken w p o rate dt n in
+    by (unbroken w p o rate dt n) v (lt (t1 w p o rate dt) nought) (ltb room n) (eq p nought) (inOrder (v .start) (v .end) n) e
+  where
+    by : (u v : Parts) (a b c d : Bool)
+        → envelopedOf (cond a (parted.Refused ShapeTooShort) (cond b (parted.Refused EndPastRow) (cond c (parted.Within u) (cond d (parted.Within v) (parted.Refused EndPastRow))))) ≡ Refused ShapeTooShort
+        → a ≡ true
+    by u v true b c d e = refl
+    by u v false true c d e = let z : _≡_ {A = ℕ} 0 1 = cc in absurd (omega arith)
+    by u v false false true d e = absurd (not-eleven u e)
+    by u v false false false true e = absurd (not-eleven v e)
+    by u v false false false false e = let z : _≡_ {A = ℕ} 0 1 = cc in absurd (omega arith)
