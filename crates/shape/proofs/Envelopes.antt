@@ -5,8 +5,8 @@ use native.Mathlib.Nat.{le-of-suc-le-suc, not-suc-le-zero}
 use mathlib.Core.Path.{_≡_, refl, ap, _∙_}
 use mathlib.Core.Bool.{Bool, true, false, cond}
 use mathlib.Core.List.{List, _++_}
-use lib.ListN.{length, drop, getD, replicate, length-append, length-replicate}
-use lib.Seq.{drop-at}
+use lib.ListN.{length, take, drop, length-drop, getD, replicate, length-append, length-replicate}
+use lib.Seq.{take-at, drop-at}
 use lib.Dec.{ltb}
 use lib.Ieee.{Float, nan, lt, eq}
 use Rattle.quant.specs.declared.refusal.Refusal.{Refusal}
@@ -37,6 +37,15 @@ shape-length p n fit =
     let ones = length-replicate (p .end - p .start) one in
     rw (length-append (values (p .start) 0 (p .x0) (p .dx)) (replicate (p .end - p .start) one ++ values (p .length - p .end) 0 (p .x2) (p .dx)), length-append (replicate (p .end - p .start) one) (values (p .length - p .end) 0 (p .x2) (p .dx)), head, ones, tail)
     (omega (arith, fit .head, fit .tail))
+
+-- the scratch begins with the envelope, and has as many samples as before
+pub points-stand : (p : Parts) (old : List Float) → Fitting p (length old) → take (p .length) (shapeOf p ++ drop (p .length) old) ≡ shapeOf p
+points-stand p old fit = take-at (shapeOf p) (drop (p .length) old) (p .length) (shape-length p (length old) fit)
+
+pub scratch-length : (p : Parts) (old : List Float) → Fitting p (length old) → length (shapeOf p ++ drop (p .length) old) ≡ length old
+scratch-length p old fit =
+    length-append (shapeOf p) (drop (p .length) old)
+    ∙ (rw (shape-length p (length old) fit, length-drop (p .length) old) (omega (arith, fit .room)))
 
 -- past the envelope the scratch stays
 pub rest-stays : (p : Parts) (old : List Float) → Fitting p (length old) → drop (p .length) (shapeOf p ++ drop (p .length) old) ≡ drop (p .length) old
