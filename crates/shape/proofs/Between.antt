@@ -42,17 +42,17 @@ round-any s t a c =
     ∙ units-any s t (kept 53 (a * 2 ^ 1074) c) (drop 53 (a * 2 ^ 1074) c)
     ∙ sym (ap finite (round-is binary64 t a c))
 
-units-either : (q k : ℕ) → T (finite (units binary64 false q k)) ⊎ (units binary64 false q k ≡ inf false)
+units-either : (s : Bool) (q k : ℕ) → T (finite (units binary64 s q k)) ⊎ (units binary64 s q k ≡ inf s)
 unfolding units
-units-either q k = by (ltb (q * 2 ^ k) (2 ^ (1074 + 1024)))
+units-either s q k = by (ltb (q * 2 ^ k) (2 ^ (1074 + 1024)))
   where
-    by : (b : Bool) → T (finite (cond b (odd 54 false q k 1074) (inf false))) ⊎ (cond b (odd 54 false q k 1074) (inf false) ≡ inf false)
-    by true = inl (subst T (sym (odd-finite 54 false q k 1074)) tt)
+    by : (b : Bool) → T (finite (cond b (odd 54 s q k 1074) (inf s))) ⊎ (cond b (odd 54 s q k 1074) (inf s) ≡ inf s)
+    by true = inl (subst T (sym (odd-finite 54 s q k 1074)) tt)
     by false = inr refl
 
-round-either : (a c : ℕ) → T (finite (round binary64 false a c)) ⊎ (round binary64 false a c ≡ inf false)
-round-either a c =
-    subst (λ (z : Float). T (finite z) ⊎ (z ≡ inf false)) (sym (round-is binary64 false a c)) (units-either (kept 53 (a * 2 ^ 1074) c) (drop 53 (a * 2 ^ 1074) c))
+pub round-either : (s : Bool) (a c : ℕ) → T (finite (round binary64 s a c)) ⊎ (round binary64 s a c ≡ inf s)
+round-either s a c =
+    subst (λ (z : Float). T (finite z) ⊎ (z ≡ inf s)) (sym (round-is binary64 s a c)) (units-either s (kept 53 (a * 2 ^ 1074) c) (drop 53 (a * 2 ^ 1074) c))
 
 -- nothing finite is as large as an infinity
 none-larger : (y : Float) → T (le (inf false) y) → T (finite y) → ⊥
@@ -66,7 +66,7 @@ smaller-finite s t a b q Q h f =
     let large : T (finite (round binary64 false b q)) = subst T (round-any t false b q) f in
     let order : T (le (round binary64 false a q) (round binary64 false b q)) = round-mono binary64 a q b q Q Q (mul-le-mul-right q h) in
     subst T (round-any false s a q)
-    (elim (round-either a q) [
+    (elim (round-either false a q) [
       | inl g ↦ g
       | inr e ↦ absurd (none-larger (round binary64 false b q) (subst (λ (z : Float). T (le z (round binary64 false b q))) e order) large)
     ])

@@ -5,3 +5,5 @@ pub mod Envelopes
 pub mod Examples
 pub mod Between
 pub mod Ends
+pub mod Rising
+pub mod Twelve

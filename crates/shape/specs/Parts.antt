@@ -59,8 +59,8 @@ module _ (width plateau offset rate dt : Float) where
   abbrev pub broken : ℕ → Parts
   broken n = record { x0 = x0; dx = dx; x2 = x2 (indexAt t2 rate); start = indexAt t1 rate; end = indexAt t2 rate; length = n }
 
--- start, end and length in this order. So they are for every width and plateau that a command may carry: neither is below 0, so t1 is at most
--- t2 and that at most t3, since rounding and ceilings keep the order.
+-- start, end and length in this order. So they are for every pulse with a shape: its width and its plateau are not below 0, so t1 is at most t2
+-- and that at most t3, and rounding and ceilings keep the order (proofs/Rising.antt). Other doubles are refused as an end that is past the row.
 abbrev pub inOrder : ℕ → ℕ → ℕ → Bool
 inOrder start end length = leb start end && leb end length
 
