@@ -1,0 +1,4 @@
+pub mod Hann
+pub mod Segment
+pub mod Parts
+pub mod Envelope

@@ -1,0 +1,23 @@
+-- Document 01, "Placing and sampling": "point i is fused i*dx + x0". Definitions only.
+use Prim.Native.Nat.{ℕ, zero, suc}
+use mathlib.Core.List.{List, [], _∷_}
+use lib.IntN.{pos}
+use lib.Ieee.{Float, binary64, ofInt}
+use Rattle.ieee.specs.Fused.{fma}
+use Rattle.shape.specs.Hann.{hannOf}
+
+-- an index as a double; exact up to 2^53
+abbrev pub number : ℕ → Float
+number i = ofInt binary64 (pos i)
+
+abbrev pub pointAt : Float → Float → ℕ → Float
+pointAt x dx i = fma binary64 (number i) dx x
+
+-- n points from the i-th on, and the values at them
+unfoldable pub points : ℕ → ℕ → Float → Float → List Float
+points zero i x dx = []
+points (suc n) i x dx = pointAt x dx i ∷ points n (suc i) x dx
+
+unfoldable pub values : ℕ → ℕ → Float → Float → List Float
+values zero i x dx = []
+values (suc n) i x dx = hannOf (pointAt x dx i) ∷ values n (suc i) x dx

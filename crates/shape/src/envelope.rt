@@ -1,0 +1,72 @@
+// An envelope, worked out into a lent scratch. The Rust's `get_envelope`.
+ghost use mathlib.Core.Path.{_≡_};
+ghost use lib.ListN.{length};
+ghost use Rattle.shape.specs.Parts.{partedOf};
+ghost use Rattle.shape.specs.Envelope.{least, limitOf, envelopedOf, scratchAfter, filledOf, scratchFilled, Fitting};
+use super::parts::Parted;
+use super::parts::Parts;
+use super::parts::lay_out;
+use super::segment::hold;
+use super::segment::points_finite;
+use super::segment::sample;
+use quant::quantity::Frequency;
+use quant::quantity::Time;
+use quant::refusal::Refusal;
+
+pub enum Enveloped {
+    // How many points the scratch holds.
+    Points(usize),
+    // 11, 12 or 8, in this order
+    Refused(Refusal),
+}
+
+// The points of the envelope, from the scratch's first sample on. The scratch is no shorter than the row,
+// and a row has at most 65,536 samples; a room over either is cut to it.
+pub fn envelope(
+    width: Time,
+    plateau: Time,
+    offset: f64,
+    rate: Frequency,
+    dt: Time,
+    room: usize,
+    scratch: &mut [f64],
+) -> Enveloped
+    ensures { λ r. ⌜ r ≡ envelopedOf (partedOf (width .0) (plateau .0) offset (rate .0) (dt .0) (limitOf room (length (now (scratch .entry))))) ⌝ }
+    ensures { λ r. ⌜ now (scratch .exit) ≡ scratchAfter (partedOf (width .0) (plateau .0) offset (rate .0) (dt .0) (limitOf room (length (now (scratch .entry))))) (now (scratch .entry)) ⌝ }
+{
+    let limit = smaller(smaller(room, scratch.len()), 65536);
+    match lay_out(width, plateau, offset, rate, dt, limit) {
+        Parted::Within(p) => fill(p, scratch),
+        Parted::Refused(r) => Enveloped::Refused(r),
+    }
+}
+
+// All points are judged before the first is stored.
+fn fill(p: Parts, scratch: &mut [f64]) -> Enveloped
+    requires { ⌜ Fitting p (length (now scratch)) × Fitting p 65536 ⌝ }
+    ensures { λ r. ⌜ r ≡ filledOf p ⌝ }
+    ensures { λ r. ⌜ now (scratch .exit) ≡ scratchFilled p (now (scratch .entry)) ⌝ }
+{
+    let start = p.start;
+    let end = p.end;
+    let length = p.length;
+    if !points_finite(p.x0, p.dx, start) {
+        return Enveloped::Refused(Refusal::NotFinite);
+    }
+    if !points_finite(p.x2, p.dx, length - end) {
+        return Enveloped::Refused(Refusal::NotFinite);
+    }
+    sample(&mut scratch[0..start], p.x0, p.dx);
+    hold(&mut scratch[start..end]);
+    sample(&mut scratch[end..length], p.x2, p.dx);
+    Enveloped::Points(length)
+}
+
+fn smaller(a: usize, b: usize) -> usize
+    ensures { λ r. ⌜ r ≡ least a b ⌝ }
+{
+    if a <= b {
+        return a;
+    }
+    b
+}
