@@ -35,11 +35,10 @@ use Rattle.commands.specs.declared.command.Command.{Command}
 use Rattle.commands.specs.declared.command.Command.the-variants as C
 use Rattle.commands.specs.declared.command.Arranged.{Arranged}
 use Rattle.commands.specs.declared.step.Step.{Step}
-use Rattle.commands.specs.Command.{good, wellFormed, tooLong}
+use Rattle.commands.specs.Command.{good, wellFormed, tooLong, named, isSwap}
 use Rattle.commands.specs.Step.{stops, goesOn, binsAfter, pulsesAfter, withOsc, turned, movedBy, turnedAt, swappedTo, swappedAt, swappedBetween}
 use Rattle.commands.specs.Play.{rowsOf, isNew, isFull, stores, storedAt, storedWith, plateauOf, binFor, pushed, playedAt, played}
 use Rattle.commands.specs.Run.{acted, stepOf}
-use Rattle.commands.specs.Apart.{named, isSwap}
 use Rattle.commands.proofs.Rows.{not-full}
 
 -- What the step of a command c from the tables t comes to. A pulse is stored with a start that is finite, in a bin that is there or the

@@ -1,11 +1,4 @@
 pub mod Rows
 pub mod Cases
-pub mod Calls
 pub mod Callees
 pub mod Turns
-pub mod Full
-pub mod Zones
-pub mod Sound
-pub mod Own
-pub mod Apart
-pub mod Alone

@@ -16,11 +16,11 @@ use Rattle.pulse.specs.declared.list.Pulse.{Pulse}
 use Rattle.pulse.specs.List.{stored}
 use Rattle.pulse.proofs.Stored.{stored-length}
 use Rattle.tables.specs.declared.Tables.{Tables}
 use Rattle.commands.specs.declared.command.Arranged.{Arranged}
 use Rattle.commands.specs.declared.step.Step.{Step}
 use Rattle.commands.specs.Step.{binsAfter, pulsesAfter}
 use Rattle.commands.specs.Run.{Ran, ranTo, doneAt, refusedAt, stepOf, ran, executed}
-use Rattle.commands.specs.Words.{further, countedFrom, secondCall}
+use Rattle.commands_laws.specs.Words.{further, countedFrom, secondCall}
 
 -- ---- sizes
 

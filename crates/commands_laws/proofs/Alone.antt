@@ -22,21 +22,22 @@ use Rattle.tables.specs.declared.Tables.{Tables}
 use Rattle.tables.specs.declared.Found.the-variants.{At}
 use Rattle.tables.specs.Tables.{found, noName, noChannel, channelAt, withChannel}
 use Rattle.tables.proofs.Finding.{found-eight}
 use Rattle.commands.specs.declared.command.Command.{Command}
 use Rattle.commands.specs.declared.command.Command.the-variants as C
 use Rattle.commands.specs.declared.command.Arranged.{Arranged}
 use Rattle.commands.specs.declared.step.Step.{Step}
 use Rattle.commands.specs.Step.{binsAfter, pulsesAfter, withOsc}
 use Rattle.commands.specs.Play.{rowsOf, grown, pulseAt, stores}
 use Rattle.commands.specs.Run.{Ran, ranTo, refusedAt, stepOf, ran, executed}
-use Rattle.commands.specs.Sound.{listOf, Sound}
-use Rattle.commands.specs.Apart.{named, isFor, isSwap, onlyFor, noSwaps, isDone, SameTo}
+use Rattle.commands_laws.specs.Sound.{listOf, Sound}
+use Rattle.commands.specs.Command.{named, isSwap}
+use Rattle.commands_laws.specs.Apart.{isFor, onlyFor, noSwaps, isDone, SameTo}
 use Rattle.commands.proofs.Cases as Cases
 use Rattle.commands.proofs.Cases.{Kind, step-kind}
-use Rattle.commands.proofs.Own.{View, viewOf, Own, refuses, same, turns, puts, realize, own, own-step}
-use Rattle.commands.proofs.Apart.{found-stays, same-to, same-then, unmoved}
-use Rattle.commands.proofs.Calls.{fits}
-use Rattle.commands.proofs.Sound.{step-sound}
+use Rattle.commands_laws.proofs.Own.{View, viewOf, Own, refuses, same, turns, puts, realize, own, own-step}
+use Rattle.commands_laws.proofs.Apart.{found-stays, same-to, same-then, unmoved}
+use Rattle.commands_laws.proofs.Calls.{fits}
+use Rattle.commands_laws.proofs.Sound.{step-sound}
 
 -- ---- what holds of a pulse that is stored
 

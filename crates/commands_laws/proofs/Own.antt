@@ -23,16 +23,16 @@ use Rattle.tables.specs.declared.Channel.{Channel}
 use Rattle.tables.specs.declared.Tables.{Tables}
 use Rattle.tables.specs.declared.Found.the-variants.{At}
 use Rattle.tables.specs.Tables.{shapesIn, isIn, found, channelAt}
 use Rattle.commands.specs.declared.command.Play.{Play}
 use Rattle.commands.specs.declared.command.Command.{Command}
 use Rattle.commands.specs.declared.command.Command.the-variants as C
 use Rattle.commands.specs.declared.command.Arranged.{Arranged}
 use Rattle.commands.specs.declared.step.Step.{Step}
 use Rattle.commands.specs.Command.{wellFormed, required, tooLong}
 use Rattle.commands.specs.Step.{stops, goesOn, withOsc, movedBy, turnedAt}
 use Rattle.commands.specs.Play.{rowsOf, stores, storedWith, plateauOf, binWith, playedAt, played}
 use Rattle.commands.specs.Run.{acted, stepOf}
-use Rattle.commands.specs.Apart.{named, isSwap}
+use Rattle.commands.specs.Command.{named, isSwap}
 
 -- what a channel's commands go by
 pub record View : Type 0 where

@@ -12,22 +12,13 @@ use Rattle.quant.specs.Name.{sameName}
 use Rattle.pulse.specs.declared.list.Pulse.{Pulse}
 use Rattle.tables.specs.declared.Tables.{Tables}
 use Rattle.tables.specs.declared.Found.the-variants.{At}
-use Rattle.tables.specs.Tables.{shapesIn, noName, found, channelAt}
+use Rattle.tables.specs.Tables.{shapesIn, found, channelAt}
 use Rattle.commands.specs.declared.command.Command.{Command}
 use Rattle.commands.specs.declared.command.Command.the-variants as C
 use Rattle.commands.specs.declared.command.Arranged.{Arranged}
+use Rattle.commands.specs.Command.{isSwap}
 use Rattle.commands.specs.Play.{rowsOf}
-use Rattle.commands.specs.Sound.{listOf}
-
--- the channel that a command names; of a swap the first, of a barrier none
-abbrev pub named : Command → Name
-named (C.Play p) = p .channel
-named (C.ShiftPhase n x) = n
-named (C.SetPhase n x) = n
-named (C.ShiftFreq n x) = n
-named (C.SetFreq n x) = n
-named (C.SwapPhase n m) = n
-named C.Barrier = noName
+use Rattle.commands_laws.specs.Sound.{listOf}
 
 -- whether a command is for the channel of that name
 unfoldable pub isFor : Name → Command → Bool
@@ -38,15 +29,6 @@ isFor n (C.ShiftFreq m x) = sameName m n
 isFor n (C.SetFreq m x) = sameName m n
 isFor n (C.SwapPhase a b) = true
 isFor n C.Barrier = false
-
-unfoldable pub isSwap : Command → Bool
-isSwap (C.Play p) = false
-isSwap (C.ShiftPhase m x) = false
-isSwap (C.SetPhase m x) = false
-isSwap (C.ShiftFreq m x) = false
-isSwap (C.SetFreq m x) = false
-isSwap (C.SwapPhase a b) = true
-isSwap C.Barrier = false
 
 -- the commands of a list that are for a channel
 unfoldable pub onlyFor : Name → List Arranged → List Arranged

@@ -13,7 +13,7 @@ use lib.Seq.{take-nil, take-take, drop-drop}
 use Rattle.pulse.specs.declared.list.Pulse.{Pulse}
 use Rattle.pulse.specs.List.{anyBefore, placed, stored}
 use Rattle.pulse.proofs.Stored.{stored-front, stored-back}
-use Rattle.commands.specs.Sound.{binned}
+use Rattle.commands_laws.specs.Sound.{binned}
 
 -- ---- a part of a list
 

@@ -27,17 +27,17 @@ use Rattle.tables.specs.declared.Found.{Found}
 use Rattle.tables.specs.declared.Found.the-variants.{At, Nowhere}
 use Rattle.tables.specs.Tables.{found, isIn, shapesIn, done, refused, noChannel, channelAt, fresh, finiteOsc, withChannels, withChannel, settled, withAdded, withShape, settledShape, withAddedShape, channelsIn, nought, empty, made}
 use Rattle.tables.proofs.Finding.{found-eight, found-under}
 use Rattle.commands.specs.declared.command.Command.{Command}
 use Rattle.commands.specs.declared.command.Arranged.{Arranged}
 use Rattle.commands.specs.declared.step.Step.{Step}
 use Rattle.commands.specs.Step.{binsAfter, pulsesAfter, withOsc}
 use Rattle.commands.specs.Play.{grown, pulseAt, stores}
 use Rattle.commands.specs.Run.{Ran, ranTo, refusedAt, stepOf, ran, sizesFit, executed}
-use Rattle.commands.specs.Sound.{listOf, binned, Stands, Sound, Reached, start, channel, shape, call}
-use Rattle.commands.specs.Apart.{named}
+use Rattle.commands_laws.specs.Sound.{listOf, binned, Stands, Sound, Reached, start, channel, shape, call}
+use Rattle.commands.specs.Command.{named}
 use Rattle.commands.proofs.Cases.{Kind, refuses, goes, turns, swaps, puts, step-kind}
-use Rattle.commands.proofs.Zones.{zone-stays, binned-more, binned-placed}
-use Rattle.commands.proofs.Calls.{bins-size}
+use Rattle.commands_laws.proofs.Zones.{zone-stays, binned-more, binned-placed}
+use Rattle.commands_laws.proofs.Calls.{bins-size}
 
 -- ---- a channel with the counts of another
 

@@ -20,15 +20,16 @@ use Rattle.tables.specs.declared.Tables.{Tables}
 use Rattle.tables.specs.declared.Found.the-variants.{At}
 use Rattle.tables.specs.Tables.{channelsIn, foundFrom, found, noChannel, channelAt, withChannel}
 use Rattle.tables.proofs.Finding.{found-under}
 use Rattle.commands.specs.declared.command.Command.{Command}
 use Rattle.commands.specs.declared.command.Command.the-variants as C
 use Rattle.commands.specs.declared.step.Step.{Step}
 use Rattle.commands.specs.Step.{binsAfter, pulsesAfter}
 use Rattle.commands.specs.Play.{grown, pulseAt}
-use Rattle.commands.specs.Sound.{Sound}
-use Rattle.commands.specs.Apart.{named, isSwap, SameTo}
-use Rattle.commands.proofs.Zones.{zone-stays, part-before, part-behind}
+use Rattle.commands_laws.specs.Sound.{Sound}
+use Rattle.commands.specs.Command.{named, isSwap}
+use Rattle.commands_laws.specs.Apart.{SameTo}
+use Rattle.commands_laws.proofs.Zones.{zone-stays, part-before, part-behind}
 use Rattle.commands.proofs.Cases.{Kind, refuses, goes, turns, swaps, puts}
 
 -- ---- names
 
