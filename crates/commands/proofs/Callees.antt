@@ -140,9 +140,6 @@ module _ {M : Type 1} (𝓤 : URA M) (H : Heap 𝓤) (A : Atoms 𝓤) (W : Given
   pub typedN : (c : Arranged) → IsCommand c → T (hasTy N′.mir (valN c)) × WT (valN c)
   typedN c g = LL.lawful N.the-type N′.the-laws 𝓤 H A W .typed c (valN c ∷ []) g .0
 
-  pub typedS : (s : Stepped) → IsStep s → T (hasTy S′.mir (valS s)) × WT (valS s)
-  typedS s g = LL.lawful S.the-type S′.the-laws 𝓤 H A W .typed s (valS s ∷ []) g .0
-
   pub typedX : (r : Tabled) → IsTabled r → T (hasTy X′.mir (valX r)) × WT (valX r)
   typedX r g = LL.lawful X.the-type X′.the-laws 𝓤 H A W .typed r (valX r ∷ []) g .0
 
