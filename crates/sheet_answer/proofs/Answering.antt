@@ -38,11 +38,11 @@ answered text before bytes r after room is put =
     }
 
 -- the bytes answered are within the room, since the list keeps its length
-pub within : (text before : List ℕ) (r : ℕ) (after : List ℕ) → Answered text before r after → length after ≡ length before → r ≤ length before
+pub within : (text before : List ℕ) (r : ℕ) (after : List ℕ) → Answered text before r after → length after ≡ length before → r ≤ length after
 unfolding answerSize answerLeft
 within text before r after a same = by (ltb (length before) 4096) refl
   where
-    by : (t : Bool) → ltb (length before) 4096 ≡ t → r ≤ length before
+    by : (t : Bool) → ltb (length before) 4096 ≡ t → r ≤ length after
     by true e = let none : r ≡ 0 = a .count ∙ rw e in omega arith
     by false e =
         let bytes : List ℕ = answerText text in

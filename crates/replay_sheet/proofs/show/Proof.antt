@@ -1,41 +1,34 @@
--- `replay_sheet::show` meets its contract. Assumes nothing.
+-- `replay_sheet::show` meets its contract: what is printed is within the room. Assumes nothing.
+use mathlib.Core.Path.{sym}
 use borrow.Author.Needs.{needs}
+use lib.Seq.{length-take-le}
+use Rattle.sheet_answer.proofs.Answering.{within}
 use Rattle.replay_sheet.proofs.show.Statement.{statement}
 use Rattle.replay_sheet.proofs.show.Tie as tie
-use Rattle.replay_sheet.proofs.show.Reads as reads
-use Rattle.replay_sheet.proofs.show.Lts as lts
-use Rattle.io.proofs.write_all.Reads as write-all-reads
-use Rattle.sheet_answer.proofs.answer.Reads as answer-reads
 
--- src/main.rt:29:43
 slice-aggregate-answer : tie.Need-slice-aggregate-answer
 slice-aggregate-answer c = search needs
 
--- src/main.rt:29:9
 answer-requires : tie.Need-answer-requires
 answer-requires c κs = search needs
 
--- src/main.rt:30:22
 array-share-prefix-out : tie.Need-array-share-prefix-out
-array-share-prefix-out c = search needs
+array-share-prefix-out c = within _ _ _ _ (c .before .answer .ensures) (c .before .answer .kept .1 .0)
 
--- src/main.rt:30:22
 slice-aggregate-write-all : tie.Need-slice-aggregate-write-all
-slice-aggregate-write-all c = search needs
+slice-aggregate-write-all c =
+    let at-answer = c .before .before in
+    sym (length-take-le _ _ (within _ _ _ _ (at-answer .answer .ensures) (at-answer .answer .kept .1 .0)))
 
--- src/main.rt:30:5
 write-all-requires : tie.Need-write-all-requires
 write-all-requires c κs = search needs
 
--- src/main.rt:31:22
 slice-aggregate-write-all-2 : tie.Need-slice-aggregate-write-all-2
 slice-aggregate-write-all-2 c = search needs
 
--- src/main.rt:31:5
 write-all-requires-2 : tie.Need-write-all-requires-2
 write-all-requires-2 c κs = search needs
 
--- src/main.rt:27:1
 returns : tie.Need-returns
 returns c = search needs
 
