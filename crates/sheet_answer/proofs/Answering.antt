@@ -53,7 +53,7 @@ within text before r after a same = by (ltb (length before) 4096) refl
 
 -- ---- what the reader answers
 
-accepts-is : (o : Outcome) (n : ℕ) → answerOf o ≡ Done n → (s : SoFar) × (o ≡ accepts s)
+pub accepts-is : (o : Outcome) (n : ℕ) → answerOf o ≡ Done n → (s : SoFar) × (o ≡ accepts s)
 unfolding answerOf
 accepts-is (accepts s) n e = (s, refl)
 accepts-is (refuses q k) n e = let z : _≡_ {A = ℕ} 0 1 = cc in absurd (omega arith)
