@@ -1,4 +1,5 @@
--- From what the reader answers to what is printed. Assumes nothing.
+-- What `answer` promises, from what `read` and `print` promise. The one idea: what was read is never refused by `print`, which is the law
+-- `printed-back`. Assumes nothing.
 use Prim.Native.Nat.{ℕ, _+_, _≤_, _<_}
 use mathlib.Core.Path.{_≡_, refl, sym, ap, _∙_}
 use mathlib.Core.Bool.{Bool, true, false}

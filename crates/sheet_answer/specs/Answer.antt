@@ -13,7 +13,7 @@ use Rattle.sheet.specs.Sheet.{Outcome, accepts, refuses, outcome, namesOf, matr
 
 -- ---- a number in decimal
 
--- by the digits that stand before its last, of which there are at most `more`
+-- the digits of n / 10, then the last, n % 10; a digit's byte is 48 more. The first number bounds how many digits there are
 unfoldable pub decimalOf : ℕ → ℕ → List ℕ
 decimalOf zero n = []
 decimalOf (suc more) n = cond (ltb n 10) ((48 + n) ∷ []) (decimalOf more (n / 10) ++ (48 + n % 10) ∷ [])

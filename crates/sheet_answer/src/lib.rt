@@ -19,7 +19,7 @@ use sheet::read::read;
 
 pub mod put;
 
-// Puts what is printed at the start of `out`, which has at least 4,096 bytes, and answers how many bytes that are.
+// Puts what is printed at the start of `out`, and answers how many bytes it is. With less room than 4,096 bytes it puts nothing and answers 0.
 pub fn answer(text: &[u8], out: &mut [u8]) -> usize
     ensures { λ r. ⌜ Answered (now (text .entry)) (now (out .entry)) r (now (out .exit)) ⌝ }
 {
@@ -38,7 +38,7 @@ pub fn answer(text: &[u8], out: &mut [u8]) -> usize
     }
 }
 
-// The sheet, which `print` does not refuse once it was read.
+// A sheet that was read, which `print` never refuses.
 fn sheet_back(count: usize, names: [Name; 8], matrix: &[f64], out: &mut [u8]) -> usize
     requires { ⌜ printedOf count names (now matrix) (length (now out)) ≡ Sheet·Printed.Bytes (length (sheetText (sheetOf count names (now matrix)))) ⌝ }
     ensures { λ r. ⌜ Put (sheetText (sheetOf count names (now (matrix .entry)))) (now (out .entry)) 0 r (now (out .exit)) ⌝ }

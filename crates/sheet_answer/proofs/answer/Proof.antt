@@ -7,8 +7,7 @@ use Rattle.sheet_answer.proofs.answer.Statement.{statement}
 use Rattle.sheet_answer.proofs.answer.Tie as tie
 
 returns : tie.Need-returns
-returns c =
-    no-room _ _ (c .if1 .taken)
+returns c = no-room _ _ (c .if1 .taken)
 
 slice-aggregate-read : tie.Need-slice-aggregate-read
 slice-aggregate-read c = search needs
@@ -25,7 +24,9 @@ slice-aggregate-sheet-back c = search needs
 sheet-back-requires : tie.Need-sheet-back-requires
 sheet-back-requires c κs =
     let at-read = c .before .before .before .before .before .before .before in
-    printable _ _ _ _ _ (at-read .before .before .before .before .before .args .out .now) (at-read .read .ensures) (c .before .before .before .before .answer .given .1) (at-read .before .before .if1 .left)
+    let room = at-read .before .before in
+    let out = room .before .before .before .args .out .now in
+    printable _ _ _ _ _ out (at-read .read .ensures) (c .before .before .before .before .answer .given .1) (room .if1 .left)
 
 enum-known-answer-2 : tie.Need-enum-known-answer-2
 enum-known-answer-2 c = search needs
