@@ -18,14 +18,16 @@ fn each(list: &[u8]) {
     while at < list.len() {
         let start = least(at + 2, list.len());
         let end = least(start + size_at(list, at), list.len());
-        sheet_out::show(&list[start..end]);
-        mark();
+        show(&list[start..end]);
         at = end;
     }
 }
 
-// The end of an answer.
-fn mark() {
+// An answer, and its end.
+fn show(text: &[u8]) {
+    let mut out = [0u8; 4096];
+    let size = sheet_answer::answer(text, &mut out);
+    io::write_all(1, &out[..size]);
     io::write_all(1, b"--\n");
 }
 

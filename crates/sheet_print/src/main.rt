@@ -3,5 +3,7 @@ fn main() {
     // One byte over the limit shows that a text is too long.
     let mut text = [0u8; 4097];
     let n = io::read_full(0, &mut text);
-    sheet_out::show(&text[..n]);
+    let mut out = [0u8; 4096];
+    let size = sheet_answer::answer(&text[..n], &mut out);
+    io::write_all(1, &out[..size]);
 }

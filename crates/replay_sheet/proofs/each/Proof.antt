@@ -41,9 +41,6 @@ part-show-end c = search needs
 show-requires : tie.Need-show-requires Inv-loop μ-loop
 show-requires c κs = search needs
 
-mark-requires : tie.Need-mark-requires Inv-loop μ-loop
-mark-requires c κs = search needs
-
 loop-less : tie.Need-loop-less Inv-loop μ-loop
 loop-less c = search needs
 
@@ -69,7 +66,6 @@ each-spec =
     part-show-start
     part-show-end
     show-requires
-    mark-requires
     loop-less
     loop-again
     returns)

@@ -1,0 +1,2 @@
+-- What a program prints for a sheet.
+pub mod Answer
