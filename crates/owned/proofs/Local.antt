@@ -20,7 +20,7 @@ use base.Logic.{ent, sep, ex, via, guardI}
 use base.Fml.{Lft, GName, Fml, fat, froom, fdead, flent, fsep}
 use prog.Wp.{Heap, Env}
 use ghost.Atoms.{Atoms, sem}
-use types.Kit.{Given, Item, ‵, _⊛_, some, later, _$_, _∵_, !, qed, by, move, drop, use1, use2, use3, split, pick, rewrite, fsplit, fjoin, fpick, fpack, feqI, frame, show, await, updating, now as at-once, done}
+use types.Kit.{Given, Item, ‵, _⊛_, some, later, _$_, _∵_, !, qed, move, drop, use1, use2, use3, split, pick, rewrite, fsplit, fjoin, fpick, fpack, feqI, frame, show, await, updating, now as at-once, done}
 use types.Run.{Opd}
 use types.SemTy.{Arr, cells}
 use types.Share.{arr-parts}
@@ -31,7 +31,7 @@ use denote.Memory.{cellAt, lone, partAt, partOf, mem, shares}
 use denote.Array.{Array, arrayVal}
 use denote.ArrayMemory.{Single, array-apart, array-whole}
 use denote.Slice.{sliceVal, ShrSlice, Room, finally}
-use denote.Lend.{Held, Lent, lends-slice, slice-back, LentShrs, lends-shr-slice}
+use denote.Lend.{Held, Lent, lends-slice, slice-back, lends-shr-slice}
 use denote.Index.{row, whole-out, whole-in}
 use denote.Steps.{peeks}
 use borrow.Table.Elements.{at, cut-app, join-app}

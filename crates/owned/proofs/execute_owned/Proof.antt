@@ -2,7 +2,7 @@
 -- its elements, which is lent for a lifetime of the call and comes back: the commands in part (`lends-first`), the pulses whole.
 -- `bins` goes to `execute` at its own lifetime (`gave-slice`). Assumes nothing.
 use mathlib.Core.Path.{_≡_, refl, sym, ap, subst, _∙_}
-use Prim.Native.Nat.{ℕ, _≤_, _<_, _^_}
+use Prim.Native.Nat.{ℕ, _<_, _^_}
 use native.Mathlib.Nat.{lt-of-le-of-lt}
 use mathlib.Core.List.{List, [], _∷_}
 use lib.Dec.{T, lit<}
