@@ -28,7 +28,8 @@ pub fn execute_owned(
     let mut lent = pulses;
     let n = at_most_1024(count);
     let tabled = execute(t, &commands[..n], bins, &mut lent);
-    with_pulses(tabled, lent)
+    let left = lent;
+    with_pulses(tabled, left)
 }
 
 fn at_most_1024(count: usize) -> usize

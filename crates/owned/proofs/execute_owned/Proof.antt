@@ -228,15 +228,15 @@ module _ {M : Type 1} (𝓤 : URA M) (H : Heap 𝓤) (A : Atoms 𝓤) (W : Given
         -- [commands'; pulses'; bins'; κ; _16; …]
         into ! 4 (of-opd ! (cell ! 4 refl)) refl (typedC 𝓤 H A mem run W cs x gc) $ into ! 4 (of-opd ! (cell ! 4 refl)) refl (typedP 𝓤 H A mem run W ps y gp) $
         calls-plain ! 4 fm (Most 𝓤 H A mem run) most-known (to-most 𝓤 H A mem run W count) (goes-most 𝓤 H A mem run W count gn) (and-then ! (cell ! 5 refl) (no-more !)) usize (vint w64) (uint-tells w64) (λ r g. (tt, record { fits = g .1 })) (most-of 𝓤 H A mem run count) (λ _. id⊢ 𝓤 _) refl (λ n en _.
-        move ! (24 ∷ 0 ∷ []) $ use2 W (‵ (row N.the-row fullShare cs l₆ 0)) (opened 𝓤 H A W N.the-row l₆ 0 1024 tt cs x) $ move ! (22 ∷ 1 ∷ []) $ use2 W (‵ (row P.the-row fullShare ps l₇ 0)) (opened 𝓤 H A W P.the-row l₇ 0 8192 tt ps y) $
-        -- [the pulses' row; the commands'; bins'; κ; _16; …; _8; …; the ends of _7 and _6; _5; …]
         into ! 4 (addr ! (from ! (stop !))) refl (tt, tt) $
         into ! 4 (agg ! (and-then ! (cell ! 4 refl) (and-then ! (cell ! 4 refl) (no-more !)))) refl (tt, (tt, (record { fits = n-fits n en }, tt))) $
-        into ! 4 (addr ! (from ! (fld ! refl (hop ! (look-in ! 26 (sub ! 0 refl (whole !))) (stop !))))) refl (tt, tt) $
-        into ! 4 (agg ! (and-then ! (cell ! 4 refl) (and-then ! (part ! 2 refl tt) (no-more !)))) refl (tt, (tt, (record { fits = gb .0 }, tt))) $
+        into ! 4 (addr ! (from ! (fld ! refl (hop ! (look-in ! 28 (sub ! 0 refl (whole !))) (stop !))))) refl (tt, tt) $
+        into ! 4 (agg ! (and-then ! (cell ! 4 refl) (and-then ! (part ! 4 refl tt) (no-more !)))) refl (tt, (tt, (record { fits = gb .0 }, tt))) $
         into ! 4 (addr ! (from ! (stop !))) refl (tt, tt) $
         into ! 4 (agg ! (and-then ! (cell ! 4 refl) (and-then ! (big-lit ! (record { fits = lit< tt })) (no-more !)))) refl (tt, (tt, (record { fits = lit< tt }, tt))) $
         -- the loans
+        move ! (24 ∷ 0 ∷ []) $ use2 W (‵ (row N.the-row fullShare cs l₆ 0)) (opened 𝓤 H A W N.the-row l₆ 0 1024 tt cs x) $ move ! (22 ∷ 1 ∷ []) $ use2 W (‵ (row P.the-row fullShare ps l₇ 0)) (opened 𝓤 H A W P.the-row l₇ 0 8192 tt ps y) $
+        -- [the pulses' row; the commands'; bins'; κ; _16; …; _8; …; the ends of _7 and _6; _5; …]
         lft-new ! tt (λ ν₂. move ! (1 ∷ []) $
         use1 W (later (some (λ (δ : GName). ‵ (Own P.the-row l₇ 0 (length ps) (ν₂ ∷ []) δ ps) ⊛ ‵ (flent (ν₂ ∷ []) (Held P.the-row (length ps) l₇ 0 δ))))) (lends-mut 𝓤 H A W P.the-row l₇ 0 (named 0) (ν₂ ∷ []) ps (subst (Room P.the-row) (sym long-p) room-p)) $ await ! tt $ pick ! (λ δ₂. split ! $
         rewrite ! 0 (λ (c : ℕ). ‵ (Own P.the-row l₇ 0 c (ν₂ ∷ []) δ₂ ps)) long-p refl $
