@@ -1,0 +1,9 @@
+pub mod Sizes
+pub mod Squares
+pub mod Young
+pub mod Growth
+pub mod Operations
+pub mod Products
+pub mod Step
+pub mod Finite
+pub mod Turn
