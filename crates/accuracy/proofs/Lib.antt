@@ -7,3 +7,5 @@ pub mod Products
 pub mod Step
 pub mod Finite
 pub mod Turn
+pub mod Error
+pub mod Product
