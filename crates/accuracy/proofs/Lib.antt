@@ -9,3 +9,6 @@ pub mod Finite
 pub mod Turn
 pub mod Error
 pub mod Product
+pub mod Gauss
+pub mod Bounds
+pub mod Carrier
