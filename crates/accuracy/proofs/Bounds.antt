@@ -1,8 +1,8 @@
 -- The numbers of the carrier's error: with D for 2 ^ 1074, a rotation's square is at most ρ, (1 + 2 ^ -44) D²; one step's error has a square of at most
 -- β, 37 / 2 ^ 106 of D², for a carrier of size 1; and a carrier's square stays under L, 131 / 128 of D², times the amplitude's. Assumes nothing.
-use mathlib.Core.Path.{_≡_, refl, sym, ap, _∙_}
+use mathlib.Core.Path.{_≡_, sym, ap, _∙_}
 use Prim.Native.Nat.{ℕ, zero, suc, _+_, _-_, _*_, _^_, _≤_, _<_}
-use native.Mathlib.Nat.{le-refl, le-trans, le-of-eq, add-le-add, mul-assoc, mul-comm, mul-pos, mul-mul-mul-comm, mul-le-mul, mul-le-mul-left, mul-le-mul-right, le-of-mul-le-mul-left, le-of-mul-le-mul-right, pow-suc, pow-zero}
+use native.Mathlib.Nat.{le-refl, le-trans, le-of-eq, add-le-add, mul-assoc, mul-pos, mul-mul-mul-comm, mul-le-mul, mul-le-mul-left, mul-le-mul-right, le-of-mul-le-mul-left, le-of-mul-le-mul-right, pow-suc, pow-zero}
 use native.Mathlib.Omega.{arith}
 use lib.Dec.{lit≤, lit<}
 use lib.Pow.{pow-pos}

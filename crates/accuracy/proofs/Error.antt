@@ -21,10 +21,13 @@ spread a X W c = go a (X .plus) (X .less) (W .plus) (W .less) (c .plus) (c .less
 module _ (a D : ℕ) (X Y X' Y' W Q c s : Signed) where
   abbrev E : Signed
   E = lessS (times a X) W
+
   abbrev F : Signed
   F = lessS (times a Y) Q
+
   abbrev pub Dre : Signed
   Dre = lessS (times D X') (lessS (timesS X c) (timesS Y s))
+
   abbrev pub Dim : Signed
   Dim = lessS (times D Y') (plusS (timesS X s) (timesS Y c))
 
@@ -38,6 +41,7 @@ module _ (a D : ℕ) (X Y X' Y' W Q c s : Signed) where
     where
       open-up : (a D x y z : ℕ) → a * (D * x + (y + z)) ≡ a * D * x + (a * y + a * z)
       open-up a D x y z = mul-add a (D * x) (y + z) ∙ ap (λ (w : ℕ). w + a * (y + z)) (sym (mul-assoc a D x)) ∙ ap (λ (w : ℕ). a * D * x + w) (mul-add a y z)
+
       go : (xp xn wp wn vp vn ep en fp fn ap an bp bn dp dn : ℕ) → ep + (an + wp) ≡ ap + wn + en → fp + (bn + vp) ≡ bp + vn + fn → dp ≡ xp + (an + bp) → dn ≡ xn + (ap + bn)
           → xp + (wn + vp) + (en + fp + dn) ≡ ep + fn + dp + (xn + (wp + vn))
       go xp xn wp wn vp vn ep en fp fn ap an bp bn dp dn h1 h2 h3 h4 = omega arith
@@ -52,6 +56,7 @@ module _ (a D : ℕ) (X Y X' Y' W Q c s : Signed) where
     where
       open-up : (a D x y z : ℕ) → a * (D * x + (y + z)) ≡ a * D * x + (a * y + a * z)
       open-up a D x y z = mul-add a (D * x) (y + z) ∙ ap (λ (w : ℕ). w + a * (y + z)) (sym (mul-assoc a D x)) ∙ ap (λ (w : ℕ). a * D * x + w) (mul-add a y z)
+
       go : (xp xn wp wn vp vn ep en fp fn ap an bp bn dp dn : ℕ) → ep + (an + wp) ≡ ap + wn + en → fp + (bn + vp) ≡ bp + vn + fn → dp ≡ xp + (an + bn) → dn ≡ xn + (ap + bp)
           → xp + (wn + vn) + (en + fn + dn) ≡ ep + fp + dp + (xn + (wp + vp))
       go xp xn wp wn vp vn ep en fp fn ap an bp bn dp dn h1 h2 h3 h4 = omega arith
@@ -78,9 +83,9 @@ one-more j B a D x x' w r h k =
     le-trans
     (le-of-eq
     (ap (λ (z : ℕ). z + sq (error (a * D) x' (timesG w r) .im))
-        (sq-same (error (a * D) x' (timesG w r) .re) (plusS (before .re) (times a (new .re))) (real-step a D (x .re) (x .im) (x' .re) (x' .im) (w .re) (w .im) (r .re) (r .im)))
+    (sq-same (error (a * D) x' (timesG w r) .re) (plusS (before .re) (times a (new .re))) (real-step a D (x .re) (x .im) (x' .re) (x' .im) (w .re) (w .im) (r .re) (r .im)))
     ∙ ap (λ (z : ℕ). sq (plusS (before .re) (times a (new .re))) + z)
-        (sq-same (error (a * D) x' (timesG w r) .im) (plusS (before .im) (times a (new .im))) (imag-step a D (x .re) (x .im) (x' .re) (x' .im) (w .re) (w .im) (r .re) (r .im)))))
+    (sq-same (error (a * D) x' (timesG w r) .im) (plusS (before .im) (times a (new .im))) (imag-step a D (x .re) (x .im) (x' .re) (x' .im) (w .re) (w .im) (r .re) (r .im)))))
     (grow j B (before .re) (before .im) (times a (new .re)) (times a (new .im))
-        (le-trans (le-of-eq (norm-times (error a x w) r)) h)
-        (le-trans (le-of-eq (ap (λ (z : ℕ). z + sq (times a (new .im))) (sq-by a (new .re)) ∙ ap (λ (z : ℕ). a * a * sq (new .re) + z) (sq-by a (new .im)) ∙ sym (mul-add (a * a) (sq (new .re)) (sq (new .im))))) k))
+    (le-trans (le-of-eq (norm-times (error a x w) r)) h)
+    (le-trans (le-of-eq (ap (λ (z : ℕ). z + sq (times a (new .im))) (sq-by a (new .re)) ∙ ap (λ (z : ℕ). a * a * sq (new .re) + z) (sq-by a (new .im)) ∙ sym (mul-add (a * a) (sq (new .re)) (sq (new .im))))) k))

@@ -1,10 +1,9 @@
 -- Complex whole numbers, as pairs of pairs of naturals, multiply as numbers do: the order and the grouping of the factors do not count. So the exact
 -- carrier is start times amplitude, then times the rotation, k times. Each part is a sum of products of naturals. Assumes nothing.
-use mathlib.Core.Path.{_≡_, refl, sym, ap, _∙_}
-use Prim.Native.Nat.{ℕ, zero, suc, _+_, _*_}
+use mathlib.Core.Path.{_≡_, _∙_}
+use Prim.Native.Nat.{ℕ, suc}
 use native.Mathlib.Nat.{mul-add, add-mul, mul-assoc, add-assoc, add-comm, add-left-comm}
 use native.Mathlib.Omega.{arith}
-use Rattle.exact.specs.Signed.{Signed}
 use Rattle.quant.specs.declared.complex.Complex.{Complex}
 use Rattle.accuracy.specs.Exact.{Gauss, oneG, timesG, powerG, exactly, carrierExactly}
 

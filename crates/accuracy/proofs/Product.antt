@@ -1,18 +1,18 @@
 -- One complex product of the port, `timesC`, against the exact one: finite, and the square of its error bounded by the squares of its factors.
 -- Assumes nothing.
-use mathlib.Core.Path.{_≡_, refl, sym, ap, _∙_, subst}
+use mathlib.Core.Path.{_≡_, sym, subst}
 use mathlib.Core.Bool.{Bool, true, false}
 use Prim.Native.Nat.{ℕ, _+_, _*_, _^_, _≤_, _<_}
-use native.Mathlib.Nat.{le-trans, le-of-eq, le-suc, le-of-suc-le-suc, lt-of-not-le, not-le-of-lt, le-add-left, le-add-right, mul-le-mul}
+use native.Mathlib.Nat.{le-trans, le-of-eq, le-of-suc-le-suc, lt-of-not-le, not-le-of-lt, le-add-left, le-add-right, mul-le-mul}
 use native.Mathlib.Omega.{arith}
-use lib.Dec.{T, lit≤}
+use lib.Dec.{lit≤}
 use lib.Ieee.{Float}
 use Rattle.exact.specs.Value.{Units, signOf, unitsOf}
-use Rattle.exact.specs.Signed.{Signed, signed, times, plusS, lessS}
+use Rattle.exact.specs.Signed.{signed, times, lessS}
 use Rattle.exact.proofs.Value.{units-are, sign-is, own}
 use Rattle.quant.specs.declared.complex.Complex.{Complex}
 use Rattle.quant.specs.Complex.{timesC}
-use Rattle.accuracy.specs.Exact.{Gauss, Held, timesS, timesG, valueOf, exactly, squares}
+use Rattle.accuracy.specs.Exact.{Held, timesG, valueOf, exactly, squares}
 use Rattle.accuracy.proofs.Sizes.{mag, sq}
 use Rattle.accuracy.proofs.Turn.{turn}
 use Rattle.accuracy.proofs.Error.{sqG, error}
@@ -69,9 +69,9 @@ pub record Product (x y : Complex) : Type 0 where
 pub product : (x y : Complex) → Whole x → Whole y → squares x ≤ 2 ^ 1275 * 2 ^ 1275 → squares y ≤ 2 ^ 1275 * 2 ^ 1275 → Product x y
 product x y v w h k =
     let t = turn (x .re) (x .im) (y .re) (y .im) (signOf (x .re)) (signOf (x .im)) (signOf (y .re)) (signOf (y .im)) (unitsOf (x .re)) (unitsOf (x .im)) (unitsOf (y .re)) (unitsOf (y .im))
-      (v .re) (v .im) (w .re) (w .im)
-      (most (re-most x (2 ^ 1275) h) (re-most y (2 ^ 1275) k)) (most (im-most x (2 ^ 1275) h) (im-most y (2 ^ 1275) k))
-      (most (re-most x (2 ^ 1275) h) (im-most y (2 ^ 1275) k)) (most (im-most x (2 ^ 1275) h) (re-most y (2 ^ 1275) k)) in
+    (v .re) (v .im) (w .re) (w .im)
+    (most (re-most x (2 ^ 1275) h) (re-most y (2 ^ 1275) k)) (most (im-most x (2 ^ 1275) h) (im-most y (2 ^ 1275) k))
+    (most (re-most x (2 ^ 1275) h) (im-most y (2 ^ 1275) k)) (most (im-most x (2 ^ 1275) h) (re-most y (2 ^ 1275) k)) in
     let z = timesC x y in
     let w = timesG (exactly x) (exactly y) in
     let re = value-is (z .re) (t .0) (t .1) (t .4) in
