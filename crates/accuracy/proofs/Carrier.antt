@@ -9,12 +9,12 @@ use Rattle.exact.specs.Value.{unitsOf}
 use Rattle.exact.specs.Signed.{Signed, Apart, times, plusS, lessS}
 use Rattle.quant.specs.declared.complex.Complex.{Complex}
 use Rattle.quant.specs.Complex.{timesC}
+use Rattle.exact.proofs.Few.{value-finite}
 use Rattle.mix.specs.Plateau.{carrierAfter}
 use Rattle.accuracy.specs.Exact.{Gauss, Tame, Near, timesG, valueOf, exactly, carrierExactly, absolute, squares}
 use Rattle.accuracy.proofs.Sizes.{mag, sq, mag-add, sq-same, sq-by}
 use Rattle.accuracy.proofs.Young.{young}
 use Rattle.accuracy.proofs.Error.{sqG, error, norm-times, one-more}
-use Rattle.accuracy.proofs.Finite.{finite-of}
 use Rattle.accuracy.proofs.Product.{Whole, product, lost, held-whole, squares-are, root}
 use Rattle.accuracy.proofs.Gauss.{exact-first, exact-next}
 use Rattle.accuracy.proofs.Bounds.{D, ρ, β, L, step-bound, first-bound, step-there, size-bound, last-bound}
@@ -198,12 +198,12 @@ carrier-near amp start rotation t k K =
     record {
       re =
           record {
-            is-finite = finite-of (z .re) _ _ _ (g .whole .re);
+            is-finite = value-finite (z .re) _ _ (g .whole .re);
             apart = as-apart a (2 ^ 49) (suc k * absolute amp * a) (valueOf (z .re)) (w .re) (part-near amp start rotation t k (mag (e .re)) K (le-trans (le-add-right (sq (e .re)) (sq (e .im))) (g .near)));
           };
       im =
           record {
-            is-finite = finite-of (z .im) _ _ _ (g .whole .im);
+            is-finite = value-finite (z .im) _ _ (g .whole .im);
             apart = as-apart a (2 ^ 49) (suc k * absolute amp * a) (valueOf (z .im)) (w .im) (part-near amp start rotation t k (mag (e .im)) K (le-trans (le-add-left (sq (e .im)) (sq (e .re))) (g .near)));
           };
     }

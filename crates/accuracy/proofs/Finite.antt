@@ -6,18 +6,13 @@ use native.Mathlib.Nat.{le-refl, le-trans, le-of-eq, add-le-add, add-mul, mul-co
 use native.Mathlib.Omega.{arith}
 use lib.Dec.{T, ltb, lit≤}
 use lib.Pow.{pow-pos}
-use lib.Ieee.{Float, nan, inf, fin, binary64, unlike, round, sum, mul}
-use lib.Ieee.Exact.{HasValue}
+use lib.Ieee.{Float, binary64, unlike, round, sum, mul}
 use lib.Ieee.Scale.{finite}
 use Rattle.exact.specs.Value.{Units}
 use Rattle.exact.specs.Near.{Within}
 use Rattle.exact.proofs.Operation.{mul-rounds}
 use Rattle.exact.proofs.Rounding.{round-off}
-
-pub finite-of : (x : Float) (s : Bool) (a c : ℕ) → HasValue x s a c → T (finite x)
-finite-of nan s a c h = absurd h
-finite-of (inf t) s a c h = absurd h
-finite-of (fin t m e) s a c h = tt
+use Rattle.exact.proofs.Few.{value-finite}
 
 -- v c K ≤ n K + max n (c J) with n ≤ c M and J ≤ K: v ≤ 2 M + 1
 bound : (v n c K J M : ℕ) → 0 < c → 0 < K → J ≤ K → n ≤ c * M → v * c * K ≤ n * K + max n (c * J) → v ≤ M + M + 1
@@ -41,7 +36,7 @@ bound v n c K J M C P h l w =
 pub round-finite : (s : Bool) (a c : ℕ) → 0 < c → a * 2 ^ 1074 ≤ c * 2 ^ 2090 → T (finite (round binary64 s a c))
 round-finite s a c C h =
     let r = round-off s a c 2036 C (le-trans h (le-of-eq (mul-comm c (2 ^ 2090)))) (lit≤ tt) in
-    finite-of (round binary64 s a c) s (r .0) (2 ^ 1074) (r .1)
+    value-finite (round binary64 s a c) s (r .0) (r .1)
 
 pub sum-finite : (s t : Bool) (a b : ℕ) → a + b ≤ 2 ^ 2090 → T (finite (sum binary64 s a t b (2 ^ 1074)))
 unfolding sum

@@ -12,3 +12,5 @@ pub mod Product
 pub mod Gauss
 pub mod Bounds
 pub mod Carrier
+pub mod Zero
+pub mod Samples

@@ -28,7 +28,7 @@ held-whole z h = record { re = own (z .re) (h .re-fits) (h .re-finite); im = own
 its-own : (x : Float) (s : Bool) (n : ℕ) → Units x s n → Units x (signOf x) (unitsOf x)
 its-own x s n h = subst (λ (t : Bool). Units x t (unitsOf x)) (sym (sign-is x s n h)) (subst (λ (b : ℕ). Units x s b) (sym (units-are x s n h)) h)
 
-value-is : (x : Float) (s : Bool) (n : ℕ) → Units x s n → valueOf x ≡ signed s n
+pub value-is : (x : Float) (s : Bool) (n : ℕ) → Units x s n → valueOf x ≡ signed s n
 value-is x s n h = λ i. signed (sign-is x s n h i) (units-are x s n h i)
 
 -- ---- squares of parts
