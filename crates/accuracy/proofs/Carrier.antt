@@ -11,7 +11,7 @@ use Rattle.quant.specs.declared.complex.Complex.{Complex}
 use Rattle.quant.specs.Complex.{timesC}
 use Rattle.exact.proofs.Few.{value-finite}
 use Rattle.mix.specs.Plateau.{carrierAfter}
-use Rattle.accuracy.specs.Exact.{Gauss, Tame, Near, timesG, valueOf, exactly, carrierExactly, absolute, squares}
+use Rattle.accuracy.specs.Exact.{Gauss, Tame, CarrierNear, timesG, valueOf, exactly, carrierExactly, absolute, squares}
 use Rattle.accuracy.proofs.Sizes.{mag, sq, mag-add, sq-same, sq-by}
 use Rattle.accuracy.proofs.Young.{young}
 use Rattle.accuracy.proofs.Error.{sqG, error, norm-times, one-more}
@@ -182,11 +182,6 @@ as-apart a p e x w h =
         (le-trans (mul-le-mul-left p (most x y))
         (le-trans (le-of-eq (mul-add p y (x - y + (y - x)) ∙ ap (λ (z : ℕ). p * y + z) (mul-comm p (x - y + (y - x)))))
         (le-trans (add-le-add (le-of-eq g) h) (le-refl (r + e)))))
-
--- THE THEOREM, of the carrier
-pub record CarrierNear (amp start rotation : Complex) (k : ℕ) : Type 0 where
-  pub re : Near (carrierAfter k (timesC start amp) rotation .re) (carrierExactly amp start rotation k .re) k (absolute amp)
-  pub im : Near (carrierAfter k (timesC start amp) rotation .im) (carrierExactly amp start rotation k .im) k (absolute amp)
 
 pub carrier-near : (amp start rotation : Complex) → Tame amp start rotation → (k : ℕ) → k ≤ 65535 → CarrierNear amp start rotation k
 carrier-near amp start rotation t k K =

@@ -14,3 +14,4 @@ pub mod Bounds
 pub mod Carrier
 pub mod Zero
 pub mod Samples
+pub mod Example

@@ -7,6 +7,8 @@ use lib.Dec.{T}
 use Rattle.exact.specs.Signed.{Signed, Apart, signed, times, plusS, lessS}
 use Rattle.exact.specs.Value.{signOf, unitsOf}
 use Rattle.quant.specs.declared.complex.Complex.{Complex}
+use Rattle.quant.specs.Complex.{timesC}
+use Rattle.mix.specs.Plateau.{carrierAfter}
 
 -- the product of two signed whole numbers
 abbrev pub timesS : Signed → Signed → Signed
@@ -72,3 +74,8 @@ pub record Tame (amp start rotation : Complex) : Type 0 where
 pub record Near (x : Float) (w : Signed) (k m : ℕ) : Type 0 where
   pub is-finite : T (finite x)
   pub apart : Apart (times (2 ^ 49 * (2 ^ 1074) ^ suc k) (valueOf x)) (times (2 ^ 49) w) (suc k * m * (2 ^ 1074) ^ suc k)
+
+-- "lies within (k+1)·2^-49·m of the exact product", of the carrier after k steps: both its parts
+pub record CarrierNear (amp start rotation : Complex) (k : ℕ) : Type 0 where
+  pub re : Near (carrierAfter k (timesC start amp) rotation .re) (carrierExactly amp start rotation k .re) k (absolute amp)
+  pub im : Near (carrierAfter k (timesC start amp) rotation .im) (carrierExactly amp start rotation k .im) k (absolute amp)
