@@ -7,10 +7,10 @@ use Rattle.accuracy.specs.Exact.{Tame, Held, CarrierNear}
 use Rattle.accuracy.proofs.Carrier.{carrier-near}
 
 -- 1 and i
-one : Complex
+pub one : Complex
 one = record { re = ofBits binary64 0x3ff0_0000_0000_0000; im = ofBits binary64 0 }
 
-quarter : Complex
+pub quarter : Complex
 quarter = record { re = ofBits binary64 0; im = ofBits binary64 0x3ff0_0000_0000_0000 }
 
 held-one : Held one
