@@ -1,0 +1,17 @@
+pub mod Sizes
+pub mod Squares
+pub mod Young
+pub mod Growth
+pub mod Operations
+pub mod Products
+pub mod Step
+pub mod Finite
+pub mod Turn
+pub mod Error
+pub mod Product
+pub mod Gauss
+pub mod Bounds
+pub mod Carrier
+pub mod Zero
+pub mod Samples
+pub mod Example
