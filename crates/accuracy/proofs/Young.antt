@@ -6,7 +6,7 @@ use native.Mathlib.Nat.{le-trans, le-of-eq, add-le-add, add-mul, mul-add, mul-as
 use native.Mathlib.Omega.{arith}
 use Rattle.exact.specs.Signed.{Signed, plusS}
 use Rattle.accuracy.proofs.Sizes.{dist, mag, sq, mag-add}
-use Rattle.accuracy.proofs.Squares.{dist-sq}
+use Rattle.accuracy.proofs.Squares.{dist-square}
 
 -- ---- a sum of two, with no square root
 sq-sum : (x y : ℕ) → (x + y) * (x + y) ≡ x * x + 2 * (x * y) + y * y
@@ -17,7 +17,7 @@ sq-sum x y = add-mul x y (x + y) ∙ ap (λ (z : ℕ). z + y * (x + y)) (mul-add
 
 -- 2 x y is at most x² + y²
 pub am-gm : (x y : ℕ) → 2 * (x * y) ≤ x * x + y * y
-am-gm x y = go (dist x y * dist x y) (x * y) (x * x + y * y) (dist-sq x y)
+am-gm x y = go (dist x y * dist x y) (x * y) (x * x + y * y) (dist-square x y)
   where
     go : (d m s : ℕ) → d + 2 * m ≡ s → 2 * m ≤ s
     go d m s e = omega arith
