@@ -74,10 +74,10 @@ error a x w = record { re = lessS (times a (x .re)) (w .re); im = lessS (times a
 pub norm-times : (x y : Gauss) → sqG (timesG x y) ≡ sqG x * sqG y
 norm-times x y = norm-mul (x .re) (x .im) (y .re) (y .im)
 
--- x is w with j errors, x' is x times r with one more: x' is w times r with j + 1
-pub one-more : (j B a D : ℕ) (x x' w r : Gauss) → sqG (error a x w) * sqG r ≤ j * j * B → a * a * sqG (error D x' (timesG x r)) ≤ B
-    → sqG (error (a * D) x' (timesG w r)) ≤ suc j * suc j * B
-one-more j B a D x x' w r h k =
+-- x is w with i + 1 errors, x' is x times r with one more: x' is w times r with i + 2
+pub one-more : (i B a D : ℕ) (x x' w r : Gauss) → sqG (error a x w) * sqG r ≤ suc i * suc i * B → a * a * sqG (error D x' (timesG x r)) ≤ B
+    → sqG (error (a * D) x' (timesG w r)) ≤ suc (suc i) * suc (suc i) * B
+one-more i B a D x x' w r h k =
     let before = timesG (error a x w) r in
     let new = error D x' (timesG x r) in
     le-trans
@@ -86,6 +86,6 @@ one-more j B a D x x' w r h k =
     (sq-same (error (a * D) x' (timesG w r) .re) (plusS (before .re) (times a (new .re))) (real-step a D (x .re) (x .im) (x' .re) (x' .im) (w .re) (w .im) (r .re) (r .im)))
     ∙ ap (λ (z : ℕ). sq (plusS (before .re) (times a (new .re))) + z)
     (sq-same (error (a * D) x' (timesG w r) .im) (plusS (before .im) (times a (new .im))) (imag-step a D (x .re) (x .im) (x' .re) (x' .im) (w .re) (w .im) (r .re) (r .im)))))
-    (grow j B (before .re) (before .im) (times a (new .re)) (times a (new .im))
+    (grow i B (before .re) (before .im) (times a (new .re)) (times a (new .im))
     (le-trans (le-of-eq (norm-times (error a x w) r)) h)
     (le-trans (le-of-eq (ap (λ (z : ℕ). z + sq (times a (new .im))) (sq-by a (new .re)) ∙ ap (λ (z : ℕ). a * a * sq (new .re) + z) (sq-by a (new .im)) ∙ sym (mul-add (a * a) (sq (new .re)) (sq (new .im))))) k))
