@@ -6,7 +6,7 @@ use native.Mathlib.Nat.{le-refl, le-trans, le-of-eq, add-le-add, mul-assoc, mul-
 use native.Mathlib.Omega.{arith}
 use lib.Dec.{lit≤, lit<}
 use lib.Pow.{pow-pos}
-use Rattle.accuracy.proofs.Growth.{rho-power, square-pow, power-pos}
+use Rattle.accuracy.proofs.Growth.{growth-times, square-power, power-positive}
 use Rattle.accuracy.proofs.Product.{lost}
 
 abbrev pub D : ℕ
@@ -85,7 +85,7 @@ step-there k S M h =
 
 -- ρ ^ k (2 ^ 44 - k) ≤ 2 ^ 44 D ^ 2 k
 pub slow : (k : ℕ) → ρ ^ k * (2 ^ 44 - k) ≤ 2 ^ 44 * (D ^ k * D ^ k)
-slow k = le-trans (rho-power (2 ^ 44) (2 ^ 2104) k) (le-of-eq (ap (λ (z : ℕ). 2 ^ 44 * z) (sym (square-pow D k))))
+slow k = le-trans (growth-times (2 ^ 44) (2 ^ 2104) k) (le-of-eq (ap (λ (z : ℕ). 2 ^ 44 * z) (sym (square-power D k))))
 
 pub far : (k : ℕ) → k ≤ 65536 → 2 ^ 44 - 65536 ≤ 2 ^ 44 - k
 far k h = omega arith
@@ -118,7 +118,7 @@ pub size-bound : (N W E M k : ℕ) → suc k ≤ 65536 → 64 * (D ^ suc k * D ^
 size-bound N W E M k K h w e =
     le-of-mul-le-mul-left {m = D * D * N} {n = L * M} {k = 64 * (2 ^ 44 - 65536)}
     (le-trans (mul-le-mul-right (D * D * N) (mul-le-mul-left 64 (far k (less k K))))
-    (le-trans (cut (D * D * N) (D ^ k * D ^ k) (ρ ^ k) (2 ^ 44) k (A * M) (mul-pos (power-pos D k (pow-pos 1074)) (power-pos D k (pow-pos 1074))) all (slow k))
+    (le-trans (cut (D * D * N) (D ^ k * D ^ k) (ρ ^ k) (2 ^ 44) k (A * M) (mul-pos (power-positive D k (pow-pos 1074)) (power-positive D k (pow-pos 1074))) all (slow k))
     (le-trans (le-of-eq (sym (mul-assoc (2 ^ 44) A M))) (le-trans (mul-le-mul-right M (lit≤ tt)) (le-of-eq (mul-assoc (64 * (2 ^ 44 - 65536)) L M))))))
     (lit< tt)
   where

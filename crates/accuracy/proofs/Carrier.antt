@@ -133,7 +133,7 @@ module _ (amp start rotation : Complex) (t : Tame amp start rotation) where
         whole = subst Whole (sym (carrier-next k)) (p .whole);
         near =
             le-trans (le-of-eq (λ i. sqG (error (pow-suc D (suc k) i) (exactly (carrier-next k i)) (exact-next amp start rotation k i))))
-            (one-more (suc k) (β * M * ρ ^ suc k) a D (exactly z) (exactly (timesC z rotation)) (exact k) (exactly rotation) old new);
+            (one-more a D (exactly z) (exactly (timesC z rotation)) (exact k) (exactly rotation) k (β * M * ρ ^ suc k) old new);
       }
     where
       grouped : (j b q r : ℕ) → j * (b * q) * r ≡ j * (b * (q * r))

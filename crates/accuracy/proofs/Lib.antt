@@ -5,8 +5,6 @@ pub mod Growth
 pub mod Operations
 pub mod Products
 pub mod Step
-pub mod Finite
-pub mod Turn
 pub mod Error
 pub mod Product
 pub mod Gauss

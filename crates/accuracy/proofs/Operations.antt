@@ -1,101 +1,99 @@
--- What one rounding costs a sum of two doubles and a product of two: a part in 2 ^ 53 of the exact result, and for a product half a unit more where it is
--- that small. In whole numbers of 2 ^ -1074 (a sum) and 2 ^ -2148 (a product). Assumes nothing.
-use mathlib.Core.Path.{_≡_, sym, ap, _∙_, subst}
-use mathlib.Core.Bool.{Bool, true, false, not, cond, _&&_}
-use Prim.Native.Nat.{ℕ, _+_, _-_, _*_, _^_, _≤_, _<_, max}
-use native.Mathlib.Nat.{add-mul, mul-le-mul-right, le-of-mul-le-mul-right, le-trans, le-of-eq, mul-assoc, mul-right-comm, mul-pos}
+-- What one rounding costs a sum and a product of doubles that are far from overflow: a part in 2 ^ 53 of the exact result, and for a product half a unit
+-- more. A sum is in whole numbers of 2 ^ -1074, a product in those of 2 ^ -2148. Assumes nothing.
+use mathlib.Core.Path.{_≡_, refl, sym, subst}
+use mathlib.Core.Bool.{Bool, true, false, not, Bool·beq}
+use Prim.Native.Nat.{ℕ, _+_, _-_, _*_, _^_, _≤_, _<_, max, compare, Ordering, Ordering·lt, Ordering·eq, Ordering·gt}
+use native.Mathlib.Nat.{le-refl, le-trans, le-of-eq, mul-assoc, mul-pos, mul-le-mul-right, le-of-mul-le-mul-right}
 use native.Mathlib.Omega.{arith}
-use lib.Dec.{T, ltb, ltb→lt, nltb→le}
+use lib.Dec.{T, lit≤}
 use lib.Pow.{pow-pos}
 use lib.Ieee.{Float, binary64, unlike, round, sum, add, sub, mul}
 use lib.Ieee.Scale.{grid, finite}
 use Rattle.exact.specs.Value.{Units}
-use Rattle.exact.specs.Near.{Within}
+use Rattle.exact.specs.Near.{Part}
+use Rattle.exact.specs.Signed.{Signed, Same, Apart, signed, times, plusS}
+use Rattle.exact.proofs.Order.{Stands, compared}
+use Rattle.exact.proofs.Sum.{sum-like, sum-first, sum-second, sum-none}
 use Rattle.exact.proofs.Operation.{mul-rounds, add-rounds, sub-rounds}
-use Rattle.exact.proofs.Rounding.{round-within, round-part}
-use Rattle.accuracy.proofs.Sizes.{dist}
+use Rattle.exact.proofs.Rounding.{round-within, round-part, round-off}
+use Rattle.exact.proofs.Few.{value-finite}
 
-abbrev pub pp : Bool → ℕ → ℕ
-pp s a = cond s 0 a
+finite-below : (s : Bool) (a c : ℕ) → 0 < c → a * 2 ^ 1074 ≤ 2 ^ 2090 * c → T (finite (round binary64 s a c))
+finite-below s a c C h =
+    let r = round-off s a c 2036 C h (lit≤ tt) in
+    value-finite (round binary64 s a c) s (r .0) (r .1)
 
-abbrev pub nn : Bool → ℕ → ℕ
-nn s a = cond s a 0
+-- ---- a sum: r is finite and within e / 2 ^ 53 units of x
+pub record Sum (r : Float) (x : Signed) (e : ℕ) : Type 0 where
+  pub sign : Bool
+  pub size : ℕ
+  pub value : Units r sign size
+  pub apart : Apart (times (2 ^ 53) (signed sign size)) (times (2 ^ 53) x) e
 
--- p - n is within e / 2 ^ 53 of p' - n'
-abbrev pub Close : ℕ → ℕ → ℕ → ℕ → ℕ → Type 0
-Close p n p' n' e = ((p + n') * 2 ^ 53 ≤ (p' + n) * 2 ^ 53 + e) × ((p' + n) * 2 ^ 53 ≤ (p + n') * 2 ^ 53 + e)
-
--- ---- the sum
-round-integer : (s : Bool) (n : ℕ) → T (finite (round binary64 s n (2 ^ 1074)))
-    → (v : ℕ) × Units (round binary64 s n (2 ^ 1074)) s v × (v * 2 ^ 53 ≤ n * 2 ^ 53 + n) × (n * 2 ^ 53 ≤ v * 2 ^ 53 + n)
-round-integer s n t = let r = round-part s n t in (grid binary64 n (2 ^ 1074), r .0, r .1 .over, r .1 .under)
-
-abbrev pub Sum : Float → Bool → ℕ → Bool → ℕ → Type 0
-Sum r s a t b = (z : Bool) × (v : ℕ) × Units r z v × Close (pp z v) (nn z v) (pp s a + pp t b) (nn s a + nn t b) (dist (pp s a + pp t b) (nn s a + nn t b))
-
-sum-same : (s : Bool) (a b : ℕ) → T (finite (round binary64 s (a + b) (2 ^ 1074))) → Sum (round binary64 s (a + b) (2 ^ 1074)) s a s b
-sum-same true a b t = let k = round-integer true (a + b) t in (true, k .0, k .1, (omega (arith, k .2, k .3), omega (arith, k .2, k .3)))
-sum-same false a b t = let k = round-integer false (a + b) t in (false, k .0, k .1, (omega (arith, k .2, k .3), omega (arith, k .2, k .3)))
-
--- the first is negative
-sum-np : (z : Bool) (a b : ℕ) → (T z → a < b) → (T (not z) → b ≤ a)
-    → T (finite (cond z (round binary64 false (b - a) (2 ^ 1074)) (round binary64 (true && ltb b a) (a - b) (2 ^ 1074))))
-    → Sum (cond z (round binary64 false (b - a) (2 ^ 1074)) (round binary64 (true && ltb b a) (a - b) (2 ^ 1074))) true a false b
-sum-np true a b h g t = let k = round-integer false (b - a) t in let l = h tt in (false, k .0, k .1, (omega (arith, k .2, k .3), omega (arith, k .2, k .3)))
-sum-np false a b h g t = sub-case (ltb b a) (ltb→lt b a) (nltb→le b a) t
+rounded : (z : Bool) (n e : ℕ) (x : Signed) → n ≤ e → e ≤ 2 ^ 2090 → Same (signed z n) x → Sum (round binary64 z n (2 ^ 1074)) x e
+rounded z n e x l h same =
+    let r = round-part z n (finite-below z n (2 ^ 1074) (pow-pos 1074) (mul-le-mul-right (2 ^ 1074) (le-trans l h))) in
+    record { sign = z; size = grid binary64 n (2 ^ 1074); value = r .0; apart = by z (grid binary64 n (2 ^ 1074)) n (r .1) same l }
   where
-    sub-case : (y : Bool) → (T y → b < a) → (T (not y) → a ≤ b) → T (finite (round binary64 (true && y) (a - b) (2 ^ 1074))) → Sum (round binary64 (true && y) (a - b) (2 ^ 1074)) true a false b
-    sub-case true p q t = let k = round-integer true (a - b) t in let l = p tt in (true, k .0, k .1, (omega (arith, k .2, k .3), omega (arith, k .2, k .3)))
-    sub-case false p q t = let k = round-integer false (a - b) t in let l = q tt in let l' = g tt in (false, k .0, k .1, (omega (arith, k .2, k .3), omega (arith, k .2, k .3)))
+    by : (z : Bool) (v n : ℕ) → Part v n → Same (signed z n) x → n ≤ e → Apart (times (2 ^ 53) (signed z v)) (times (2 ^ 53) x) e
+    by true v n p same l = record { over = omega (arith, p .over, p .under); under = omega (arith, p .over, p .under) }
+    by false v n p same l = record { over = omega (arith, p .over, p .under); under = omega (arith, p .over, p .under) }
 
-sum-pn : (z : Bool) (a b : ℕ) → (T z → a < b) → (T (not z) → b ≤ a)
-    → T (finite (cond z (round binary64 true (b - a) (2 ^ 1074)) (round binary64 (false && ltb b a) (a - b) (2 ^ 1074))))
-    → Sum (cond z (round binary64 true (b - a) (2 ^ 1074)) (round binary64 (false && ltb b a) (a - b) (2 ^ 1074))) false a true b
-sum-pn true a b h g t = let k = round-integer true (b - a) t in let l = h tt in (true, k .0, k .1, (omega (arith, k .2, k .3), omega (arith, k .2, k .3)))
-sum-pn false a b h g t = let k = round-integer false (a - b) t in let l = g tt in (false, k .0, k .1, (omega (arith, k .2, k .3), omega (arith, k .2, k .3)))
+module _ (a b : ℕ) (h : a + b ≤ 2 ^ 2090) where
+  like : (s t : Bool) → Bool·beq s t ≡ true → Same (signed s (a + b)) (plusS (signed s a) (signed t b)) → Sum (sum binary64 s a t b (2 ^ 1074)) (plusS (signed s a) (signed t b)) (a + b)
+  like s t e same =
+      subst (λ (r : Float). Sum r (plusS (signed s a) (signed t b)) (a + b)) (sym (sum-like binary64 s t a b (2 ^ 1074) e))
+      (rounded s (a + b) (a + b) (plusS (signed s a) (signed t b)) (le-refl (a + b)) h same)
 
-pub sum-near : (s : Bool) (a : ℕ) (t : Bool) (b : ℕ) → T (finite (sum binary64 s a t b (2 ^ 1074))) → Sum (sum binary64 s a t b (2 ^ 1074)) s a t b
-unfolding sum
-sum-near true a true b h = sum-same true a b h
-sum-near false a false b h = sum-same false a b h
-sum-near true a false b h = sum-np (ltb a b) a b (ltb→lt a b) (nltb→le a b) h
-sum-near false a true b h = sum-pn (ltb a b) a b (ltb→lt a b) (nltb→le a b) h
+  differ : (s t : Bool) (x : Signed) → Bool·beq s t ≡ false → (a < b → Same (signed t (b - a)) x) → (b < a → Same (signed s (a - b)) x) → (a ≡ b → Same (signed false 0) x)
+      → Sum (sum binary64 s a t b (2 ^ 1074)) x (a + b)
+  differ s t x e less more none = by (compare a b) (compared a b)
+    where
+      by : (o : Ordering) → Stands o a b → Sum (sum binary64 s a t b (2 ^ 1074)) x (a + b)
+      by Ordering·lt l = subst (λ (r : Float). Sum r x (a + b)) (sym (sum-second binary64 s t a b (2 ^ 1074) e l)) (rounded t (b - a) (a + b) x (omega arith) h (less l))
+      by Ordering·eq l = subst (λ (r : Float). Sum r x (a + b)) (sym (sum-none binary64 s t a b (2 ^ 1074) e l)) (rounded false 0 (a + b) x (omega arith) h (none l))
+      by Ordering·gt l = subst (λ (r : Float). Sum r x (a + b)) (sym (sum-first binary64 s t a b (2 ^ 1074) e l)) (rounded s (a - b) (a + b) x (omega arith) h (more l))
 
-pub add-near : (x y : Float) (s t : Bool) (a b : ℕ) → Units x s a → Units y t b → T (finite (add binary64 x y)) → Sum (add binary64 x y) s a t b
-add-near x y s t a b p q h =
-    let e = add-rounds binary64 x y s t a b (2 ^ 1074) (pow-pos 1074) p q in
-    subst (λ (r : Float). Sum r s a t b) (sym e) (sum-near s a t b (subst (λ (r : Float). T (finite r)) e h))
+  sum-near : (s t : Bool) → Sum (sum binary64 s a t b (2 ^ 1074)) (plusS (signed s a) (signed t b)) (a + b)
+  sum-near true true = like true true refl (omega arith)
+  sum-near false false = like false false refl (omega arith)
+  sum-near true false = differ true false (plusS (signed true a) (signed false b)) refl (λ l. omega arith) (λ l. omega arith) (λ l. omega arith)
+  sum-near false true = differ false true (plusS (signed false a) (signed true b)) refl (λ l. omega arith) (λ l. omega arith) (λ l. omega arith)
 
-pub sub-near : (x y : Float) (s t : Bool) (a b : ℕ) → Units x s a → Units y t b → T (finite (sub binary64 x y)) → Sum (sub binary64 x y) s a (not t) b
-sub-near x y s t a b p q h =
-    let e = sub-rounds binary64 x y s t a b (2 ^ 1074) (pow-pos 1074) p q in
-    subst (λ (r : Float). Sum r s a (not t) b) (sym e) (sum-near s a (not t) b (subst (λ (r : Float). T (finite r)) e h))
+  module _ (x y : Float) (s t : Bool) (v : Units x s a) (w : Units y t b) where
+    pub add-near : Sum (add binary64 x y) (plusS (signed s a) (signed t b)) (a + b)
+    add-near = subst (λ (r : Float). Sum r (plusS (signed s a) (signed t b)) (a + b)) (sym (add-rounds binary64 x y s t a b (2 ^ 1074) (pow-pos 1074) v w)) (sum-near s t)
 
--- ---- the product
-within-cancel : (v n c u : ℕ) → 0 < u → Within v (n * u) (c * u) → Within v n c
-within-cancel v n c u U h =
-    let m = max n (c * 2 ^ 52) in
-    let l : n * u ≤ m * u = mul-le-mul-right u (le-max n (c * 2 ^ 52)) in
-    let r : c * u * 2 ^ 52 ≤ m * u = le-trans (le-of-eq (mul-right-comm c u (2 ^ 52))) (mul-le-mul-right u (max-le n (c * 2 ^ 52))) in
-    let e1 : v * (c * u) ≡ v * c * u = sym (mul-assoc v c u) in
-    let a : v * c * u * 2 ^ 53 ≤ n * u * 2 ^ 53 + m * u = subst (λ (z : ℕ). z * 2 ^ 53 ≤ n * u * 2 ^ 53 + m * u) e1 (omega (arith, h .over)) in
-    let b : n * u * 2 ^ 53 ≤ v * c * u * 2 ^ 53 + m * u = subst (λ (z : ℕ). n * u * 2 ^ 53 ≤ z * 2 ^ 53 + m * u) e1 (omega (arith, h .under)) in
-    record { over = gone (v * c) n m u U a; under = gone n (v * c) m u U b }
+    pub sub-near : Sum (sub binary64 x y) (plusS (signed s a) (signed (not t) b)) (a + b)
+    sub-near = subst (λ (r : Float). Sum r (plusS (signed s a) (signed (not t) b)) (a + b)) (sym (sub-rounds binary64 x y s t a b (2 ^ 1074) (pow-pos 1074) v w)) (sum-near s (not t))
+
+-- ---- a product: r has the sign s, and its size in units is near n / 2 ^ 1074
+pub record Times (r : Float) (s : Bool) (n : ℕ) : Type 0 where
+  pub size : ℕ
+  pub value : Units r s size
+  pub over : size * 2 ^ 1074 * 2 ^ 53 ≤ n * 2 ^ 53 + (n + 2 ^ 1074 * 2 ^ 52)
+  pub under : n * 2 ^ 53 ≤ size * 2 ^ 1074 * 2 ^ 53 + (n + 2 ^ 1074 * 2 ^ 52)
+
+pub mul-near : (x y : Float) (s t : Bool) (a b : ℕ) → Units x s a → Units y t b → a * b ≤ 2 ^ 2080 * 2 ^ 1074 → Times (mul binary64 x y) (unlike s t) (a * b)
+mul-near x y s t a b v w h =
+    let d = 2 ^ 1074 in
+    let p = pow-pos 1074 in
+    let more : a * b ≤ 2 ^ 2090 * 2 ^ 1074 = le-trans h (lit≤ tt) in
+    let few : a * b * d ≤ 2 ^ 2090 * (d * d) = le-trans (mul-le-mul-right d more) (le-of-eq (mul-assoc (2 ^ 2090) d d)) in
+    let r = round-within (unlike s t) (a * b) (d * d) (mul-pos p p) (finite-below (unlike s t) (a * b) (d * d) (mul-pos p p) few) in
+    let n = grid binary64 (a * b) (d * d) in
+    record {
+      size = n;
+      value = subst (λ (z : Float). Units z (unlike s t) n) (sym (mul-rounds binary64 x y s t a d b d p p v w)) (r .0);
+      over = le-of-mul-le-mul-right {k = d} (up n (a * b) d (r .1 .over)) p;
+      under = le-of-mul-le-mul-right {k = d} (down n (a * b) d (r .1 .under)) p;
+    }
   where
-    le-max : (x y : ℕ) → x ≤ max x y
-    le-max x y = omega arith
+    most : (x y : ℕ) → max x y ≤ x + y
+    most x y = omega arith
 
-    max-le : (x y : ℕ) → y ≤ max x y
-    max-le x y = omega arith
+    up : (v n d : ℕ) → v * (d * d) * 2 ^ 53 ≤ n * d * 2 ^ 53 + max (n * d) (d * d * 2 ^ 52) → v * d * 2 ^ 53 * d ≤ (n * 2 ^ 53 + (n + d * 2 ^ 52)) * d
+    up v n d h = let l = most (n * d) (d * d * 2 ^ 52) in omega arith
 
-    gone : (x y m u : ℕ) → 0 < u → x * u * 2 ^ 53 ≤ y * u * 2 ^ 53 + m * u → x * 2 ^ 53 ≤ y * 2 ^ 53 + m
-    gone x y m u U h = le-of-mul-le-mul-right (le-trans (le-of-eq (mul-right-comm x (2 ^ 53) u)) (le-trans h (le-of-eq (ap (λ (z : ℕ). z + m * u) (mul-right-comm y u (2 ^ 53)) ∙ sym (add-mul (y * 2 ^ 53) m u))))) U
-
--- x * y is a * b / 2 ^ 2148 exactly. The rounded product v / 2 ^ 1074 is within a part in 2 ^ 53 of that, or within half a unit.
-pub mul-near : (x y : Float) (s t : Bool) (a b : ℕ) → Units x s a → Units y t b → T (finite (mul binary64 x y))
-    → (v : ℕ) × Units (mul binary64 x y) (unlike s t) v × Within v (a * b) (2 ^ 1074)
-mul-near x y s t a b p q h =
-    let e = mul-rounds binary64 x y s t a (2 ^ 1074) b (2 ^ 1074) (pow-pos 1074) (pow-pos 1074) p q in
-    let w = round-within (unlike s t) (a * b) (2 ^ 1074 * 2 ^ 1074) (mul-pos (pow-pos 1074) (pow-pos 1074)) (subst (λ (r : Float). T (finite r)) e h) in
-    let v = grid binary64 (a * b) (2 ^ 1074 * 2 ^ 1074) in
-    (v, subst (λ (r : Float). Units r (unlike s t) v) (sym e) (w .0), within-cancel v (a * b) (2 ^ 1074) (2 ^ 1074) (pow-pos 1074) (w .1))
+    down : (v n d : ℕ) → n * d * 2 ^ 53 ≤ v * (d * d) * 2 ^ 53 + max (n * d) (d * d * 2 ^ 52) → n * 2 ^ 53 * d ≤ (v * d * 2 ^ 53 + (n + d * 2 ^ 52)) * d
+    down v n d h = let l = most (n * d) (d * d * 2 ^ 52) in omega arith
