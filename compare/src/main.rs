@@ -1,6 +1,7 @@
 //! Our exported functions beside Rust's, or beside the true value, over many inputs: one file a subject. See compare/run and compare/bench.
 mod bench;
 mod cases;
+mod commands;
 mod fir;
 mod fixed;
 mod host;
@@ -25,6 +26,18 @@ fn main() -> ExitCode {
         }
         Some("replays") => {
             replays::print();
+            return ExitCode::SUCCESS;
+        }
+        Some("commands") => {
+            let program: Vec<String> = std::env::args().skip(2).collect();
+            return commands::compare(200, &program);
+        }
+        Some("stored_lists") => {
+            commands::stored(false);
+            return ExitCode::SUCCESS;
+        }
+        Some("stored_answers") => {
+            commands::stored(true);
             return ExitCode::SUCCESS;
         }
         Some(word) => match word.parse() {
