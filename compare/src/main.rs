@@ -43,7 +43,7 @@ fn main() -> ExitCode {
         Some(word) => match word.parse() {
             Ok(scale) => scale,
             Err(_) => {
-                eprintln!("usage: compare [SCALE | bench | replays]");
+                eprintln!("usage: compare [SCALE | bench | replays | commands PROGRAM.. | stored_lists | stored_answers]");
                 return ExitCode::from(2);
             }
         },

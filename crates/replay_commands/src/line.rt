@@ -1,10 +1,11 @@
 // One line read: what it adds to the tables, or the command that it is.
 ghost use mathlib.Core.Path.{_≡_};
 ghost use Prim.Native.Nat.{_≤_};
+ghost use Rattle.replay_commands.specs.Line.{oscIn, playIn};
+use super::words::choice;
 use super::words::float;
 use super::words::name;
 use super::words::readable;
-use super::words::word;
 use commands::command::Arranged;
 use commands::command::Command;
 use commands::command::Play;
@@ -61,7 +62,7 @@ fn words_of(kind: u8) -> usize
 pub(crate) fn tables_after(kind: u8, line: &[u8], t: Tables) -> Tables {
     if kind == b't' {
         let amp = Amplitude(float(line, 0));
-        return tables::make(amp, Time(float(line, 1)), word(line, 2) != 0).tables;
+        return tables::make(amp, Time(float(line, 1)), choice(line, 2)).tables;
     }
     if kind == b'c' {
         return tables::add_channel(t, name(line, 0), osc_of(line)).tables;
@@ -72,7 +73,9 @@ pub(crate) fn tables_after(kind: u8, line: &[u8], t: Tables) -> Tables {
     t
 }
 
-fn osc_of(line: &[u8]) -> OscState {
+fn osc_of(line: &[u8]) -> OscState
+    ensures { λ r. ⌜ r ≡ oscIn (now (line .entry)) ⌝ }
+{
     OscState {
         base: Frequency(float(line, 3)),
         delta: Frequency(float(line, 4)),
@@ -101,19 +104,29 @@ fn command_of(kind: u8, line: &[u8]) -> Command {
     }
 }
 
-fn play_of(line: &[u8]) -> Play {
+fn play_of(line: &[u8]) -> Play
+    ensures { λ r. ⌜ r ≡ playIn (now (line .entry)) ⌝ }
+{
     let channel = name(line, 2);
+    let shaped = choice(line, 5);
     let shape = name(line, 6);
+    let amplitude = Amplitude(float(line, 9));
+    let width = Time(float(line, 10));
+    let plateau = Time(float(line, 11));
+    let drag = float(line, 12);
+    let frequency = Frequency(float(line, 13));
+    let phase = Phase(float(line, 14));
+    let flexible = choice(line, 15);
     Play {
         channel,
-        shaped: word(line, 5) != 0,
+        shaped,
         shape,
-        amplitude: Amplitude(float(line, 9)),
-        width: Time(float(line, 10)),
-        plateau: Time(float(line, 11)),
-        drag: float(line, 12),
-        frequency: Frequency(float(line, 13)),
-        phase: Phase(float(line, 14)),
-        flexible: word(line, 15) != 0,
+        amplitude,
+        width,
+        plateau,
+        drag,
+        frequency,
+        phase,
+        flexible,
     }
 }

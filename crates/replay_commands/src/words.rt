@@ -2,6 +2,7 @@
 ghost use mathlib.Core.Path.{_≡_};
 ghost use Prim.Native.Nat.{_<_, _≤_, min};
 ghost use lib.ListN.{length};
+ghost use Rattle.replay_commands.specs.Line.{wordIn, floatIn, choiceIn, nameIn};
 use hex::Word;
 use lines::field::float_of;
 use lines::field::number_at;
@@ -9,29 +10,42 @@ use lines::text::line_end;
 use quant::name::Name;
 
 // Word k of a line; 0 where there is none.
-pub(crate) fn word(line: &[u8], k: usize) -> u64 {
-    if 16 < k {
-        return 0;
-    }
+pub(crate) fn word(line: &[u8], k: usize) -> u64
+    requires { ⌜ k ≤ 16 ⌝ }
+    ensures { λ r. ⌜ r ≡ wordIn (now (line .entry)) k ⌝ }
+{
     match number_at(line, 1 + 17 * k) {
         Word::Bits(w) => w,
         Word::Bad => 0,
     }
 }
 
-pub(crate) fn float(line: &[u8], k: usize) -> f64 {
+pub(crate) fn float(line: &[u8], k: usize) -> f64
+    requires { ⌜ k ≤ 16 ⌝ }
+    ensures { λ r. ⌜ r ≡ floatIn (now (line .entry)) k ⌝ }
+{
     float_of(word(line, k))
+}
+
+pub(crate) fn choice(line: &[u8], k: usize) -> bool
+    requires { ⌜ k ≤ 16 ⌝ }
+    ensures { λ r. ⌜ r ≡ choiceIn (now (line .entry)) k ⌝ }
+{
+    if word(line, k) == 0 {
+        return false;
+    }
+    true
 }
 
 // The name whose three numbers start at word k.
 pub(crate) fn name(line: &[u8], k: usize) -> Name
-    requires { ⌜ k ≤ 16 ⌝ }
+    requires { ⌜ k ≤ 14 ⌝ }
+    ensures { λ r. ⌜ r ≡ nameIn (now (line .entry)) k ⌝ }
 {
-    Name {
-        first: word(line, k),
-        second: word(line, k + 1),
-        len: word(line, k + 2) as usize,
-    }
+    let first = word(line, k);
+    let second = word(line, k + 1);
+    let len = word(line, k + 2) as usize;
+    Name { first, second, len }
 }
 
 // Whether a line is a letter and so many words.
