@@ -1,5 +1,5 @@
 -- THE ERROR OF THE CARRIER. Each computed carrier, k up to 65,535, is finite and lies within (k + 1) 2 ^ -49 m of the exact one, in each part: k + 1
--- products have been taken, and each adds an error of at most 2 ^ -50 m or so. The induction carries the square of the error. Assumes nothing.
+-- products have been taken, and each adds an error below 2 ^ -50 m. The induction carries the square of the error. Assumes nothing.
 use mathlib.Core.Path.{_≡_, refl, sym, ap, _∙_, subst}
 use Prim.Native.Nat.{ℕ, zero, suc, _+_, _-_, _*_, _^_, _≤_, _<_}
 use native.Mathlib.Nat.{le-refl, le-trans, le-of-eq, le-suc, le-add-left, le-add-right, add-le-add, add-mul, mul-add, mul-one, one-mul, mul-comm, mul-mul-mul-comm, mul-le-mul, mul-le-mul-left, mul-le-mul-right, le-of-mul-le-mul-left, pow-suc, pow-zero}

@@ -40,7 +40,7 @@ im-fits zero x y d = add-fits binary64 (mul binary64 (x .re) (y .im)) (mul binar
 im-fits (suc k) x y d = let z = carrierAfter k (timesC x y) d in add-fits binary64 (mul binary64 (z .re) (d .im)) (mul binary64 (z .im) (d .re))
 
 module _ (amp start rotation : Complex) (t : Tame amp start rotation) (len s n k : ℕ) (inside : s + n ≤ len) (below : k < n) (most : k ≤ 65535) where
-  -- the row of zeros, the carrier at the pulse's start, and the exact carrier's bound
+  -- the row of zeros, and the carrier at the pulse's start
   abbrev zeros : List Float
   zeros = replicate len nought
 
