@@ -4,8 +4,9 @@ use Prim.Native.Nat.{ℕ, suc, _+_, _*_, _≤_, _<_}
 use native.Mathlib.Omega.{arith}
 use native.Mathlib.Numerals.{add-one}
 use mathlib.Core.Path.{_≡_, refl, sym, ap, subst, _∙_}
-use mathlib.Core.Bool.{Bool, true, false, _&&_, not, cond, true≢false}
+use mathlib.Core.Bool.{Bool, true, false, not, cond, true≢false}
 use mathlib.Core.List.{List, [], _∷_, _++_}
+use borrow.Author.Tests.{not-true}
 use lib.Ieee.{Float}
 use lib.ListN.{length, take, drop, set, length-take, length-drop}
 use lib.Seq.{getD-set-same, take-suc-set, take-set-lt, drop-set-add}
@@ -37,6 +38,7 @@ use Rattle.commands.proofs.Cases.{Kind, step-kind}
 use Rattle.commands_laws.proofs.Own.{View, viewOf, Own, refuses, same, turns, puts, realize, own, own-step}
 use Rattle.commands_laws.proofs.Apart.{found-stays, same-to, same-then, unmoved}
 use Rattle.commands_laws.proofs.Calls.{fits}
+use Rattle.commands_laws.proofs.Zones.{and-both}
 use Rattle.commands_laws.proofs.Sound.{step-sound}
 
 -- ---- what holds of a pulse that is stored
@@ -209,14 +211,6 @@ is-for n (C.ShiftFreq m x) e f = same-exactly m n .0 f
 is-for n (C.SetFreq m x) e f = same-exactly m n .0 f
 is-for n (C.SwapPhase a b) e f = absurd (true≢false e)
 is-for n C.Barrier e f = absurd (true≢false (sym f))
-
-and-both : (x y : Bool) → (x && y) ≡ true → (x ≡ true) × (y ≡ true)
-and-both true y e = (refl, e)
-and-both false y e = absurd (true≢false (sym e))
-
-not-true : (b : Bool) → not b ≡ true → b ≡ false
-not-true true e = sym e
-not-true false e = refl
 
 -- two runs that end alike: both done, and the channel looks the same
 pub record EndAlike (n : Name) (i : ℕ) (r q : Ran) : Type 0 where

@@ -53,7 +53,7 @@ zone-stays i j many count p s apart most room = go (ltb j i) refl
 
 -- ---- bins
 
-and-both : (x y : Bool) → (x && y) ≡ true → (x ≡ true) × (y ≡ true)
+pub and-both : (x y : Bool) → (x && y) ≡ true → (x ≡ true) × (y ≡ true)
 and-both true y e = (refl, e)
 and-both false y e = let z : _≡_ {A = ℕ} 0 1 = cc in absurd (omega arith)
 
