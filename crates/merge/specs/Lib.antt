@@ -1,0 +1,4 @@
+pub mod Sum
+pub mod Join
+pub mod Taking
+pub mod Work
