@@ -1,0 +1,5 @@
+pub mod Spans
+pub mod Sizes
+pub mod Picking
+pub mod Marked
+pub mod Joining
