@@ -3,3 +3,6 @@ pub mod Sizes
 pub mod Picking
 pub mod Marked
 pub mod Joining
+pub mod Held
+pub mod Appeared
+pub mod Starting

@@ -1,2 +1,3 @@
 // From the lists of a channel to its rows. The Rust's `Sampler`, `merge_and_sample` and `sample_pulse_list`.
+mod bins;
 mod runs;
