@@ -6,3 +6,4 @@ pub mod Joining
 pub mod Held
 pub mod Appeared
 pub mod Starting
+pub mod Laid
