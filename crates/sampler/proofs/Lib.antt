@@ -7,3 +7,5 @@ pub mod Held
 pub mod Appeared
 pub mod Starting
 pub mod Laid
+pub mod Holdings
+pub mod Shaped
