@@ -9,3 +9,5 @@ pub mod Starting
 pub mod Laid
 pub mod Holdings
 pub mod Shaped
+pub mod Lengths
+pub mod Binned
