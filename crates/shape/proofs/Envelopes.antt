@@ -1,10 +1,11 @@
 -- What the call's definition says: how many points there are, what stays of the scratch, and that a refused call leaves it as it came. Assumes nothing.
-use Prim.Native.Nat.{ℕ, zero, suc, _+_, _-_, _<_}
+use Prim.Native.Nat.{ℕ, zero, suc, _+_, _-_, _≤_, _<_}
 use native.Mathlib.Omega.{arith}
 use native.Mathlib.Nat.{le-of-suc-le-suc, not-suc-le-zero}
 use mathlib.Core.Path.{_≡_, refl, ap, _∙_}
 use mathlib.Core.Bool.{Bool, true, false, cond}
 use mathlib.Core.List.{List, _++_}
+use mathlib.Core.Logic.{_⊎_, inl, inr}
 use lib.ListN.{length, take, drop, length-drop, getD, replicate, length-append, length-replicate}
 use lib.Seq.{take-at, drop-at}
 use lib.Dec.{ltb}
@@ -19,7 +20,7 @@ use Rattle.shape.specs.Hann.{one, hannOf}
 use Rattle.shape.specs.Segment.{pointAt, values}
 use Rattle.shape.specs.Parts.{nought, indexAt, t1, t3, unbroken, broken, inOrder, partedOf}
 use Rattle.shape.specs.Envelope.{shapeOf, finitePoints, filledOf, envelopedOf, scratchAfter, Fitting}
-use Rattle.shape.proofs.Filling.{values-length}
+use Rattle.shape.proofs.Filling.{values-length, within-fits}
 
 -- the value at point k of a segment
 pub values-at : (n i : ℕ) (x dx : Float) (k : ℕ) → k < n → getD (values n i x dx) k nan ≡ hannOf (pointAt x dx (i + k))
@@ -60,6 +61,18 @@ refused-stays (parted.Within p) old r e = by (finitePoints p) e
     by false e = refl
 refused-stays (parted.Refused s) old r e = refl
 
+-- accepted, the envelope has no more points than there is room for
+pub points-fit : (w p o rate dt : Float) (room n : ℕ) → envelopedOf (partedOf w p o rate dt room) ≡ Points n → n ≤ room
+points-fit w p o rate dt room n e = by (partedOf w p o rate dt room) refl e
+  where
+    within : (q : Parts) (b : Bool) → Fitting q room → cond b (Points (q .length)) (Refused NotFinite) ≡ Points n → n ≤ room
+    within q true fit e = let z : q .length ≡ n = cc in omega (arith, z, fit .room)
+    within q false fit e = let z : _≡_ {A = ℕ} 0 1 = cc in absurd (omega arith)
+
+    by : (q : Parted) → partedOf w p o rate dt room ≡ q → envelopedOf q ≡ Points n → n ≤ room
+    by (parted.Within q) f e = within q (finitePoints q) (within-fits room q w p o rate dt f) e
+    by (parted.Refused r) f e = let z : _≡_ {A = ℕ} 0 1 = cc in absurd (omega arith)
+
 -- ---- 11 is given exactly where t1 < 0 (that it is given there is `too-short` of proofs/Laying.antt)
 not-eleven : (p : Parts) → filledOf p ≡ Refused ShapeTooShort → ⊥
 not-eleven p e = by (finitePoints p) e
@@ -83,3 +96,27 @@ eleven w p o rate dt room e =
     by u v false false true d e = absurd (not-eleven u e)
     by u v false false false true e = absurd (not-eleven v e)
     by u v false false false false e = let z : _≡_ {A = ℕ} 0 1 = cc in absurd (omega arith)
+
+-- ---- no other number than 11, 12 and 8 is given
+filled-refused : (p : Parts) (r : Refusal) → filledOf p ≡ Refused r → (r ≡ ShapeTooShort) ⊎ ((r ≡ EndPastRow) ⊎ (r ≡ NotFinite))
+filled-refused p r e = by (finitePoints p) e
+  where
+    by : (b : Bool) → cond b (Points (p .length)) (Refused NotFinite) ≡ Refused r → (r ≡ ShapeTooShort) ⊎ ((r ≡ EndPastRow) ⊎ (r ≡ NotFinite))
+    by true e = let z : _≡_ {A = ℕ} 0 1 = cc in absurd (omega arith)
+    by false e = inr (inr (cc))
+
+pub refused-by : (w p o rate dt : Float) (room : ℕ) (r : Refusal) → envelopedOf (partedOf w p o rate dt room) ≡ Refused r → (r ≡ ShapeTooShort) ⊎ ((r ≡ EndPastRow) ⊎ (r ≡ NotFinite))
+unfolding partedOf
+refused-by w p o rate dt room r e =
+    let n = indexAt (t3 w p o rate dt) rate in
+    let v = broken w p o rate dt n in
+    by (unbroken w p o rate dt n) v (lt (t1 w p o rate dt) nought) (ltb room n) (eq p nought) (inOrder (v .start) (v .end) n) e
+  where
+    by : (u v : Parts) (a b c d : Bool)
+        → envelopedOf (cond a (parted.Refused ShapeTooShort) (cond b (parted.Refused EndPastRow) (cond c (parted.Within u) (cond d (parted.Within v) (parted.Refused EndPastRow))))) ≡ Refused r
+        → (r ≡ ShapeTooShort) ⊎ ((r ≡ EndPastRow) ⊎ (r ≡ NotFinite))
+    by u v true b c d e = inl (cc)
+    by u v false true c d e = inr (inl (cc))
+    by u v false false true d e = filled-refused u r e
+    by u v false false false true e = filled-refused v r e
+    by u v false false false false e = inr (inl (cc))

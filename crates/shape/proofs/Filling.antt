@@ -3,21 +3,20 @@ use Prim.Native.Nat.{ℕ, zero, suc, _+_, _-_, _≤_, _<_}
 use native.Mathlib.Omega.{arith}
 use native.Mathlib.Nat.{le-refl, le-trans, le-of-lt}
 use mathlib.Core.Path.{_≡_, refl, sym, ap, subst, _∙_}
-use mathlib.Core.Bool.{Bool, true, false, _&&_, cond, and-false}
+use mathlib.Core.Bool.{Bool, true, false, _&&_, cond}
 use mathlib.Core.List.{List, [], _++_, append-assoc}
 use lib.Dec.{leb, ltb}
 use lib.ListN.{length, drop, replicate, length-append, length-drop, length-replicate}
 use lib.Seq.{take-at, drop-at, drop-drop}
 use lib.Ieee.{Float, lt, eq}
-use borrow.Author.Tests.{leb-true, leb-false, ltb-false}
+use borrow.Author.Tests.{leb-true, leb-false, le-leb, ltb-false}
 use borrow.Rule.Slice.PartMut.{midOf, putMid, post-is, mid-len}
 use Rattle.quant.specs.declared.refusal.Refusal.the-variants.{ShapeTooShort, EndPastRow, NotFinite}
-use Rattle.rows.specs.Rows.{allFinite}
 use Rattle.shape.specs.declared.parts.Parts.{Parts}
 use Rattle.shape.specs.declared.parts.Parted.the-variants as parted
 use Rattle.shape.specs.declared.envelope.Enveloped.the-variants.{Points, Refused}
 use Rattle.shape.specs.Hann.{one}
-use Rattle.shape.specs.Segment.{points, values}
+use Rattle.shape.specs.Segment.{values}
 use Rattle.shape.specs.Parts.{nought, indexAt, t1, t3, unbroken, broken, inOrder, partedOf}
 use Rattle.shape.specs.Envelope.{least, limitOf, shapeOf, finitePoints, filledOf, scratchFilled, Fitting}
 
@@ -100,18 +99,6 @@ module _ (p : Parts) (old : List Float) where
   pub refused : finitePoints p ≡ false → (Refused NotFinite ≡ filledOf p) × (old ≡ scratchFilled p old)
   refused e = (rw e, rw e)
 
-  pub head-judged : allFinite (points (p .start) 0 (p .x0) (p .dx)) ≡ false → finitePoints p ≡ false
-  unfolding finitePoints
-  head-judged e = rw e
-
-  pub tail-judged : allFinite (points (p .length - p .end) 0 (p .x2) (p .dx)) ≡ false → finitePoints p ≡ false
-  unfolding finitePoints
-  tail-judged e = rw (e, and-false (allFinite (points (p .start) 0 (p .x0) (p .dx))))
-
-  pub judged : allFinite (points (p .start) 0 (p .x0) (p .dx)) ≡ true → allFinite (points (p .length - p .end) 0 (p .x2) (p .dx)) ≡ true → finitePoints p ≡ true
-  unfolding finitePoints
-  judged e f = rw (e, f)
-
   pub filled : finitePoints p ≡ true → (xs : List Float) → xs ≡ shapeOf p ++ drop (p .length) old → (Points (p .length) ≡ filledOf p) × (xs ≡ scratchFilled p old)
   filled e xs is = (rw e, rw (e, is))
 
@@ -145,14 +132,14 @@ module _ (room : ℕ) (q : Parts) where
 pub fits-more : (q : Parts) (n m : ℕ) → n ≤ m → Fitting q n → Fitting q m
 fits-more q n m h fit = record { head = fit .head; tail = fit .tail; room = omega (arith, fit .room) }
 
-least-left : (a b : ℕ) → least a b ≤ a
+pub least-left : (a b : ℕ) → least a b ≤ a
 least-left a b = by (leb a b) (leb-false a b)
   where
     by : (c : Bool) → (c ≡ false → b < a) → cond c a b ≤ a
     by true f = le-refl a
     by false f = le-of-lt (f refl)
 
-least-right : (a b : ℕ) → least a b ≤ b
+pub least-right : (a b : ℕ) → least a b ≤ b
 least-right a b = by (leb a b) (leb-true a b)
   where
     by : (c : Bool) → (c ≡ true → a ≤ b) → cond c a b ≤ b
@@ -164,3 +151,7 @@ limit-scratch room n = le-trans (least-left (least room n) 65536) (least-right r
 
 pub limit-row : (room n : ℕ) → limitOf room n ≤ 65536
 limit-row room n = least-right (least room n) 65536
+
+-- with a scratch no shorter than the room, `envelope` has the room that `measure` has
+pub limit-same : (room n : ℕ) → room ≤ n → limitOf room n ≡ least room 65536
+limit-same room n h = rw (le-leb room n h)

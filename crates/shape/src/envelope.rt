@@ -2,13 +2,14 @@
 ghost use mathlib.Core.Path.{_≡_};
 ghost use lib.ListN.{length};
 ghost use Rattle.shape.specs.Parts.{partedOf};
-ghost use Rattle.shape.specs.Envelope.{least, limitOf, envelopedOf, scratchAfter, filledOf, scratchFilled, Fitting};
+ghost use Rattle.shape.specs.Envelope.{least, limitOf, envelopedOf, scratchAfter, filledOf, scratchFilled, finitePoints, Fitting};
 use super::parts::Parted;
 use super::parts::Parts;
 use super::parts::lay_out;
 use super::segment::hold;
 use super::segment::points_finite;
 use super::segment::sample;
+use quant::judge::both;
 use quant::quantity::Frequency;
 use quant::quantity::Time;
 use quant::refusal::Refusal;
@@ -41,6 +42,33 @@ pub fn envelope(
     }
 }
 
+// How many points the envelope has, or its refusal: what `envelope` answers with a scratch no shorter than the room.
+pub fn measure(
+    width: Time,
+    plateau: Time,
+    offset: f64,
+    rate: Frequency,
+    dt: Time,
+    room: usize,
+) -> Enveloped
+    ensures { λ r. ⌜ r ≡ envelopedOf (partedOf (width .0) (plateau .0) offset (rate .0) (dt .0) (least room 65536)) ⌝ }
+{
+    match lay_out(width, plateau, offset, rate, dt, smaller(room, 65536)) {
+        Parted::Within(p) => count(p),
+        Parted::Refused(r) => Enveloped::Refused(r),
+    }
+}
+
+fn count(p: Parts) -> Enveloped
+    requires { ⌜ Fitting p 65536 ⌝ }
+    ensures { λ r. ⌜ r ≡ filledOf p ⌝ }
+{
+    if finite_points(p) {
+        return Enveloped::Points(p.length);
+    }
+    Enveloped::Refused(Refusal::NotFinite)
+}
+
 // All points are judged before the first is stored.
 fn fill(p: Parts, scratch: &mut [f64]) -> Enveloped
     requires { ⌜ Fitting p (length (now scratch)) × Fitting p 65536 ⌝ }
@@ -50,16 +78,23 @@ fn fill(p: Parts, scratch: &mut [f64]) -> Enveloped
     let start = p.start;
     let end = p.end;
     let length = p.length;
-    if !points_finite(p.x0, p.dx, start) {
-        return Enveloped::Refused(Refusal::NotFinite);
-    }
-    if !points_finite(p.x2, p.dx, length - end) {
+    if !finite_points(p) {
         return Enveloped::Refused(Refusal::NotFinite);
     }
     sample(&mut scratch[0..start], p.x0, p.dx);
     hold(&mut scratch[start..end]);
     sample(&mut scratch[end..length], p.x2, p.dx);
     Enveloped::Points(length)
+}
+
+fn finite_points(p: Parts) -> bool
+    requires { ⌜ Fitting p 65536 ⌝ }
+    ensures { λ r. ⌜ r ≡ finitePoints p ⌝ }
+{
+    both(
+        points_finite(p.x0, p.dx, p.start),
+        points_finite(p.x2, p.dx, p.length - p.end),
+    )
 }
 
 fn smaller(a: usize, b: usize) -> usize

@@ -61,6 +61,13 @@ pub fn lay_out(
     three_parts(width.0, plateau.0, offset, rate.0, dt.0, length)
 }
 
+// How many samples begin in a time: ceil(t*rate).
+pub fn samples(t: Time, rate: Frequency) -> usize
+    ensures { λ r. ⌜ r ≡ indexAt (t .0) (rate .0) ⌝ }
+{
+    index(t.0, rate.0)
+}
+
 // With a plateau, where t1 is not below 0 and the length is known.
 fn three_parts(width: f64, plateau: f64, offset: f64, rate: f64, dt: f64, length: usize) -> Parted
     ensures { λ r. ⌜ r ≡ ordered (broken width plateau offset rate dt length) ⌝ }

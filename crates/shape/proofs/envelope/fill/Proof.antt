@@ -3,86 +3,82 @@ use borrow.Author.Needs.{needs}
 use native.Mathlib.Omega.{arith}
 use mathlib.Core.Path.{_∙_}
 use Rattle.quant.proofs.Judging.{taken, passed}
-use Rattle.shape.proofs.Filling.{refused, head-judged, tail-judged, judged, filled, all-laid}
+use Rattle.shape.proofs.Filling.{refused, filled, all-laid}
 use Rattle.shape.proofs.envelope.fill.Statement.{statement}
 use Rattle.shape.proofs.envelope.fill.Tie as tie
 
-points-finite-requires : tie.Need-points-finite-requires
-points-finite-requires c κs = omega (arith, c .before .pre .1 .head, c .before .pre .1 .tail, c .before .pre .1 .room)
+finite-points-requires : tie.Need-finite-points-requires
+finite-points-requires c κs = c .before .pre .1
 
 returns : tie.Need-returns
-returns c = refused (c .before .before .before .args .p) (c .before .before .before .args .scratch .now) (head-judged (c .before .before .before .args .p) (c .before .before .before .args .scratch .now) (taken (c .before .points-finite .result) _ (c .before .points-finite .ensures) (c .if1 .taken)))
-
-sub-points-finite : tie.Need-sub-points-finite
-sub-points-finite c = omega (arith, c .before .before .before .pre .0 .head, c .before .before .before .pre .0 .tail, c .before .before .before .pre .0 .room)
-
-points-finite-requires-2 : tie.Need-points-finite-requires-2
-points-finite-requires-2 c κs = omega (arith, c .before .before .before .pre .1 .head, c .before .before .before .pre .1 .tail, c .before .before .before .pre .1 .room)
-
-returns-2 : tie.Need-returns-2
-returns-2 c = refused (c .before .before .before .before .before .args .p) (c .before .before .before .before .before .args .scratch .now) (tail-judged (c .before .before .before .before .before .args .p) (c .before .before .before .before .before .args .scratch .now) (taken (c .before .points-finite2 .result) _ (c .before .points-finite2 .ensures) (c .if2 .taken)))
+returns c =
+    let d = c .before in
+    let a = d .before .before .args in
+    refused (a .p) (a .scratch .now) (taken (d .finite-points .result) _ (d .finite-points .ensures) (c .if1 .taken))
 
 sub-sample : tie.Need-sub-sample
-sub-sample c = omega (arith, c .before .before .before .before .before .pre .0 .head, c .before .before .before .before .before .pre .0 .tail, c .before .before .before .before .before .pre .0 .room)
+sub-sample c = let fit = c .before .before .before .pre .0 in omega (arith, fit .head, fit .tail, fit .room)
 
 part-sample-start : tie.Need-part-sample-start
-part-sample-start c = omega (arith, c .before .before .before .before .before .pre .0 .head, c .before .before .before .before .before .pre .0 .tail, c .before .before .before .before .before .pre .0 .room)
+part-sample-start c = let fit = c .before .before .before .pre .0 in omega (arith, fit .head, fit .tail, fit .room)
 
 part-sample-end : tie.Need-part-sample-end
-part-sample-end c = omega (arith, c .before .before .before .before .before .pre .0 .head, c .before .before .before .before .before .pre .0 .tail, c .before .before .before .before .before .pre .0 .room)
+part-sample-end c = let fit = c .before .before .before .pre .0 in omega (arith, fit .head, fit .tail, fit .room)
 
 sample-requires : tie.Need-sample-requires
 sample-requires c κs = search needs
 
 mul-hold : tie.Need-mul-hold
-mul-hold c = omega (arith, c .before .before .before .before .before .before .before .before .before .pre .0 .head, c .before .before .before .before .before .before .before .before .before .pre .0 .tail, c .before .before .before .before .before .before .before .before .before .pre .0 .room)
+mul-hold c = let fit = c .before .before .before .before .before .before .before .pre .0 in omega (arith, fit .head, fit .tail, fit .room)
 
 sub-hold : tie.Need-sub-hold
-sub-hold c = omega (arith, c .before .before .before .before .before .before .before .before .before .pre .0 .head, c .before .before .before .before .before .before .before .before .before .pre .0 .tail, c .before .before .before .before .before .before .before .before .before .pre .0 .room)
+sub-hold c = let fit = c .before .before .before .before .before .before .before .pre .0 in omega (arith, fit .head, fit .tail, fit .room)
 
 part-hold-start : tie.Need-part-hold-start
-part-hold-start c = omega (arith, c .before .before .before .before .before .before .before .before .before .pre .0 .head, c .before .before .before .before .before .before .before .before .before .pre .0 .tail, c .before .before .before .before .before .before .before .before .before .pre .0 .room)
+part-hold-start c = let fit = c .before .before .before .before .before .before .before .pre .0 in omega (arith, fit .head, fit .tail, fit .room)
 
 part-hold-end : tie.Need-part-hold-end
-part-hold-end c = omega (arith, c .before .before .before .before .before .before .before .before .before .pre .0 .head, c .before .before .before .before .before .before .before .before .before .pre .0 .tail, c .before .before .before .before .before .before .before .before .before .pre .0 .room)
+part-hold-end c = let fit = c .before .before .before .before .before .before .before .pre .0 in omega (arith, fit .head, fit .tail, fit .room)
 
 hold-requires : tie.Need-hold-requires
 hold-requires c κs = search needs
 
 mul-sample : tie.Need-mul-sample
-mul-sample c = omega (arith, c .before .before .before .before .before .before .before .before .before .before .before .before .before .pre .0 .head, c .before .before .before .before .before .before .before .before .before .before .before .before .before .pre .0 .tail, c .before .before .before .before .before .before .before .before .before .before .before .before .before .pre .0 .room)
+mul-sample c = let fit = c .before .before .before .before .before .before .before .before .before .before .before .pre .0 in omega (arith, fit .head, fit .tail, fit .room)
 
 sub-sample-2 : tie.Need-sub-sample-2
-sub-sample-2 c = omega (arith, c .before .before .before .before .before .before .before .before .before .before .before .before .before .pre .0 .head, c .before .before .before .before .before .before .before .before .before .before .before .before .before .pre .0 .tail, c .before .before .before .before .before .before .before .before .before .before .before .before .before .pre .0 .room)
+sub-sample-2 c = let fit = c .before .before .before .before .before .before .before .before .before .before .before .pre .0 in omega (arith, fit .head, fit .tail, fit .room)
 
 part-sample-start-2 : tie.Need-part-sample-start-2
-part-sample-start-2 c = omega (arith, c .before .before .before .before .before .before .before .before .before .before .before .before .before .pre .0 .head, c .before .before .before .before .before .before .before .before .before .before .before .before .before .pre .0 .tail, c .before .before .before .before .before .before .before .before .before .before .before .before .before .pre .0 .room)
+part-sample-start-2 c = let fit = c .before .before .before .before .before .before .before .before .before .before .before .pre .0 in omega (arith, fit .head, fit .tail, fit .room)
 
 part-sample-end-2 : tie.Need-part-sample-end-2
-part-sample-end-2 c = omega (arith, c .before .before .before .before .before .before .before .before .before .before .before .before .before .pre .0 .head, c .before .before .before .before .before .before .before .before .before .before .before .before .before .pre .0 .tail, c .before .before .before .before .before .before .before .before .before .before .before .before .before .pre .0 .room)
+part-sample-end-2 c = let fit = c .before .before .before .before .before .before .before .before .before .before .before .pre .0 in omega (arith, fit .head, fit .tail, fit .room)
 
 sample-requires-2 : tie.Need-sample-requires-2
 sample-requires-2 c κs = search needs
 
 same-length : tie.Need-same-length
-same-length c = c .before .scratch3 .given .1 ∙ c .before .before .before .before .before .scratch2 .given .1 ∙ c .before .before .before .before .before .before .before .before .before .scratch .given .1
+same-length c =
+    let d = c .before .before .before .before .before in
+    c .before .scratch3 .given .1 ∙ d .scratch2 .given .1 ∙ d .before .before .before .before .scratch .given .1
 
-returns-3 : tie.Need-returns-3
-returns-3 c =
-    let p = c .before .before .before .before .before .before .before .before .before .before .before .before .before .before .before .before .before .args .p in
-    let old = c .before .before .before .before .before .before .before .before .before .before .before .before .before .before .before .before .before .args .scratch .now in
-    let fine = judged p old (passed (c .before .before .before .before .before .before .before .before .before .before .before .before .before .before .before .points-finite .result) _ (c .before .before .before .before .before .before .before .before .before .before .before .before .before .before .before .points-finite .ensures) (c .before .before .before .before .before .before .before .before .before .before .before .before .before .before .if1 .left)) (passed (c .before .before .before .before .before .before .before .before .before .before .before .before .before .points-finite2 .result) _ (c .before .before .before .before .before .before .before .before .before .before .before .before .before .points-finite2 .ensures) (c .before .before .before .before .before .before .before .before .before .before .before .before .if2 .left)) in
-    filled p old fine _ (all-laid p old (c .before .before .before .before .before .before .before .before .before .before .before .before .before .before .before .before .before .pre .0) _ _ _ (c .before .before .before .before .before .before .before .before .before .before .sample .ensures) (c .before .before .before .before .before .before .hold .ensures) (c .before .before .sample2 .ensures))
+returns-2 : tie.Need-returns-2
+returns-2 c =
+    let k = c .before .before .before .before .before .before .before .before .before .before in
+    let d = k .before .before .before in
+    let start = d .before .before in
+    let p = start .args .p in
+    let old = start .args .scratch .now in
+    let fine = passed (d .finite-points .result) _ (d .finite-points .ensures) (k .before .before .if1 .left) in
+    filled p old fine _ (all-laid p old (start .pre .0) _ _ _ (k .sample .ensures) (c .before .before .before .before .before .before .hold .ensures) (c .before .before .sample2 .ensures))
 
 pub fill-spec : {M : Type 1} → statement M
 fill-spec =
     tie.close
     (tie.spec
-    points-finite-requires
+    finite-points-requires
     returns
-    sub-points-finite
-    points-finite-requires-2
-    returns-2
     sub-sample
     part-sample-start
     part-sample-end
@@ -98,4 +94,4 @@ fill-spec =
     part-sample-end-2
     sample-requires-2
     same-length
-    returns-3)
+    returns-2)

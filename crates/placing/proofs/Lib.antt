@@ -1,0 +1,5 @@
+pub mod Turning
+pub mod Ways
+pub mod Accepted
+pub mod Numbers
+pub mod Examples

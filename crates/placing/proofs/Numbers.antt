@@ -1,0 +1,149 @@
+-- The numbers 9 to 12 are given exactly when document 01's table says (8 is given in every other refusal: proofs/Ways.antt). Read off the ways that a
+-- pulse is judged; an envelope is refused by 11, 12 or 8 only. Assumes nothing.
+use Prim.Native.Nat.{ℕ, _+_, _-_, _≤_, _<_}
+use native.Mathlib.Omega.{arith}
+use mathlib.Core.Path.{_≡_, refl, sym, ap, _∙_}
+use mathlib.Core.Bool.{true}
+use mathlib.Core.Logic.{_⊎_, inl, inr}
+use lib.Ieee.{Float, lt}
+use Rattle.quant.specs.declared.aligned.Placed.the-variants as placed
+use Rattle.quant.specs.declared.refusal.Refusal.{Refusal}
+use Rattle.quant.specs.declared.refusal.Refusal.the-variants.{NotFinite, BeforeRow, StartPastRow, ShapeTooShort, EndPastRow}
+use Rattle.quant.specs.declared.settings.Settings.{Settings}
+use Rattle.shape.specs.declared.envelope.Enveloped.the-variants as enveloped
+use Rattle.shape.specs.Parts.{nought, t1}
+use Rattle.shape.specs.Envelope.{envelopedOf, least}
+use Rattle.shape.proofs.Envelopes.{eleven, refused-by}
+use Rattle.shape.proofs.Laying.{too-short}
+use Rattle.pulse.specs.declared.bin.Bin.{Bin}
+use Rattle.pulse.specs.declared.envelope.Shape.the-variants.{Plain, Hann}
+use Rattle.pulse.specs.declared.list.Pulse.{Pulse}
+use Rattle.placing.specs.declared.Judged.{Judged}
+use Rattle.placing.specs.declared.Judged.the-variants.{Refused}
+use Rattle.placing.specs.Judged.{placedAt, countOf, measuredAt, judged}
+use Rattle.placing.proofs.Ways.{Inside, Way, no-index, before, beyond, past, unshaped, over, plain-rest, curved-rest, flat, curved, way, way-given}
+
+module _ (s : Settings) (b : Bin) (p : Pulse) (len : ℕ) where
+  -- an envelope that is refused
+  measured-by : (o : Float) (room : ℕ) (r : Refusal) → measuredAt s b o room ≡ enveloped.Refused r → (r ≡ ShapeTooShort) ⊎ ((r ≡ EndPastRow) ⊎ (r ≡ NotFinite))
+  measured-by o room r m = refused-by (b .envelope .width .0) (b .envelope .plateau .0) o (s .rate .0) (s .dt .0) (least room 65536) r m
+
+  not-nine : (r : Refusal) → (r ≡ ShapeTooShort) ⊎ ((r ≡ EndPastRow) ⊎ (r ≡ NotFinite)) → _≡_ {A = Judged} (Refused r) (Refused BeforeRow) → ⊥
+  not-nine r (inl h) e = let z : _≡_ {A = ℕ} 0 1 = cc in omega arith
+  not-nine r (inr (inl h)) e = let z : _≡_ {A = ℕ} 0 1 = cc in omega arith
+  not-nine r (inr (inr h)) e = let z : _≡_ {A = ℕ} 0 1 = cc in omega arith
+
+  not-ten : (r : Refusal) → (r ≡ ShapeTooShort) ⊎ ((r ≡ EndPastRow) ⊎ (r ≡ NotFinite)) → _≡_ {A = Judged} (Refused r) (Refused StartPastRow) → ⊥
+  not-ten r (inl h) e = let z : _≡_ {A = ℕ} 0 1 = cc in omega arith
+  not-ten r (inr (inl h)) e = let z : _≡_ {A = ℕ} 0 1 = cc in omega arith
+  not-ten r (inr (inr h)) e = let z : _≡_ {A = ℕ} 0 1 = cc in omega arith
+
+  -- ---- 9: the aligned start is below 0
+  pub nine-given : placedAt s p ≡ placed.Before → judged s b p len ≡ Refused BeforeRow
+  nine-given g = way-given s b p len (Refused BeforeRow) (before g refl)
+
+  pub nine : judged s b p len ≡ Refused BeforeRow → placedAt s p ≡ placed.Before
+  nine e = by (way s b p len (Refused BeforeRow) e)
+    where
+      by : Way s b p len (Refused BeforeRow) → placedAt s p ≡ placed.Before
+      by (no-index g e) = let z : _≡_ {A = ℕ} 0 1 = cc in absurd (omega arith)
+      by (before g e) = g
+      by (beyond g e) = let z : _≡_ {A = ℕ} 0 1 = cc in absurd (omega arith)
+      by (past w o g h e) = let z : _≡_ {A = ℕ} 0 1 = cc in absurd (omega arith)
+      by (unshaped k r z m e) = absurd (not-nine r (measured-by (k .offset) (len - k .start) r m) e)
+      by (over k z h e) = let z : _≡_ {A = ℕ} 0 1 = cc in absurd (omega arith)
+      by (plain-rest k z h m e) = let z : _≡_ {A = ℕ} 0 1 = cc in absurd (omega arith)
+      by (curved-rest k n z m h e) = let z : _≡_ {A = ℕ} 0 1 = cc in absurd (omega arith)
+      by (flat k z h m e) = let z : _≡_ {A = ℕ} 0 1 = cc in absurd (omega arith)
+      by (curved k n z m h e) = let z : _≡_ {A = ℕ} 0 1 = cc in absurd (omega arith)
+
+  -- ---- 10: the start is not below the row length, or is from 2^64 on
+  pub record Past : Type 0 where
+    pub start : ℕ
+    pub offset : Float
+    pub placed : placedAt s p ≡ placed.Start start offset
+    pub past : len ≤ start
+
+  pub ten-given : (placedAt s p ≡ placed.Beyond) ⊎ Past → judged s b p len ≡ Refused StartPastRow
+  ten-given (inl g) = way-given s b p len (Refused StartPastRow) (beyond g refl)
+  ten-given (inr h) = way-given s b p len (Refused StartPastRow) (past (h .start) (h .offset) (h .placed) (h .past) refl)
+
+  pub ten : judged s b p len ≡ Refused StartPastRow → (placedAt s p ≡ placed.Beyond) ⊎ Past
+  ten e = by (way s b p len (Refused StartPastRow) e)
+    where
+      by : Way s b p len (Refused StartPastRow) → (placedAt s p ≡ placed.Beyond) ⊎ Past
+      by (no-index g e) = let z : _≡_ {A = ℕ} 0 1 = cc in absurd (omega arith)
+      by (before g e) = let z : _≡_ {A = ℕ} 0 1 = cc in absurd (omega arith)
+      by (beyond g e) = inl g
+      by (past w o g h e) = inr (record { start = w; offset = o; placed = g; past = h })
+      by (unshaped k r z m e) = absurd (not-ten r (measured-by (k .offset) (len - k .start) r m) e)
+      by (over k z h e) = let z : _≡_ {A = ℕ} 0 1 = cc in absurd (omega arith)
+      by (plain-rest k z h m e) = let z : _≡_ {A = ℕ} 0 1 = cc in absurd (omega arith)
+      by (curved-rest k n z m h e) = let z : _≡_ {A = ℕ} 0 1 = cc in absurd (omega arith)
+      by (flat k z h m e) = let z : _≡_ {A = ℕ} 0 1 = cc in absurd (omega arith)
+      by (curved k n z m h e) = let z : _≡_ {A = ℕ} 0 1 = cc in absurd (omega arith)
+
+  -- ---- 11: a shaped pulse that starts within the row, with t1 < 0
+  pub record Short : Type 0 where
+    pub at : Inside s b p len
+    pub shape : b .envelope .shape ≡ Hann
+    pub short : lt (t1 (b .envelope .width .0) (b .envelope .plateau .0) (at .offset) (s .rate .0) (s .dt .0)) nought ≡ true
+
+  pub eleven-given : Short → judged s b p len ≡ Refused ShapeTooShort
+  eleven-given h =
+      let k = h .at in
+      let parted = too-short (b .envelope .width .0) (b .envelope .plateau .0) (k .offset) (s .rate .0) (s .dt .0) (least (len - k .start) 65536) (h .short) in
+      way-given s b p len (Refused ShapeTooShort) (unshaped k ShapeTooShort (h .shape) (sym (ap envelopedOf parted)) refl)
+
+  pub only-eleven : judged s b p len ≡ Refused ShapeTooShort → Short
+  only-eleven e = by (way s b p len (Refused ShapeTooShort) e)
+    where
+      by : Way s b p len (Refused ShapeTooShort) → Short
+      by (no-index g e) = let z : _≡_ {A = ℕ} 0 1 = cc in absurd (omega arith)
+      by (before g e) = let z : _≡_ {A = ℕ} 0 1 = cc in absurd (omega arith)
+      by (beyond g e) = let z : _≡_ {A = ℕ} 0 1 = cc in absurd (omega arith)
+      by (past w o g h e) = let z : _≡_ {A = ℕ} 0 1 = cc in absurd (omega arith)
+      by (unshaped k r z m e) =
+          let same : r ≡ ShapeTooShort = cc in
+          record {
+            at = k;
+            shape = z;
+            short = eleven (b .envelope .width .0) (b .envelope .plateau .0) (k .offset) (s .rate .0) (s .dt .0) (least (len - k .start) 65536) (m ∙ ap enveloped.Refused same);
+          }
+      by (over k z h e) = let z : _≡_ {A = ℕ} 0 1 = cc in absurd (omega arith)
+      by (plain-rest k z h m e) = let z : _≡_ {A = ℕ} 0 1 = cc in absurd (omega arith)
+      by (curved-rest k n z m h e) = let z : _≡_ {A = ℕ} 0 1 = cc in absurd (omega arith)
+      by (flat k z h m e) = let z : _≡_ {A = ℕ} 0 1 = cc in absurd (omega arith)
+      by (curved k n z m h e) = let z : _≡_ {A = ℕ} 0 1 = cc in absurd (omega arith)
+
+  -- ---- 12: the end is past the row; of a shape as `twelve` of shape's proofs/Twelve.antt says
+  abbrev pub Ends : Inside s b p len → Type 0
+  Ends k =
+      ((b .envelope .shape ≡ Plain) × (len < k .start + countOf s b))
+      ⊎ ((b .envelope .shape ≡ Hann) × (measuredAt s b (k .offset) (len - k .start) ≡ enveloped.Refused EndPastRow))
+
+  pub record Over : Type 0 where
+    pub at : Inside s b p len
+    pub over : Ends at
+
+  pub twelve-given : Over → judged s b p len ≡ Refused EndPastRow
+  twelve-given h = by (h .over)
+    where
+      by : Ends (h .at) → judged s b p len ≡ Refused EndPastRow
+      by (inl o) = way-given s b p len (Refused EndPastRow) (over (h .at) (o .0) (o .1) refl)
+      by (inr o) = way-given s b p len (Refused EndPastRow) (unshaped (h .at) EndPastRow (o .0) (o .1) refl)
+
+  pub only-twelve : judged s b p len ≡ Refused EndPastRow → Over
+  only-twelve e = by (way s b p len (Refused EndPastRow) e)
+    where
+      by : Way s b p len (Refused EndPastRow) → Over
+      by (no-index g e) = let z : _≡_ {A = ℕ} 0 1 = cc in absurd (omega arith)
+      by (before g e) = let z : _≡_ {A = ℕ} 0 1 = cc in absurd (omega arith)
+      by (beyond g e) = let z : _≡_ {A = ℕ} 0 1 = cc in absurd (omega arith)
+      by (past w o g h e) = let z : _≡_ {A = ℕ} 0 1 = cc in absurd (omega arith)
+      by (unshaped k r z m e) = let same : r ≡ EndPastRow = cc in record { at = k; over = inr (z, m ∙ ap enveloped.Refused same) }
+      by (over k z h e) = record { at = k; over = inl (z, h) }
+      by (plain-rest k z h m e) = let z : _≡_ {A = ℕ} 0 1 = cc in absurd (omega arith)
+      by (curved-rest k n z m h e) = let z : _≡_ {A = ℕ} 0 1 = cc in absurd (omega arith)
+      by (flat k z h m e) = let z : _≡_ {A = ℕ} 0 1 = cc in absurd (omega arith)
+      by (curved k n z m h e) = let z : _≡_ {A = ℕ} 0 1 = cc in absurd (omega arith)
