@@ -7,7 +7,7 @@ use mathlib.Core.Bool.{Bool, true, false, cond, true≢false}
 use mathlib.Core.List.{List, [], _∷_, map}
 use lib.Dec.{eqb}
 use lib.Ieee.{Float, lt}
-use lib.ListN.{length, take, drop, length-take, length-drop, length-map}
+use lib.ListN.{length, take, drop, getD, length-take, length-drop, length-map, length-set}
 use Rattle.quant.specs.declared.refusal.Answer.the-variants as answer
 use Rattle.quant.specs.declared.refusal.Refusal.{Refusal}
 use Rattle.quant.specs.declared.settings.Settings.{Settings}
@@ -22,9 +22,11 @@ use Rattle.sampler.specs.declared.runs.Run.{Run}
 use Rattle.sampler.specs.declared.runs.Runs.{Runs}
 use Rattle.sampler.specs.declared.runs.Picked.{Picked}
 use Rattle.sampler.specs.declared.onto.Held.{Held}
-use Rattle.sampler.specs.Runs.{Within, ofMark, pulsesIn, runIn, runsIn, pickedIn}
+use Rattle.sampler.specs.Runs.{Within, noRun, ofMark, pulseAt, pulsesIn, runIn, runsIn, pickedIn, movedOn}
 use Rattle.sampler.specs.Sampled.{Rowed, rowed, Out, out, addedTo, unlessRefused, ranPulses}
 use Rattle.sampler.specs.Holding.{Holds, accepted}
+use Rattle.sampler.proofs.Joining.{none-left, in-lists, in-rows, next-left, within-moved}
+use Rattle.sampler.proofs.Lengths.{i-length, q-length, scratch-length}
 
 -- ---- summing
 
@@ -135,3 +137,120 @@ module _ (s : Settings) (b : Bin) (tolerance : Float) (work : List (List Float))
     pub holds : Holds s b held scratch
     pub few-added : n + length (left r) ≤ 2 ^ 61
     pub whole : todo kept r n (rowed i q scratch) ≡ all
+
+  -- ---- a pulse picked from runs, and what is left behind it
+  module _ (rows-full : length work ≡ 8192) (marks-full : length marks ≡ 8192) (r : Runs) (p : Picked) (most : r .count ≤ 8) (long : length (r .runs) ≡ 8) (within : Within (r .runs)) (is : p ≡ pickedIn work marks r) where
+    abbrev pub here : Pulse
+    here = scaledP (getD (r .runs) (p .list) noRun .factor) (pulseAt work marks (p .at))
+
+    abbrev pub behind-it : Runs
+    behind-it = movedOn marks r p
+
+    same-full : length work ≡ length marks
+    same-full = rows-full ∙ sym marks-full
+
+    count-in : r .count ≤ length (r .runs)
+    count-in = omega (arith, most, long)
+
+    pub picked-list : p .some ≡ true → p .list < 8
+    picked-list e = rw is (let k = in-lists work marks same-full marks-full r count-in within (rw is at e) in omega (arith, k, most))
+
+    pub picked-row : p .some ≡ true → p .at < 8192
+    picked-row e = rw is (in-rows work marks same-full marks-full r count-in within (rw is at e))
+
+    pub picked-next : p .some ≡ true → left r ≡ here ∷ left behind-it
+    picked-next e = rw is (next-left work marks same-full marks-full r count-in within (rw is at e))
+
+    pub picked-none : p .some ≡ false → left r ≡ []
+    picked-none e = none-left work marks same-full marks-full r count-in within (rw is at e)
+
+    pub behind-within : Within (behind-it .runs)
+    behind-within = rw is (within-moved work marks same-full marks-full r count-in within)
+
+    pub behind-long : length (behind-it .runs) ≡ 8
+    behind-long = length-set (r .runs) (p .list) _ ∙ long
+
+  -- ---- one turn, from what holds before it
+  module _ (rows-full : length work ≡ 8192) (marks-full : length marks ≡ 8192) (all : Out) (i₀ q₀ scratch₀ i q scratch : List Float) (r : Runs) (p : Picked) (kept : Pulse) (held : Held) (n : ℕ) (g : Going all i₀ q₀ scratch₀ i q scratch r p kept held n) where
+    abbrev pub x : Pulse
+    x = here rows-full marks-full r p (g .most) (g .long) (g .within) (g .picked)
+
+    abbrev pub r' : Runs
+    r' = behind-it rows-full marks-full r p (g .most) (g .long) (g .within) (g .picked)
+
+    abbrev st : Rowed
+    st = rowed i q scratch
+
+    abbrev verdict : Judged
+    verdict = judged s b kept (length i)
+
+    more : p .some ≡ true → left r ≡ x ∷ left r'
+    more = picked-next rows-full marks-full r p (g .most) (g .long) (g .within) (g .picked)
+
+    pub less : p .some ≡ true → length (left r') < length (left r)
+    less e = let k = ap length (more e) in omega (arith, k)
+
+    todo-next : p .some ≡ true → ranPulses s b rows (keptFrom (together tolerance) kept (x ∷ left r')) n st ≡ all
+    todo-next e = ap (λ (ps : List Pulse). ranPulses s b rows (keptFrom (together tolerance) kept ps) n st) (sym (more e)) ∙ g .whole
+
+    -- the next falls together with the kept one
+    pub near-turn : p .some ≡ true → together tolerance kept x ≡ true → (p' : Picked) → p' ≡ pickedIn work marks r' → Going all i₀ q₀ scratch₀ i q scratch r' p' (plusP kept x) held n
+    near-turn e near p' is =
+        record {
+          same-i = g .same-i;
+          same-q = g .same-q;
+          same-scratch = g .same-scratch;
+          most = g .most;
+          long = behind-long rows-full marks-full r p (g .most) (g .long) (g .within) (g .picked);
+          within = behind-within rows-full marks-full r p (g .most) (g .long) (g .within) (g .picked);
+          picked = is;
+          holds = g .holds;
+          few-added = let k = less e in omega (arith, k, g .few-added);
+          whole = ap (λ (ps : List Pulse). ranPulses s b rows ps n st) (sym (kept-near (together tolerance) kept x (left r') near)) ∙ todo-next e;
+        }
+
+    -- it does not: the kept one is added
+    apart-is : p .some ≡ true → together tolerance kept x ≡ false → ranPulses s b rows (kept ∷ keptFrom (together tolerance) x (left r')) n st ≡ all
+    apart-is e apart = ap (λ (ps : List Pulse). ranPulses s b rows ps n st) (sym (kept-apart (together tolerance) kept x (left r') apart)) ∙ todo-next e
+
+    last-is : p .some ≡ false → ranPulses s b rows (kept ∷ []) n st ≡ all
+    last-is e =
+        ap (λ (ps : List Pulse). ranPulses s b rows ps n st) (sym (kept-last (together tolerance) kept) ∙ ap (keptFrom (together tolerance) kept) (sym (picked-none rows-full marks-full r p (g .most) (g .long) (g .within) (g .picked) e))) ∙ g .whole
+
+    module _ (i' q' scratch' : List Float) (after : rowed i' q' scratch' ≡ addedTo s b rows verdict st) where
+      pub i-same : length i' ≡ length i₀
+      i-same = ap (λ (o : Rowed). length (o .i)) after ∙ i-length s b rows st verdict ∙ g .same-i
+
+      pub q-same : length q' ≡ length q₀
+      q-same = ap (λ (o : Rowed). length (o .q)) after ∙ q-length s b rows st verdict ∙ g .same-q
+
+      pub scratch-same : length i₀ ≤ length scratch₀ → length scratch' ≡ length scratch₀
+      scratch-same h = ap (λ (o : Rowed). length (o .scratch)) after ∙ scratch-length s b rows st (omega (arith, h, g .same-i, g .same-scratch)) verdict ∙ g .same-scratch
+
+      pub on-turn : length i₀ ≤ length scratch₀ → p .some ≡ true → together tolerance kept x ≡ false → accepted verdict ≡ true → (h : Held) → Holds s b h scratch' → (p' : Picked) → p' ≡ pickedIn work marks r'
+          → Going all i₀ q₀ scratch₀ i' q' scratch' r' p' x h (n + 1)
+      on-turn short e apart taken h holds p' is =
+          record {
+            same-i = i-same;
+            same-q = q-same;
+            same-scratch = scratch-same short;
+            most = g .most;
+            long = behind-long rows-full marks-full r p (g .most) (g .long) (g .within) (g .picked);
+            within = behind-within rows-full marks-full r p (g .most) (g .long) (g .within) (g .picked);
+            picked = is;
+            holds = holds;
+            few-added = let k = less e in omega (arith, k, g .few-added);
+            whole = ap (ranPulses s b rows (keptFrom (together tolerance) x (left r')) (n + 1)) after ∙ sym (ran-on s b rows kept (keptFrom (together tolerance) x (left r')) n st taken) ∙ apart-is e apart;
+          }
+
+      stays : (why : Refusal) → verdict ≡ judgement.Refused why → rowed i' q' scratch' ≡ st
+      stays why e = after ∙ ap (λ (d : Judged). addedTo s b rows d st) e
+
+      pub refused-turn : p .some ≡ true → together tolerance kept x ≡ false → (why : Refusal) → verdict ≡ judgement.Refused why → out (answer.Refused why n) (rowed i' q' scratch') ≡ all
+      refused-turn e apart why not-ok = ap (out (answer.Refused why n)) (stays why not-ok) ∙ sym (ran-refused s b rows kept (keptFrom (together tolerance) x (left r')) n st why not-ok) ∙ apart-is e apart
+
+      pub on-last : p .some ≡ false → accepted verdict ≡ true → out (answer.Done (n + 1)) (rowed i' q' scratch') ≡ all
+      on-last e taken = ap (out (answer.Done (n + 1))) after ∙ sym (ran-none s b rows (n + 1) (addedTo s b rows verdict st)) ∙ sym (ran-on s b rows kept [] n st taken) ∙ last-is e
+
+      pub refused-last : p .some ≡ false → (why : Refusal) → verdict ≡ judgement.Refused why → out (answer.Refused why n) (rowed i' q' scratch') ≡ all
+      refused-last e why not-ok = ap (out (answer.Refused why n)) (stays why not-ok) ∙ sym (ran-refused s b rows kept [] n st why not-ok) ∙ last-is e
