@@ -11,3 +11,4 @@ pub mod Holdings
 pub mod Shaped
 pub mod Lengths
 pub mod Binned
+pub mod Listed

@@ -1,7 +1,7 @@
 -- Where the runs of a bin begin: in each list, whose rows stand from one end to the next, the first row of the bin. Definitions only.
 use Prim.Native.Nat.{ℕ, _≤_}
 use mathlib.Core.Bool.{cond}
-use mathlib.Core.List.{List, [], _∷_}
+use mathlib.Core.List.{List, [], _∷_, map}
 use lib.Dec.{ltb}
 use lib.Ieee.{Float}
 use lib.ListN.{length, getD}
@@ -9,10 +9,13 @@ use Rattle.pulse.specs.Bin.{placeOf}
 use Rattle.tables.specs.declared.Tables.{Tables}
 use Rattle.tables.specs.Tables.{channelAt}
 use Rattle.commands.specs.Play.{rowsOf}
+use Rattle.pulse.specs.declared.list.Pulse.{Pulse}
+use Rattle.merge.specs.Sum.{summedAgain}
+use Rattle.merge.specs.Join.{joined}
 use Rattle.merge.specs.Taking.{Part}
 use Rattle.sampler.specs.declared.bins.Target.{Target}
 use Rattle.sampler.specs.declared.runs.Run.{Run}
-use Rattle.sampler.specs.Runs.{advanced}
+use Rattle.sampler.specs.Runs.{advanced, pulsesIn, runIn}
 use Rattle.sampler.specs.Bins.{isAmong}
 
 -- how many bins a channel has: 64 places, of which the first so many are there
@@ -35,3 +38,8 @@ runsForFrom t bins marks row begin (p ∷ ps) (e ∷ es) =
 -- no list ends past the work rows
 pub record Ended (ends : List ℕ) : Type 0 where
   pub each : (k : ℕ) → getD ends k 0 ≤ 8192
+
+-- the pulses of a bin as the work rows hold them: joined by time, and summed again
+abbrev pub mergedIn : Tables → List (List Float) → List (List Float) → List ℕ → List Part → List ℕ → List Float → List Pulse
+mergedIn t bins work marks parts ends row =
+    summedAgain (t .time .0) (joined (map (runIn (pulsesIn work marks)) (runsForFrom t bins marks row 0 parts ends)))
