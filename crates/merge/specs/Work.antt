@@ -51,6 +51,9 @@ endsFrom at (l ∷ ls) = (at + length l) ∷ endsFrom (at + length l) ls
 abbrev pub endsOf : List (List Pulse) → Ends
 endsOf ls = record { ends = endsFrom 0 ls ++ replicate (8 - length ls) 0 }
 
+abbrev pub noEnds : Ends
+noEnds = record { ends = replicate 8 0 }
+
 -- 1,024 records, rows and marks for each of eight lists
 abbrev pub sizesFit : ℕ → ℕ → ℕ → Bool
 sizesFit pulses rows marks = eqb pulses 8192 && eqb rows 8192 && eqb marks 8192
@@ -69,4 +72,4 @@ gatheredOf t parts pulses rows marks =
     let ls = listsOf t pulses parts in
     cond (sizesFit (length pulses) (length rows) (length marks))
     (gathered (over 0 (map rowOfPulse (inOne ls)) rows) (over 0 (map markOf (inOne ls)) marks) (endsOf ls))
-    (gathered rows marks (endsOf []))
+    (gathered rows marks noEnds)
