@@ -39,6 +39,20 @@ use Rattle.pulse.specs.declared.list.Pulse.{Pulse}
 use Rattle.pulse.proofs.Lent.{Own}
 use Rattle.pulse.proofs.Records.{spell, IsRecord, has-record, has-word}
 use Rattle.pulse.proofs.list.Pulse as P
+use Rattle.tables.specs.declared.Tables.{Tables}
+use Rattle.tables.proofs.Tables as U
+use Rattle.tables.proofs.Tables.Laws as U′
+use Rattle.merge.specs.declared.taking.Taking.{Taking}
+use Rattle.merge.specs.declared.work.Ends.{Ends}
+use Rattle.merge.specs.declared.work.Span.{Span}
+use Rattle.merge.specs.Work.{noEnds, sizesFit}
+use Rattle.merge.specs.Keep.{listsIn, spanOf, withEnd}
+use Rattle.merge.proofs.taking.Taking as G
+use Rattle.merge.proofs.taking.Taking.Laws as G′
+use Rattle.merge.proofs.work.Ends as E
+use Rattle.merge.proofs.work.Ends.Laws as E′
+use Rattle.merge.proofs.work.Span as S
+use Rattle.merge.proofs.work.Span.Laws as S′
 use Rattle.merge.proofs.work.keep as keep
 
 -- ---- machine values
@@ -69,6 +83,30 @@ valQ = LL.val Q.the-type Q′.the-laws
 
 abbrev pub IsTime : Time → Type 0
 IsTime t = Is Q.the-row t (valQ t ∷ [])
+
+abbrev pub valU : Tables → Val
+valU = LL.val U.the-type U′.the-laws
+
+abbrev pub valG : Taking → Val
+valG = LL.val G.the-type G′.the-laws
+
+abbrev pub valE : Ends → Val
+valE = LL.val E.the-type E′.the-laws
+
+abbrev pub valS : Span → Val
+valS = LL.val S.the-type S′.the-laws
+
+abbrev pub IsTables : Tables → Type 0
+IsTables u = Is U.the-row u (valU u ∷ [])
+
+abbrev pub IsTaking : Taking → Type 0
+IsTaking u = Is G.the-row u (valG u ∷ [])
+
+abbrev pub IsEnds : Ends → Type 0
+IsEnds e = Is E.the-row e (valE e ∷ [])
+
+abbrev pub IsSpan : Span → Type 0
+IsSpan s = Is S.the-row s (valS s ∷ [])
 
 module _ {M : Type 1} (𝓤 : URA M) (H : Heap 𝓤) (A : Atoms 𝓤) (W : Given 𝓤 H A) where
   pub typedQ : (t : Time) → IsTime t → T (hasTy Q′.mir (valQ t)) × WT (valQ t)

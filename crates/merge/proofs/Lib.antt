@@ -4,3 +4,5 @@ pub mod Kept
 pub mod Lending
 pub mod Callees
 pub mod Turns
+pub mod Spans
+pub mod Lists
