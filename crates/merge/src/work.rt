@@ -134,20 +134,20 @@ fn pulse_in(row: [f64; 5], mark: usize) -> Pulse
     }
 }
 
-fn sizes_fit(pulses: usize, rows: usize, marks: usize) -> bool
+pub(crate) fn sizes_fit(pulses: usize, rows: usize, marks: usize) -> bool
     ensures { λ r. ⌜ r ≡ sizesFit pulses rows marks ⌝ }
 {
     both(both(pulses == 8192, rows == 8192), marks == 8192)
 }
 
-fn no_ends() -> Ends
+pub(crate) fn no_ends() -> Ends
     ensures { λ r. ⌜ r ≡ noEnds ⌝ }
 {
     Ends { ends: [0; 8] }
 }
 
 // A count over 8 has the 8 that are there.
-fn lists_in(taking: Taking) -> usize
+pub(crate) fn lists_in(taking: Taking) -> usize
     ensures { λ r. ⌜ r ≡ listsIn taking ⌝ }
 {
     if taking.count < 8 {
@@ -157,7 +157,7 @@ fn lists_in(taking: Taking) -> usize
 }
 
 // The records of list k: none for a place that is none, at most 1,024 for another.
-fn span_of(t: Tables, taking: Taking, k: usize) -> Span
+pub(crate) fn span_of(t: Tables, taking: Taking, k: usize) -> Span
     requires { ⌜ k < 8 ⌝ }
     ensures { λ r. ⌜ r ≡ spanOf t (getD (taking .places) k 0) ⌝ }
 {
@@ -178,7 +178,7 @@ fn span_of(t: Tables, taking: Taking, k: usize) -> Span
     }
 }
 
-fn with_end(ends: Ends, k: usize, at: usize) -> Ends
+pub(crate) fn with_end(ends: Ends, k: usize, at: usize) -> Ends
     requires { ⌜ k < 8 ⌝ }
     ensures { λ r. ⌜ r ≡ withEnd ends k at ⌝ }
 {
