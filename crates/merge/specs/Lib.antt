@@ -3,3 +3,4 @@ pub mod Join
 pub mod Taking
 pub mod Work
 pub mod Keep
+pub mod Next
