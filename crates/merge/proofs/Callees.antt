@@ -22,7 +22,7 @@ use types.Kit.{Goal, Given, Item, ‵, _⊛_, Step, _$_, _∵_, !, qed, move, sp
 use denote.RattleType.{RattleType}
 use denote.Array.{Array}
 use denote.Laws.{Is}
-use denote.Memory.{pointee, mem as memory}
+use denote.Memory.{pointee}
 use denote.Builtin.{f64, usize}
 use denote.Ref.{RefT}
 use denote.Slice.{sliceTy, sliceVal, ShrSlice}
@@ -241,8 +241,16 @@ module _ {M : Type 1} (𝓤 : URA M) (H : Heap 𝓤) (A : Atoms 𝓤) (mem : Mem
     lentM = record { ptr = (b₂, o₂); name = δ₂; now = ms }
 
     abbrev pub to-keep : ℕ → ℕ → Pulse → Time → Keeps .Ghost
-    to-keep from at p t = (((ν₁ ∷ [], (ν₂ ∷ [], tt)), (fullShare, (fullShare, tt)), tt, (lentW, (lentM, (from, (at, (p, (t, tt)))))),
-        (sliceVal (b₁, o₁) n₁ ∷ [], (sliceVal (b₂, o₂) n₂ ∷ [], (vint w64 from ∷ [], (vint w64 at ∷ [], (spell p, (valQ t ∷ [], tt))))))), tt)
+    to-keep from at p t = (
+      (
+        (ν₁ ∷ [], (ν₂ ∷ [], tt)),
+        (fullShare, (fullShare, tt)),
+        tt,
+        (lentW, (lentM, (from, (at, (p, (t, tt)))))),
+        (sliceVal (b₁, o₁) n₁ ∷ [], (sliceVal (b₂, o₂) n₂ ∷ [], (vint w64 from ∷ [], (vint w64 at ∷ [], (spell p, (valQ t ∷ [], tt)))))),
+      ),
+      tt,
+    )
 
     pub goes-keep : (from at : ℕ) (p : Pulse) (t : Time) → from ≤ at → at < length ys → at < length ms → from < 2 ^ 64 → at < 2 ^ 64 → IsRecord p → IsTime t
         → ent 𝓤 (sep 𝓤 (sep 𝓤 (sem 𝓤 H A (Own Row b₁ o₁ n₁ (ν₁ ∷ []) δ₁ ys)) (sem 𝓤 H A (Own usize b₂ o₂ n₂ (ν₂ ∷ []) δ₂ ms))) (sep 𝓤 (A .lft (ν₁ ∷ []) fullShare) (A .lft (ν₂ ∷ []) fullShare))) (Keeps .pre (to-keep from at p t))
@@ -262,8 +270,16 @@ module _ {M : Type 1} (𝓤 : URA M) (H : Heap 𝓤) (A : Atoms 𝓤) (mem : Mem
       ownP = ShrSlice (named 0) κ₀ P.the-row .own refP (sliceVal (b₀, o₀) (length ps) ∷ [])
 
       abbrev pub to-sum : ℕ → ℕ → Time → ℕ → Sums .Ghost
-      to-sum from count t at = (((κ₀, (ν₁ ∷ [], (ν₂ ∷ [], tt))), (q₀, (fullShare, (fullShare, tt))), tt, (refP, (from, (count, (t, (lentW, (lentM, (at, tt))))))),
-          (sliceVal (b₀, o₀) (length ps) ∷ [], (vint w64 from ∷ [], (vint w64 count ∷ [], (valQ t ∷ [], (sliceVal (b₁, o₁) n₁ ∷ [], (sliceVal (b₂, o₂) n₂ ∷ [], (vint w64 at ∷ [], tt)))))))), tt)
+      to-sum from count t at = (
+        (
+          (κ₀, (ν₁ ∷ [], (ν₂ ∷ [], tt))),
+          (q₀, (fullShare, (fullShare, tt))),
+          tt,
+          (refP, (from, (count, (t, (lentW, (lentM, (at, tt))))))),
+          (sliceVal (b₀, o₀) (length ps) ∷ [], (vint w64 from ∷ [], (vint w64 count ∷ [], (valQ t ∷ [], (sliceVal (b₁, o₁) n₁ ∷ [], (sliceVal (b₂, o₂) n₂ ∷ [], (vint w64 at ∷ [], tt))))))),
+        ),
+        tt,
+      )
 
       pub goes-sum : (from count : ℕ) (t : Time) (at : ℕ) → from + count ≤ length ps → at + count ≤ length ys → at + count ≤ length ms → from < 2 ^ 64 → count < 2 ^ 64 → IsTime t → at < 2 ^ 64
           → ent 𝓤 (sep 𝓤 (sep 𝓤 (sem 𝓤 H A ownP) (A .lft κ₀ q₀)) (sep 𝓤 (sep 𝓤 (sem 𝓤 H A (Own Row b₁ o₁ n₁ (ν₁ ∷ []) δ₁ ys)) (sem 𝓤 H A (Own usize b₂ o₂ n₂ (ν₂ ∷ []) δ₂ ms))) (sep 𝓤 (A .lft (ν₁ ∷ []) fullShare) (A .lft (ν₂ ∷ []) fullShare))))

@@ -2,7 +2,7 @@
 -- added to the first, and the third is held against the first. Assumes nothing.
 use Prim.Native.Nat.{ℕ}
 use mathlib.Core.Path.{_≡_, refl}
-use mathlib.Core.List.{List, [], _∷_}
+use mathlib.Core.List.{[], _∷_}
 use borrow.Author.Tests.{eq-eqb}
 use lib.Ieee.{Float, binary64, ofBits, add, sub, neg, lt, eq, le}
 use Rattle.quant.specs.declared.complex.Complex.{Complex}

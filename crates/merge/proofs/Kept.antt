@@ -1,7 +1,7 @@
 -- Pulses laid down one after the other are the list summed: where k stands in the row before `at`, what is still to come is `keptFrom` k,
 -- laid over that row. Assumes nothing.
 use Prim.Native.Nat.{ℕ, suc, _+_, _-_, _<_, _≤_}
-use mathlib.Core.Path.{_≡_, refl, sym, ap, _∙_}
+use mathlib.Core.Path.{_≡_, _∙_}
 use mathlib.Core.Bool.{Bool, true, false, cond}
 use mathlib.Core.List.{List, [], _∷_, map}
 use native.Mathlib.Omega.{arith}
@@ -13,7 +13,7 @@ use Rattle.pulse.specs.declared.list.Pulse.{Pulse}
 use Rattle.merge.specs.Sum.{plusP, togetherInBin, keptFrom, summedBy, summed}
 use Rattle.merge.specs.Work.{rowOfPulse, markOf, over, Laid, laid, laidOn}
 use Rattle.merge.specs.Keep.{keptIn, keptAll}
-use Rattle.merge.proofs.Over.{over-nil, over-cons, over-set, over-same}
+use Rattle.merge.proofs.Over.{over-nil, over-set, over-same}
 
 module _ (falls : Pulse → Pulse → Bool) where
   pub kept-some : (k : Pulse) (ps : List Pulse) → 0 < length (keptFrom falls k ps)
@@ -78,8 +78,15 @@ module _ (from : ℕ) (t : Float) where
       either true x y = x ∙ rw (over-row n (keptFrom falls (plusP k p) ps) rows (rowOfPulse (plusP k p)) (kept-some falls (plusP k p) ps) (omega arith))
       either false x y =
           let e : n + 1 + length (keptFrom falls p ps) ≡ n + suc (length (keptFrom falls p ps)) = omega arith in
-          y ∙ rw (over-row (n + 1) (keptFrom falls p ps) rows (rowOfPulse p) (kept-some falls p ps) (omega arith), over-mark (n + 1) (keptFrom falls p ps) marks (markOf p) (kept-some falls p ps) (omega arith), ← er, ← em,
-          over-same n [] (map rowOfPulse (keptFrom falls p ps)) rows (omega arith), over-same n 0 (map markOf (keptFrom falls p ps)) marks (omega arith), e)
+          y ∙ rw (
+            over-row (n + 1) (keptFrom falls p ps) rows (rowOfPulse p) (kept-some falls p ps) (omega arith),
+            over-mark (n + 1) (keptFrom falls p ps) marks (markOf p) (kept-some falls p ps) (omega arith),
+            ← er,
+            ← em,
+            over-same n [] (map rowOfPulse (keptFrom falls p ps)) rows (omega arith),
+            over-same n 0 (map markOf (keptFrom falls p ps)) marks (omega arith),
+            e,
+          )
 
   first : (p : Pulse) (rows : List (List Float)) (marks : List ℕ) → keptIn from t p (laid rows marks from) ≡ laid (set rows from (rowOfPulse p)) (set marks from (markOf p)) (from + 1)
   unfolding keptIn
@@ -88,7 +95,10 @@ module _ (from : ℕ) (t : Float) where
   pub kept-summed : (ps : List Pulse) (rows : List (List Float)) (marks : List ℕ) → from + length ps ≤ length rows → from + length ps ≤ length marks → keptAll from t ps (laid rows marks from) ≡ laidOn (summed t ps) from rows marks
   unfolding keptAll summedBy
   kept-summed [] rows marks hr hm = let e : from + 0 ≡ from = omega arith in rw (over-nil from rows, over-nil from marks, e)
-  kept-summed (p ∷ ps) rows marks hr hm = rw (first p rows marks,
-      kept-on from p ps (set rows from (rowOfPulse p)) (set marks from (markOf p)) (omega arith) (rw (length-set rows from (rowOfPulse p)) (omega arith)) (rw (length-set marks from (markOf p)) (omega arith))
-      (getD-set-same rows from (rowOfPulse p) [] (omega arith)) (getD-set-same marks from (markOf p) 0 (omega arith)),
-      over-row from (keptFrom falls p ps) rows (rowOfPulse p) (kept-some falls p ps) (omega arith), over-mark from (keptFrom falls p ps) marks (markOf p) (kept-some falls p ps) (omega arith))
+  kept-summed (p ∷ ps) rows marks hr hm = rw (
+    first p rows marks,
+    kept-on from p ps (set rows from (rowOfPulse p)) (set marks from (markOf p)) (omega arith) (rw (length-set rows from (rowOfPulse p)) (omega arith)) (rw (length-set marks from (markOf p)) (omega arith))
+        (getD-set-same rows from (rowOfPulse p) [] (omega arith)) (getD-set-same marks from (markOf p) 0 (omega arith)),
+    over-row from (keptFrom falls p ps) rows (rowOfPulse p) (kept-some falls p ps) (omega arith),
+    over-mark from (keptFrom falls p ps) marks (markOf p) (kept-some falls p ps) (omega arith),
+  )

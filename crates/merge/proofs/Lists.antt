@@ -10,7 +10,7 @@ use mathlib.Core.List.{List, [], _∷_, _++_, map}
 use borrow.Author.Tests.{eqb-true, ltb-true, ltb-false}
 use lib.Dec.{ltb, eqb}
 use lib.Ieee.{Float}
-use lib.ListN.{length, getD, set, take, drop, replicate, length-set, length-map, length-append, drop-of-length-le, List·getD-map}
+use lib.ListN.{length, getD, set, take, drop, replicate, length-set, length-map, drop-of-length-le, List·getD-map}
 use lib.Seq.{drop-cons, take-all, length-take-le, getD-take}
 use Rattle.pulse.specs.declared.list.Pulse.{Pulse}
 use Rattle.tables.specs.declared.Tables.{Tables}
@@ -18,7 +18,7 @@ use Rattle.merge.specs.declared.taking.Taking.{Taking}
 use Rattle.merge.specs.declared.work.Ends.{Ends}
 use Rattle.merge.specs.Sum.{togetherInBin, summed}
 use Rattle.merge.specs.Taking.{Part, recordsOf, listOf, zipped, partsIn}
-use Rattle.merge.specs.Work.{rowOfPulse, markOf, over, Laid, laid, laidOn, listsOf, inOne, endsFrom, endsOf, noEnds, sizesFit, Gathered, gathered, gatheredOf}
+use Rattle.merge.specs.Work.{rowOfPulse, markOf, over, Laid, laid, laidOn, listsOf, inOne, endsFrom, noEnds, sizesFit, Gathered, gathered, gatheredOf}
 use Rattle.merge.specs.Keep.{listsIn, spanOf, withEnd}
 use Rattle.merge.proofs.Callees.{Rows, IsEnds}
 use Rattle.merge.proofs.Kept.{summed-length}

@@ -1,11 +1,11 @@
 -- Laying a list over another from a place on: element by element, in two runs, and over what was laid there before. Assumes nothing.
 use Prim.Native.Nat.{ℕ, suc, _+_, _<_, _≤_}
-use mathlib.Core.Path.{_≡_, refl, sym, ap, _∙_}
+use mathlib.Core.Path.{_≡_, sym}
 use Prim.{⊥}
 use mathlib.Core.List.{List, [], _∷_, _++_}
 use native.Mathlib.Omega.{arith}
-use lib.ListN.{length, take, drop, getD, set, length-set, length-append, take-append-drop}
-use lib.Seq.{take-suc-set, drop-set-lt, set-set, set-getD, append-snoc, length-take-le}
+use lib.ListN.{length, take, drop, getD, set, length-set, take-append-drop}
+use lib.Seq.{take-suc-set, drop-set-lt, set-set, set-getD, append-snoc}
 use Rattle.merge.specs.Work.{over}
 
 module _ {A : Type 0} where

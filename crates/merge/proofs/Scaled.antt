@@ -2,15 +2,14 @@
 use mathlib.Core.Path.{_≡_, refl, sym, ap, _∙_, subst}
 use mathlib.Core.Bool.{Bool, true, false}
 use mathlib.Core.List.{List, [], _∷_, map}
-use Prim.Native.Nat.{ℕ, _*_, _^_}
+use Prim.Native.Nat.{_^_}
 use native.Mathlib.Nat.{mul-one}
 use lib.Dec.{T, lit<}
 use lib.Pow.{pow-pos}
 use lib.Ieee.{Float, nan, inf, fin, binary64, round, mul, unlike, fits, ofBits}
 use lib.Ieee.Exact.{HasValue}
 use lib.Ieee.Fits.{mul-fits}
-use lib.Ieee.Scale.{finite}
-use Rattle.exact.specs.Value.{Units, signOf, unitsOf}
+use Rattle.exact.specs.Value.{Units, unitsOf}
 use Rattle.exact.proofs.Few.{few-of, few-value, units-below}
 use Rattle.exact.proofs.Operation.{mul-rounds}
 use Rattle.exact.proofs.Value.{own, unique}

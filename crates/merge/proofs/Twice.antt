@@ -1,6 +1,6 @@
 -- Summing twice is summing once: what is kept never falls onto what was kept before it, for what falls is told by bin and time, which
 -- adding leaves. Assumes nothing.
-use mathlib.Core.Path.{_≡_, refl, sym, ap, _∙_}
+use mathlib.Core.Path.{_≡_, refl, _∙_}
 use mathlib.Core.Bool.{Bool, true, false, cond}
 use mathlib.Core.List.{List, [], _∷_}
 use lib.Ieee.{Float}

@@ -52,14 +52,14 @@ use Rattle.quant.proofs.quantity.Time.Laws as Q′
 use Rattle.pulse.specs.declared.list.Pulse.{Pulse}
 use Rattle.pulse.proofs.Lent.{Own}
 use Rattle.pulse.proofs.Placed.{none}
-use Rattle.pulse.proofs.Records.{spell, val, bytes, typed, has-word}
+use Rattle.pulse.proofs.Records.{spell, bytes, typed, has-word}
 use Rattle.pulse.proofs.Walk.{word, after, cell, part, into}
 use Rattle.pulse.proofs.list.Pulse as P
 use Rattle.pulse.proofs.list.Pulse.Laws as P′
 use Rattle.merge.specs.Sum.{summed}
 use Rattle.merge.specs.Work.{laid, laidOn}
 use Rattle.merge.specs.Keep.{keptIn}
-use Rattle.merge.proofs.Callees.{Row, Rows, slicesP, refW, sliceW, refM, sliceM, valQ, IsTime, typedQ, has-time, Keeps, lentW, lentM, to-keep, goes-keep}
+use Rattle.merge.proofs.Callees.{Row, Rows, slicesP, refW, sliceW, refM, sliceM, valQ, IsTime, typedQ, has-time, Keeps, to-keep, goes-keep}
 use Rattle.merge.proofs.Lending.{lends-both, come-both}
 use Rattle.merge.proofs.Turns.{Upto, begin, next, at-end}
 use Rattle.merge.proofs.work.keep as keep
@@ -73,8 +73,19 @@ use Rattle.merge.proofs.work.sum_list.Code as code
 use Rattle.merge.proofs.work.sum_list.Code.Mir.{turn-1, t-4, t-5}
 
 abbrev stayed : Stays (f.ended .signature .params) (f.ended .kept)
-stayed = (stay-none-slice (0 ∷ []) tt (plain (λ _. P.the-row)) yes, (stay-none (λ _. usize) yes, (stay-none (λ _. usize) yes, (stay-none (λ _. Q.the-row) yes,
-    (stay-slice (1 ∷ []) tt (ArrayOf (plain (λ _. f64)) (λ _. tt) 5), (stay-slice (2 ∷ []) tt (plain (λ _. usize)), (stay-none (λ _. usize) yes, tt)))))))
+stayed = (
+  stay-none-slice (0 ∷ []) tt (plain (λ _. P.the-row)) yes,
+  (
+    stay-none (λ _. usize) yes,
+    (
+      stay-none (λ _. usize) yes,
+      (
+        stay-none (λ _. Q.the-row) yes,
+        (stay-slice (1 ∷ []) tt (ArrayOf (plain (λ _. f64)) (λ _. tt) 5), (stay-slice (2 ∷ []) tt (plain (λ _. usize)), (stay-none (λ _. usize) yes, tt))),
+      ),
+    ),
+  ),
+)
 
 module _ {M : Type 1} (𝓤 : URA M) (H : Heap 𝓤) (A : Atoms 𝓤) (W : Given 𝓤 H A) (mem : Memory → SProp 𝓤) (run : Routine → Fun 𝓤) (κ₀ κ₁ κ₂ : Lft) (q₀ q₁ q₂ : Share) (b₀ o₀ b₁ o₁ b₂ o₂ : ℕ) (γ₀ γ₁ γ₂ : GName)
     (ps : List Pulse) (from count : ℕ) (t : Time) (ws : Rows) (marks : List ℕ) (at : ℕ) (gp : Room P.the-row (length ps)) (gf : from < 2 ^ 64) (gc : count < 2 ^ 64) (gt : IsTime t) (gw : Room Row (length ws)) (gm : Room usize (length marks)) (ga : at < 2 ^ 64)
@@ -264,9 +275,19 @@ module _ {M : Type 1} (𝓤 : URA M) (H : Heap 𝓤) (A : Atoms 𝓤) (W : Given
 
   sum-list-meets : Meets 𝓤 H A f.signature (WpFn 𝓤 H (𝓣 .C) (𝓣 .Λ) code.function) (f.spec 𝓤 H A mem run)
   sum-list-meets =
-      walk-meets 𝓤 H A f.ended stayed W
-      (goes-none-slice 𝓤 H A W 3 (0 ∷ []) tt (plain (λ _. P.the-row)) yes, (goes-none 𝓤 H A W 3 (λ _. usize) yes (λ κs x f. refl), (goes-none 𝓤 H A W 3 (λ _. usize) yes (λ κs x f. refl), (goes-none 𝓤 H A W 3 (λ _. Q.the-row) yes (λ κs x f. refl),
-      (goes-slice 𝓤 H A W 3 1 tt (ArrayOf (plain (λ _. f64)) (λ _. tt) 5), (goes-slice 𝓤 H A W 3 2 tt (plain (λ _. usize)), (goes-none 𝓤 H A W 3 (λ _. usize) yes (λ κs x f. refl), tt)))))))
+      walk-meets 𝓤 H A f.ended stayed W (
+        goes-none-slice 𝓤 H A W 3 (0 ∷ []) tt (plain (λ _. P.the-row)) yes,
+        (
+          goes-none 𝓤 H A W 3 (λ _. usize) yes (λ κs x f. refl),
+          (
+            goes-none 𝓤 H A W 3 (λ _. usize) yes (λ κs x f. refl),
+            (
+              goes-none 𝓤 H A W 3 (λ _. Q.the-row) yes (λ κs x f. refl),
+              (goes-slice 𝓤 H A W 3 1 tt (ArrayOf (plain (λ _. f64)) (λ _. tt) 5), (goes-slice 𝓤 H A W 3 2 tt (plain (λ _. usize)), (goes-none 𝓤 H A W 3 (λ _. usize) yes (λ κs x f. refl), tt))),
+            ),
+          ),
+        ),
+      )
       (f.clauses 𝓤 H A mem run) (WpFn 𝓤 H (𝓣 .C) (𝓣 .Λ) code.function) (WpFn-mono 𝓤 H (W .laws) 𝓣 code.function) sum-list-walks
 
 pub sum-list-spec : {M : Type 1} → stated.statement M

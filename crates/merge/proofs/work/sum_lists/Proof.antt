@@ -2,10 +2,10 @@
 -- it, with the rows and the marks lent, and its end noted. What is left is always `still` of the lists from k on (`proofs/Lists.antt`).
 -- Outside a call each slice is held whole with its lifetime's token. Both returns meet in `leaves`. Assumes nothing.
 use mathlib.Core.Path.{_≡_, refl, sym, ap, subst, _∙_}
-use mathlib.Core.Bool.{Bool, true, false, not}
-use Prim.Native.Nat.{ℕ, _<_, _≤_, _^_, _+_, _-_}
+use mathlib.Core.Bool.{Bool, true, not}
+use Prim.Native.Nat.{ℕ, _<_, _^_, _+_, _-_}
 use native.Mathlib.Nat.{lt-of-le-of-lt}
-use native.Mathlib.Numerals.{add-one-le, add-one-dec}
+use native.Mathlib.Numerals.{add-one-dec}
 use native.Mathlib.Omega.{arith}
 use mathlib.Core.WellFounded.{WellFounded, InvImage·wf}
 use mathlib.Core.List.{List, [], _∷_}
@@ -339,9 +339,16 @@ module _ {M : Type 1} (𝓤 : URA M) (H : Heap 𝓤) (A : Atoms 𝓤) (W : Given
 
   sum-lists-meets : Meets 𝓤 H A f.signature (WpFn 𝓤 H (𝓣 .C) (𝓣 .Λ) code.function) (f.spec 𝓤 H A mem run)
   sum-lists-meets =
-      walk-meets 𝓤 H A f.ended stayed W
-      (goes-none 𝓤 H A W 3 (λ _. U.the-row) yes (λ κs x f. refl), (goes-none 𝓤 H A W 3 (λ _. L.the-row) yes (λ κs x f. refl), (goes-none-slice 𝓤 H A W 3 (0 ∷ []) tt (plain (λ _. P.the-row)) yes,
-      (goes-slice 𝓤 H A W 3 1 tt (ArrayOf (plain (λ _. f64)) (λ _. tt) 5), (goes-slice 𝓤 H A W 3 2 tt (plain (λ _. usize)), tt)))))
+      walk-meets 𝓤 H A f.ended stayed W (
+        goes-none 𝓤 H A W 3 (λ _. U.the-row) yes (λ κs x f. refl),
+        (
+          goes-none 𝓤 H A W 3 (λ _. L.the-row) yes (λ κs x f. refl),
+          (
+            goes-none-slice 𝓤 H A W 3 (0 ∷ []) tt (plain (λ _. P.the-row)) yes,
+            (goes-slice 𝓤 H A W 3 1 tt (ArrayOf (plain (λ _. f64)) (λ _. tt) 5), (goes-slice 𝓤 H A W 3 2 tt (plain (λ _. usize)), tt)),
+          ),
+        ),
+      )
       (f.clauses 𝓤 H A mem run) (WpFn 𝓤 H (𝓣 .C) (𝓣 .Λ) code.function) (WpFn-mono 𝓤 H (W .laws) 𝓣 code.function) sum-lists-walks
 
 pub sum-lists-spec : {M : Type 1} → stated.statement M
