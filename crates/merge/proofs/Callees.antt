@@ -195,7 +195,8 @@ module _ {M : Type 1} (𝓤 : URA M) (H : Heap 𝓤) (A : Atoms 𝓤) (mem : Mem
   pub count-told : (u : Taking) (r : ℕ) → ent 𝓤 (ensured 𝓤 H A lists-in.ended (lists-in.clauses 𝓤 H A mem run) tt (u, tt) tt r) (fact 𝓤 (r ≡ listsIn u))
   count-told u r = exE 𝓤 _ (λ ws. snd∗ 𝓤 (sem 𝓤 H A (lasts lists-in.ended tt (u, tt) ws)) (fact 𝓤 (r ≡ listsIn u)))
 
-  pub span-told : (t : Tables) (u : Taking) (k : ℕ) (r : Span) → ent 𝓤 (ensured 𝓤 H A span-of.ended (span-of.clauses 𝓤 H A mem run) tt (t, (u, (k, tt))) tt r) (fact 𝓤 (r ≡ spanOf t (getD (u .places) k 0)))
+  pub span-told : (t : Tables) (u : Taking) (k : ℕ) (r : Span) → ent 𝓤 (ensured 𝓤 H A span-of.ended (span-of.clauses 𝓤 H A mem run) tt (t, (u, (k, tt))) tt r)
+      (fact 𝓤 (r ≡ spanOf t (getD (u .places) k 0)))
   span-told t u k r = exE 𝓤 _ (λ ws. snd∗ 𝓤 (sem 𝓤 H A (lasts span-of.ended tt (t, (u, (k, tt))) ws)) (fact 𝓤 (r ≡ spanOf t (getD (u .places) k 0))))
 
   pub end-told : (e : Ends) (k at : ℕ) (r : Ends) → ent 𝓤 (ensured 𝓤 H A with-end.ended (with-end.clauses 𝓤 H A mem run) tt (e, (k, (at, tt))) tt r) (fact 𝓤 (r ≡ withEnd e k at))
@@ -253,13 +254,15 @@ module _ {M : Type 1} (𝓤 : URA M) (H : Heap 𝓤) (A : Atoms 𝓤) (mem : Mem
     )
 
     pub goes-keep : (from at : ℕ) (p : Pulse) (t : Time) → from ≤ at → at < length ys → at < length ms → from < 2 ^ 64 → at < 2 ^ 64 → IsRecord p → IsTime t
-        → ent 𝓤 (sep 𝓤 (sep 𝓤 (sem 𝓤 H A (Own Row b₁ o₁ n₁ (ν₁ ∷ []) δ₁ ys)) (sem 𝓤 H A (Own usize b₂ o₂ n₂ (ν₂ ∷ []) δ₂ ms))) (sep 𝓤 (A .lft (ν₁ ∷ []) fullShare) (A .lft (ν₂ ∷ []) fullShare))) (Keeps .pre (to-keep from at p t))
+        → ent 𝓤 (sep 𝓤 (sep 𝓤 (sem 𝓤 H A (Own Row b₁ o₁ n₁ (ν₁ ∷ []) δ₁ ys)) (sem 𝓤 H A (Own usize b₂ o₂ n₂ (ν₂ ∷ []) δ₂ ms))) (sep 𝓤 (A .lft (ν₁ ∷ []) fullShare) (A .lft (ν₂ ∷ []) fullShare)))
+        (Keeps .pre (to-keep from at p t))
     goes-keep from at p t h hw hm gf ga gp gt =
         qed W ((‵ (Own Row b₁ o₁ n₁ (ν₁ ∷ []) δ₁ ys) ⊛ ‵ (Own usize b₂ o₂ n₂ (ν₂ ∷ []) δ₂ ms)) ∷ (‵ (flft (ν₁ ∷ []) fullShare) ⊛ ‵ (flft (ν₂ ∷ []) fullShare)) ∷ []) ∵
         says ! (h, hw, hm) $ split ! $ move ! (2 ∷ []) $ split ! $
         -- [ν₁; ν₂; rows; marks]
         nothing ! $ move ! (2 ∷ 0 ∷ []) $ join ! $ move ! (1 ∷ 0 ∷ []) $ join ! $ frame ! $
-        nothing ! $ has-time ! t gt $ fjoin ! $ has-record ! p gp $ fjoin ! $ has-word ! at ga $ fjoin ! $ has-word ! from gf $ fjoin ! $ move ! (2 ∷ 0 ∷ []) $ fjoin ! $ move ! (1 ∷ 0 ∷ []) $ fjoin ! $ done !
+        nothing ! $ has-time ! t gt $ fjoin ! $ has-record ! p gp $ fjoin ! $ has-word ! at ga $ fjoin ! $ has-word ! from gf $ fjoin ! $ move ! (2 ∷ 0 ∷ []) $ fjoin ! $ move ! (1 ∷ 0 ∷ []) $
+        fjoin ! $ done !
 
     -- with the records at (b₀, o₀) too, shared for κ₀ under the name γ₀
     module _ (b₀ o₀ : ℕ) (κ₀ : Lft) (q₀ : Share) (γ₀ : GName) (ps : List Pulse) where
@@ -282,11 +285,13 @@ module _ {M : Type 1} (𝓤 : URA M) (H : Heap 𝓤) (A : Atoms 𝓤) (mem : Mem
       )
 
       pub goes-sum : (from count : ℕ) (t : Time) (at : ℕ) → from + count ≤ length ps → at + count ≤ length ys → at + count ≤ length ms → from < 2 ^ 64 → count < 2 ^ 64 → IsTime t → at < 2 ^ 64
-          → ent 𝓤 (sep 𝓤 (sep 𝓤 (sem 𝓤 H A ownP) (A .lft κ₀ q₀)) (sep 𝓤 (sep 𝓤 (sem 𝓤 H A (Own Row b₁ o₁ n₁ (ν₁ ∷ []) δ₁ ys)) (sem 𝓤 H A (Own usize b₂ o₂ n₂ (ν₂ ∷ []) δ₂ ms))) (sep 𝓤 (A .lft (ν₁ ∷ []) fullShare) (A .lft (ν₂ ∷ []) fullShare))))
+          → ent 𝓤 (sep 𝓤 (sep 𝓤 (sem 𝓤 H A ownP) (A .lft κ₀ q₀)) (sep 𝓤 (sep 𝓤 (sem 𝓤 H A (Own Row b₁ o₁ n₁ (ν₁ ∷ []) δ₁ ys)) (sem 𝓤 H A (Own usize b₂ o₂ n₂ (ν₂ ∷ []) δ₂ ms)))
+          (sep 𝓤 (A .lft (ν₁ ∷ []) fullShare) (A .lft (ν₂ ∷ []) fullShare))))
           (Sums .pre (to-sum from count t at))
       goes-sum from count t at hp hw hm gf gc gt ga =
           qed W ((‵ ownP ⊛ ‵ (flft κ₀ q₀)) ∷ (‵ (Own Row b₁ o₁ n₁ (ν₁ ∷ []) δ₁ ys) ⊛ ‵ (Own usize b₂ o₂ n₂ (ν₂ ∷ []) δ₂ ms)) ∷ (‵ (flft (ν₁ ∷ []) fullShare) ⊛ ‵ (flft (ν₂ ∷ []) fullShare)) ∷ []) ∵
           says ! (hp, hw, hm) $ split ! $ move ! (3 ∷ []) $ split ! $
           -- [ν₁; ν₂; records; κ₀; rows and marks]
           nothing ! $ move ! (2 ∷ 0 ∷ []) $ join ! $ move ! (1 ∷ 0 ∷ []) $ join ! $ move ! (2 ∷ 0 ∷ []) $ join ! $ frame ! $ move ! (1 ∷ []) $ split ! $
-          nothing ! $ has-word ! at ga $ fjoin ! $ move ! (2 ∷ 0 ∷ []) $ fjoin ! $ move ! (1 ∷ 0 ∷ []) $ fjoin ! $ has-time ! t gt $ fjoin ! $ has-word ! count gc $ fjoin ! $ has-word ! from gf $ fjoin ! $ move ! (1 ∷ 0 ∷ []) $ fjoin ! $ done !
+          nothing ! $ has-word ! at ga $ fjoin ! $ move ! (2 ∷ 0 ∷ []) $ fjoin ! $ move ! (1 ∷ 0 ∷ []) $ fjoin ! $ has-time ! t gt $ fjoin ! $ has-word ! count gc $ fjoin ! $ has-word ! from gf $
+          fjoin ! $ move ! (1 ∷ 0 ∷ []) $ fjoin ! $ done !

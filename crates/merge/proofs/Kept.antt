@@ -56,14 +56,17 @@ module _ (from : ℕ) (t : Float) where
   unfolding keptIn
   one-more n k p rows marks h er em = let e : n + 1 - 1 ≡ n = omega arith in rw (lt-ltb from (n + 1) (omega arith), e, er, em)
 
-  kept-on : (n : ℕ) (k : Pulse) (ps : List Pulse) (rows : List (List Float)) (marks : List ℕ) → from ≤ n → n + length ps < length rows → n + length ps < length marks → getD rows n [] ≡ rowOfPulse k → getD marks n 0 ≡ markOf k
+  kept-on : (n : ℕ) (k : Pulse) (ps : List Pulse) (rows : List (List Float)) (marks : List ℕ) → from ≤ n → n + length ps < length rows → n + length ps < length marks → getD rows n [] ≡ rowOfPulse k
+      → getD marks n 0 ≡ markOf k
       → keptAll from t ps (laid rows marks (n + 1)) ≡ laidOn (keptFrom falls k ps) n rows marks
   unfolding keptAll keptFrom
   kept-on n k [] rows marks h hr hm er em =
       rw (← er, ← em, over-same n [] [] rows (omega arith), over-same n 0 [] marks (omega arith), over-nil (n + 1) rows, over-nil (n + 1) marks)
   kept-on n k (p ∷ ps) rows marks h hr hm er em = rw (one-more n k p rows marks h er em) (either (falls k p)
-      (kept-on n (plusP k p) ps (set rows n (rowOfPulse (plusP k p))) marks h (rw (length-set rows n (rowOfPulse (plusP k p))) (omega arith)) (omega arith) (getD-set-same rows n (rowOfPulse (plusP k p)) [] (omega arith)) em)
-      (kept-on (n + 1) p ps (set rows (n + 1) (rowOfPulse p)) (set marks (n + 1) (markOf p)) (omega arith) (rw (length-set rows (n + 1) (rowOfPulse p)) (omega arith)) (rw (length-set marks (n + 1) (markOf p)) (omega arith))
+      (kept-on n (plusP k p) ps (set rows n (rowOfPulse (plusP k p))) marks h (rw (length-set rows n (rowOfPulse (plusP k p))) (omega arith)) (omega arith)
+      (getD-set-same rows n (rowOfPulse (plusP k p)) [] (omega arith)) em)
+      (kept-on (n + 1) p ps (set rows (n + 1) (rowOfPulse p)) (set marks (n + 1) (markOf p)) (omega arith) (rw (length-set rows (n + 1) (rowOfPulse p)) (omega arith))
+      (rw (length-set marks (n + 1) (markOf p)) (omega arith))
       (getD-set-same rows (n + 1) (rowOfPulse p) [] (omega arith)) (getD-set-same marks (n + 1) (markOf p) 0 (omega arith))))
     where
       added : Laid
@@ -92,12 +95,14 @@ module _ (from : ℕ) (t : Float) where
   unfolding keptIn
   first p rows marks = rw (le-ltb from from (omega arith))
 
-  pub kept-summed : (ps : List Pulse) (rows : List (List Float)) (marks : List ℕ) → from + length ps ≤ length rows → from + length ps ≤ length marks → keptAll from t ps (laid rows marks from) ≡ laidOn (summed t ps) from rows marks
+  pub kept-summed : (ps : List Pulse) (rows : List (List Float)) (marks : List ℕ) → from + length ps ≤ length rows → from + length ps ≤ length marks
+      → keptAll from t ps (laid rows marks from) ≡ laidOn (summed t ps) from rows marks
   unfolding keptAll summedBy
   kept-summed [] rows marks hr hm = let e : from + 0 ≡ from = omega arith in rw (over-nil from rows, over-nil from marks, e)
   kept-summed (p ∷ ps) rows marks hr hm = rw (
     first p rows marks,
-    kept-on from p ps (set rows from (rowOfPulse p)) (set marks from (markOf p)) (omega arith) (rw (length-set rows from (rowOfPulse p)) (omega arith)) (rw (length-set marks from (markOf p)) (omega arith))
+    kept-on from p ps (set rows from (rowOfPulse p)) (set marks from (markOf p)) (omega arith) (rw (length-set rows from (rowOfPulse p)) (omega arith))
+        (rw (length-set marks from (markOf p)) (omega arith))
         (getD-set-same rows from (rowOfPulse p) [] (omega arith)) (getD-set-same marks from (markOf p) 0 (omega arith)),
     over-row from (keptFrom falls p ps) rows (rowOfPulse p) (kept-some falls p ps) (omega arith),
     over-mark from (keptFrom falls p ps) marks (markOf p) (kept-some falls p ps) (omega arith),

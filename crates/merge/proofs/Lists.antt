@@ -92,7 +92,8 @@ module _ (ls : List (List Pulse)) (k at : ℕ) (rows : Rows) (marks ends : List 
     marks-on : over at (map markOf (l ++ inOne (drop (k + 1) ls))) marks ≡ over (at + length l) (map markOf (inOne (drop (k + 1) ls))) (over at (map markOf l) marks)
     marks-on = rw (marks-append l (inOne (drop (k + 1) ls)), over-append at (map markOf l) (map markOf (inOne (drop (k + 1) ls))) marks (rw long-m fits-m), long-m)
 
-    pub turned : gathered (over r (map rowOfPulse (inOne (drop (k + 1) ls))) zs) (over r (map markOf (inOne (drop (k + 1) ls))) us) (record { ends = over (k + 1) (endsFrom r (drop (k + 1) ls)) (set ends k r) }) ≡ still
+    pub turned : gathered (over r (map rowOfPulse (inOne (drop (k + 1) ls))) zs) (over r (map markOf (inOne (drop (k + 1) ls))) us)
+        (record { ends = over (k + 1) (endsFrom r (drop (k + 1) ls)) (set ends k r) }) ≡ still
     unfolding inOne endsFrom
     turned = rw (rest, rows-on, marks-on, over-cons k (at + length l) (endsFrom (at + length l) (drop (k + 1) ls)) ends fits-e, is-r, is-zs, is-us)
 
@@ -164,7 +165,8 @@ pub record Upto (t : Tables) (taking : Taking) (ps : List Pulse) (rows : Rows) (
   pub long-e : length (es .ends) ≡ 8
   pub left : still (lists t taking ps) k at ys ms (es .ends) ≡ gatheredOf t (partsIn taking) ps rows marks
 
-unfoldable pub begun : (t : Tables) (taking : Taking) (ps : List Pulse) (rows : Rows) (marks : List ℕ) (es : Ends) → IsEnds es → es ≡ noEnds → sizesFit (length ps) (length rows) (length marks) ≡ true → Upto t taking ps rows marks
+unfoldable pub begun : (t : Tables) (taking : Taking) (ps : List Pulse) (rows : Rows) (marks : List ℕ) (es : Ends) → IsEnds es → es ≡ noEnds → sizesFit (length ps) (length rows)
+    (length marks) ≡ true → Upto t taking ps rows marks
 begun t taking ps rows marks es g e fit =
     record {
       k = 0;
@@ -181,7 +183,8 @@ begun t taking ps rows marks es g e fit =
       left = rw (e, fit, from-none (lists t taking ps));
     }
 
-module _ (t : Tables) (taking : Taking) (ps : List Pulse) (rows : Rows) (marks : List ℕ) (lp : length (taking .places) ≡ 8) (lf : length (taking .factors) ≡ 8) (long : Sizes (length ps) (length rows) (length marks)) (u : Upto t taking ps rows marks) where
+module _ (t : Tables) (taking : Taking) (ps : List Pulse) (rows : Rows) (marks : List ℕ) (lp : length (taking .places) ≡ 8) (lf : length (taking .factors) ≡ 8)
+    (long : Sizes (length ps) (length rows) (length marks)) (u : Upto t taking ps rows marks) where
   abbrev pub place : ℕ
   place = placeAt t taking ps (u .k)
 
@@ -207,7 +210,8 @@ module _ (t : Tables) (taking : Taking) (ps : List Pulse) (rows : Rows) (marks :
           in-marks = omega (arith, s .most, u .near, u .long-m, long .marks, eighth);
         }
 
-    unfoldable pub next : (r : ℕ) (zs : Rows) (us : List ℕ) (es : Ends) → laid zs us r ≡ laidOn (summed (t .time .0) (take (spanOf t place .count) (drop (spanOf t place .from) ps))) (u .at) (u .ys) (u .ms) → length zs ≡ length (u .ys) → length us ≡ length (u .ms)
+    unfoldable pub next : (r : ℕ) (zs : Rows) (us : List ℕ) (es : Ends) → laid zs us r ≡ laidOn (summed (t .time .0) (take (spanOf t place .count) (drop (spanOf t place .from) ps))) (u .at) (u .ys)
+        (u .ms) → length zs ≡ length (u .ys) → length us ≡ length (u .ms)
         → es ≡ withEnd (u .es) (u .k) r → IsEnds es → Upto t taking ps rows marks
     next r zs us es lays lz lu ee g =
         let s = spans t ps (long .pulses) place in
@@ -229,5 +233,6 @@ module _ (t : Tables) (taking : Taking) (ps : List Pulse) (rows : Rows) (marks :
           long-w = lz ∙ u .long-w;
           long-m = lu ∙ u .long-m;
           long-e = rw ee (length-set (u .es .ends) (u .k) r ∙ u .long-e);
-          left = rw ee (turned (lists t taking ps) (u .k) (u .at) (u .ys) (u .ms) (u .es .ends) (listOf t ps place) (list-at t taking ps lp lf (u .k) less) r zs us lays-l fits-w fits-m (omega (arith, u .long-e, eighth)) ∙ u .left);
+          left = rw ee (turned (lists t taking ps) (u .k) (u .at) (u .ys) (u .ms) (u .es .ends) (listOf t ps place) (list-at t taking ps lp lf (u .k) less) r zs us lays-l fits-w fits-m
+              (omega (arith, u .long-e, eighth)) ∙ u .left);
         }

@@ -33,7 +33,8 @@ times-one (fin s m e) f =
     let x = fin s m e in
     let n = unitsOf x in
     let y = mul binary64 x one in
-    let is : y ≡ round binary64 s n (2 ^ 1074) = mul-rounds binary64 x one s false n (2 ^ 1074) 1 1 (pow-pos 1074) (lit< tt) (own x f tt) one-is ∙ (λ i. round binary64 (like s i) (mul-one n i) (2 ^ 1074)) in
+    let is : y ≡ round binary64 s n (2 ^ 1074) = mul-rounds binary64 x one s false n (2 ^ 1074) 1 1 (pow-pos 1074) (lit< tt) (own x f tt) one-is
+    ∙ (λ i. round binary64 (like s i) (mul-one n i) (2 ^ 1074)) in
     unique y x s n (2 ^ 1074) (pow-pos 1074) (mul-fits binary64 x one) f (subst (λ (z : Float). Units z s n) (sym is) (few-value s n (few-of x f tt) (units-below x f tt))) (own x f tt)
 
 -- amp and drag are numbers of binary64, as every f64 of the code is

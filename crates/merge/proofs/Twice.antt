@@ -12,7 +12,8 @@ module _ (falls : Pulse → Pulse → Bool) (steady : (k p q : Pulse) → falls 
   unfolding keptFrom
   apart k p [] e = rw e
   apart k p (q ∷ qs) e = either (falls p q) (apart k (plusP p q) qs (steady k p q ∙ e)) (λ h. apart p q qs h) refl where
-    either : (b : Bool) → keptFrom falls k (keptFrom falls (plusP p q) qs) ≡ k ∷ keptFrom falls (plusP p q) qs → (falls p q ≡ false → keptFrom falls p (keptFrom falls q qs) ≡ p ∷ keptFrom falls q qs) → falls p q ≡ b
+    either : (b : Bool) → keptFrom falls k (keptFrom falls (plusP p q) qs) ≡ k ∷ keptFrom falls (plusP p q) qs → (falls p q ≡ false → keptFrom falls p (keptFrom falls q qs) ≡ p
+        ∷ keptFrom falls q qs) → falls p q ≡ b
         → keptFrom falls k (cond b (keptFrom falls (plusP p q) qs) (p ∷ keptFrom falls q qs)) ≡ k ∷ cond b (keptFrom falls (plusP p q) qs) (p ∷ keptFrom falls q qs)
     either true x y h = x
     either false x y h = rw (e, y h)

@@ -77,7 +77,8 @@ returns c =
     let f = c .before .before .before in
     let k = f .before in
     let a = k .before .before .before .before .before .args in
-    added (a .work .now) (a .marks .now) (a .from) (a .at) (a .p) (a .tolerance .0) (k .pulse-in .result) (f .falls .result) (k .before .before .before .if1 .taken) (k .pulse-in .ensures) (f .falls .ensures)
+    added (a .work .now) (a .marks .now) (a .from) (a .at) (a .p) (a .tolerance .0) (k .pulse-in .result) (f .falls .result) (k .before .before .before .if1 .taken) (k .pulse-in .ensures)
+    (f .falls .ensures)
     (c .before .plus .result) (c .row-of .result) (c .before .plus .ensures) (c .row-of .ensures) (c .before .before .if2 .taken)
 
 row-of-requires-2 : tie.Need-row-of-requires-2
@@ -108,7 +109,8 @@ returns-2 : tie.Need-returns-2
 returns-2 c =
     let a = c .before .before .before .args in
     ⊎-elim
-    (λ w. apart (a .work .now) (a .marks .now) (a .from) (a .at) (a .p) (a .tolerance .0) (w .3 .result) (w .4 .result) (w .0 .taken) (w .3 .ensures) (w .4 .ensures) (c .row-of2 .result) (c .row-of2 .ensures) (w .5 .left))
+    (λ w. apart (a .work .now) (a .marks .now) (a .from) (a .at) (a .p) (a .tolerance .0) (w .3 .result) (w .4 .result) (w .0 .taken) (w .3 .ensures) (w .4 .ensures) (c .row-of2 .result)
+    (c .row-of2 .ensures) (w .5 .left))
     (λ w. fresh (a .work .now) (a .marks .now) (a .from) (a .at) (a .p) (a .tolerance .0) (c .row-of2 .result) (c .row-of2 .ensures) (w .left))
     (c .before .if1 .came)
 

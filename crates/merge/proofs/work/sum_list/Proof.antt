@@ -87,8 +87,10 @@ stayed = (
   ),
 )
 
-module _ {M : Type 1} (𝓤 : URA M) (H : Heap 𝓤) (A : Atoms 𝓤) (W : Given 𝓤 H A) (mem : Memory → SProp 𝓤) (run : Routine → Fun 𝓤) (κ₀ κ₁ κ₂ : Lft) (q₀ q₁ q₂ : Share) (b₀ o₀ b₁ o₁ b₂ o₂ : ℕ) (γ₀ γ₁ γ₂ : GName)
-    (ps : List Pulse) (from count : ℕ) (t : Time) (ws : Rows) (marks : List ℕ) (at : ℕ) (gp : Room P.the-row (length ps)) (gf : from < 2 ^ 64) (gc : count < 2 ^ 64) (gt : IsTime t) (gw : Room Row (length ws)) (gm : Room usize (length marks)) (ga : at < 2 ^ 64)
+module _ {M : Type 1} (𝓤 : URA M) (H : Heap 𝓤) (A : Atoms 𝓤) (W : Given 𝓤 H A) (mem : Memory → SProp 𝓤) (run : Routine → Fun 𝓤) (κ₀ κ₁ κ₂ : Lft) (q₀ q₁ q₂ : Share) (b₀ o₀ b₁ o₁ b₂ o₂ : ℕ)
+    (γ₀ γ₁ γ₂ : GName)
+    (ps : List Pulse) (from count : ℕ) (t : Time) (ws : Rows) (marks : List ℕ) (at : ℕ) (gp : Room P.the-row (length ps)) (gf : from < 2 ^ 64) (gc : count < 2 ^ 64) (gt : IsTime t)
+    (gw : Room Row (length ws)) (gm : Room usize (length marks)) (ga : at < 2 ^ 64)
     (in-pulses : from + count ≤ length ps) (in-work : at + count ≤ length ws) (in-marks : at + count ≤ length marks) where
   abbrev refP : RefT (List Pulse)
   refP = record { ptr = (b₀, o₀); name = γ₀; now = ps }
@@ -97,7 +99,13 @@ module _ {M : Type 1} (𝓤 : URA M) (H : Heap 𝓤) (A : Atoms 𝓤) (W : Given
   args = (refP, (from, (count, (t, (record { ptr = (b₁, o₁); name = γ₁; now = ws }, (record { ptr = (b₂, o₂); name = γ₂; now = marks }, (at, tt)))))))
 
   abbrev vals : Vals f.signature (κ₀, (κ₁, (κ₂, tt)))
-  vals = (sliceVal (b₀, o₀) (length ps) ∷ [], (vint w64 from ∷ [], (vint w64 count ∷ [], (valQ t ∷ [], (sliceVal (b₁, o₁) (length ws) ∷ [], (sliceVal (b₂, o₂) (length marks) ∷ [], (vint w64 at ∷ [], tt)))))))
+  vals = (
+    sliceVal (b₀, o₀) (length ps) ∷ [],
+    (
+      vint w64 from ∷ [],
+      (vint w64 count ∷ [], (valQ t ∷ [], (sliceVal (b₁, o₁) (length ws) ∷ [], (sliceVal (b₂, o₂) (length marks) ∷ [], (vint w64 at ∷ [], tt))))),
+    ),
+  )
 
   abbrev ownP : Fml
   ownP = ShrSlice (named 0) κ₀ P.the-row .own refP (sliceVal (b₀, o₀) (length ps) ∷ [])
@@ -115,10 +123,12 @@ module _ {M : Type 1} (𝓤 : URA M) (H : Heap 𝓤) (A : Atoms 𝓤) (W : Given
       → ent 𝓤 (⋆ 𝓤 H A (‵ ownP ∷ ‵ (flft κ₀ q₀) ∷ ‵ (ownW zs) ∷ ‵ (flft κ₁ q₁) ∷ ‵ (ownM us) ∷ ‵ (flft κ₂ q₂) ∷ [])) (Post (vint w64 r))
   exits r zs us gr lz lu is =
       qed W (‵ ownP ∷ ‵ (flft κ₀ q₀) ∷ ‵ (ownW zs) ∷ ‵ (flft κ₁ q₁) ∷ ‵ (ownM us) ∷ ‵ (flft κ₂ q₂) ∷ []) ∵
-      suffices ! _ (ends-at 𝓤 H A f.ended stayed (f.clauses 𝓤 H A mem run) W (((κ₀, (κ₁, (κ₂, tt))), (q₀, (q₁, (q₂, tt))), tt, args, vals), tt) (vint w64 r) r (tt, (tt, (tt, (tt, (zs, (us, (tt, tt))))))) (tt, (tt, (tt, (tt, (lz, (lu, (tt, tt)))))))) $ says ! is $
+      suffices ! _ (ends-at 𝓤 H A f.ended stayed (f.clauses 𝓤 H A mem run) W (((κ₀, (κ₁, (κ₂, tt))), (q₀, (q₁, (q₂, tt))), tt, args, vals), tt) (vint w64 r) r
+      (tt, (tt, (tt, (tt, (zs, (us, (tt, tt))))))) (tt, (tt, (tt, (tt, (lz, (lu, (tt, tt)))))))) $ says ! is $
       nothing ! $ move ! (6 ∷ 0 ∷ []) $ join ! $ move ! (4 ∷ 0 ∷ []) $ join ! $ move ! (2 ∷ 0 ∷ []) $ join ! $ frame ! $
       -- [what is owned of the records, rows and marks]
-      nothing ! $ has-word ! at ga $ fjoin ! $ move ! (3 ∷ 0 ∷ []) $ fjoin ! $ move ! (2 ∷ 0 ∷ []) $ fjoin ! $ has-time ! t gt $ fjoin ! $ has-word ! count gc $ fjoin ! $ has-word ! from gf $ fjoin ! $ move ! (1 ∷ 0 ∷ []) $ fjoin ! $ frame ! $ has-word ! r gr $ done !
+      nothing ! $ has-word ! at ga $ fjoin ! $ move ! (3 ∷ 0 ∷ []) $ fjoin ! $ move ! (2 ∷ 0 ∷ []) $ fjoin ! $ has-time ! t gt $ fjoin ! $ has-word ! count gc $ fjoin ! $ has-word ! from gf $
+      fjoin ! $ move ! (1 ∷ 0 ∷ []) $ fjoin ! $ frame ! $ has-word ! r gr $ done !
 
   abbrev Up : Type 0
   Up = Upto ps from count (t .0) ws marks at
@@ -140,7 +150,8 @@ module _ {M : Type 1} (𝓤 : URA M) (H : Heap 𝓤) (A : Atoms 𝓤) (W : Given
     fm = fmOf 𝓤 H (W .laws) 𝓣
 
     abbrev En : Env 𝓤 H
-    En = (word, l₀) ∷ (slicesP (named 0), l₁) ∷ (word, l₂) ∷ (word, l₃) ∷ (Q′.mir, l₄) ∷ (sliceW (named 1), l₅) ∷ (sliceM (named 2), l₆) ∷ (word, l₇) ∷ (word, l₈) ∷ (word, l₉) ∷ (word, l₁₀) ∷ (P′.mir, l₁₁) ∷ (tyBool, l₁₂) ∷ (word, l₁₃) ∷ (tyPtr, l₁₄) ∷ (P′.mir, l₁₅) ∷ (refW, l₁₆) ∷ (sliceTy refW, l₁₇) ∷ (refM, l₁₈) ∷ (sliceTy refM, l₁₉) ∷ []
+    En = (word, l₀) ∷ (slicesP (named 0), l₁) ∷ (word, l₂) ∷ (word, l₃) ∷ (Q′.mir, l₄) ∷ (sliceW (named 1), l₅) ∷ (sliceM (named 2), l₆) ∷ (word, l₇) ∷ (word, l₈) ∷ (word, l₉) ∷ (word, l₁₀)
+        ∷ (P′.mir, l₁₁) ∷ (tyBool, l₁₂) ∷ (word, l₁₃) ∷ (tyPtr, l₁₄) ∷ (P′.mir, l₁₅) ∷ (refW, l₁₆) ∷ (sliceTy refW, l₁₇) ∷ (refM, l₁₈) ∷ (sliceTy refM, l₁₉) ∷ []
 
     -- [pulses; κ₀; work; κ₁; marks; κ₂; _19; …; _0; …]
     abbrev At : Up → List (Item 𝓤)
@@ -148,9 +159,12 @@ module _ {M : Type 1} (𝓤 : URA M) (H : Heap 𝓤) (A : Atoms 𝓤) (W : Given
         ∷ ‵ (froom (sliceTy refM) l₁₉ 0) ∷ ‵ (fdies (sliceTy refM) l₁₉) ∷ ‵ (froom refM l₁₈ 0) ∷ ‵ (fdies refM l₁₈) ∷ ‵ (froom (sliceTy refW) l₁₇ 0) ∷ ‵ (fdies (sliceTy refW) l₁₇)
         ∷ ‵ (froom refW l₁₆ 0) ∷ ‵ (fdies refW l₁₆) ∷ ‵ (froom P′.mir l₁₅ 0) ∷ ‵ (fdies P′.mir l₁₅) ∷ ‵ (froom tyPtr l₁₄ 0) ∷ ‵ (fdies tyPtr l₁₄)
         ∷ ‵ (froom word l₁₃ 0) ∷ ‵ (fdies word l₁₃) ∷ ‵ (froom tyBool l₁₂ 0) ∷ ‵ (fdies tyBool l₁₂) ∷ ‵ (froom P′.mir l₁₁ 0) ∷ ‵ (fdies P′.mir l₁₁)
-        ∷ ‵ (fat fullShare word l₁₀ 0 (vint w64 (u .used))) ∷ ‵ (fdies word l₁₀) ∷ ‵ (fat fullShare word l₉ 0 (vint w64 (u .k))) ∷ ‵ (fdies word l₉) ∷ ‵ (fat fullShare word l₈ 0 (vint w64 (from + count))) ∷ ‵ (fdies word l₈)
-        ∷ ‵ (fat fullShare word l₇ 0 (vint w64 at)) ∷ ‵ (fdies word l₇) ∷ ‵ (fat fullShare (sliceM (named 2)) l₆ 0 (sliceVal (b₂, o₂) (length marks))) ∷ ‵ (fdies (sliceM (named 2)) l₆) ∷ ‵ (fat fullShare (sliceW (named 1)) l₅ 0 (sliceVal (b₁, o₁) (length ws))) ∷ ‵ (fdies (sliceW (named 1)) l₅)
-        ∷ ‵ (fat fullShare Q′.mir l₄ 0 (valQ t)) ∷ ‵ (fdies Q′.mir l₄) ∷ ‵ (fat fullShare word l₃ 0 (vint w64 count)) ∷ ‵ (fdies word l₃) ∷ ‵ (fat fullShare word l₂ 0 (vint w64 from)) ∷ ‵ (fdies word l₂)
+        ∷ ‵ (fat fullShare word l₁₀ 0 (vint w64 (u .used))) ∷ ‵ (fdies word l₁₀) ∷ ‵ (fat fullShare word l₉ 0 (vint w64 (u .k))) ∷ ‵ (fdies word l₉)
+        ∷ ‵ (fat fullShare word l₈ 0 (vint w64 (from + count))) ∷ ‵ (fdies word l₈)
+        ∷ ‵ (fat fullShare word l₇ 0 (vint w64 at)) ∷ ‵ (fdies word l₇) ∷ ‵ (fat fullShare (sliceM (named 2)) l₆ 0 (sliceVal (b₂, o₂) (length marks))) ∷ ‵ (fdies (sliceM (named 2)) l₆)
+        ∷ ‵ (fat fullShare (sliceW (named 1)) l₅ 0 (sliceVal (b₁, o₁) (length ws))) ∷ ‵ (fdies (sliceW (named 1)) l₅)
+        ∷ ‵ (fat fullShare Q′.mir l₄ 0 (valQ t)) ∷ ‵ (fdies Q′.mir l₄) ∷ ‵ (fat fullShare word l₃ 0 (vint w64 count)) ∷ ‵ (fdies word l₃) ∷ ‵ (fat fullShare word l₂ 0 (vint w64 from))
+        ∷ ‵ (fdies word l₂)
         ∷ ‵ (fat fullShare (slicesP (named 0)) l₁ 0 (sliceVal (b₀, o₀) (length ps))) ∷ ‵ (fdies (slicesP (named 0)) l₁) ∷ ‵ (froom word l₀ 0) ∷ ‵ (fdies word l₀) ∷ []
 
     -- a turn ends nearer to the end, or the loop is left and the rest of the body runs
@@ -183,9 +197,13 @@ module _ {M : Type 1} (𝓤 : URA M) (H : Heap 𝓤) (A : Atoms 𝓤) (W : Given
         use2 W (raw (Keeps 𝓤 H A mem run .pre (asked ν₁ ν₂ δ₁ δ₂)))
         (goes-keep 𝓤 H A mem run W b₁ o₁ (length ws) b₂ o₂ (length marks) ν₁ ν₂ δ₁ δ₂ (u .ys) (u .ms) at (u .used) p t (u .begun) (room-w is-more) (room-m is-more) ga used-fits g gt) $
         -- [what is asked; what is kept, twice; pulses; κ₀; _19; …]
-        calls-at ! fm (Keeps 𝓤 H A mem run) known (asked ν₁ ν₂ δ₁ δ₂) (and-then ! (cell ! 5 refl) (and-then ! (cell ! 5 refl) (and-then ! (cell ! 5 refl) (and-then ! (cell ! 5 refl) (and-then ! (cell ! 5 refl) (and-then ! (cell ! 5 refl) (no-more !))))))) (λ v.
-        use1 W (later (some (λ (r : ℕ). ((‵ (flft (ν₁ ∷ []) fullShare) ⊛ (‵ (flft (ν₂ ∷ []) fullShare) ⊛ ‵ ftrue)) ⊛ ‵ (usize .own r (v ∷ []))) ⊛ raw (ensured 𝓤 H A keep.ended (keep.clauses 𝓤 H A mem run) (ν₁ ∷ [], (ν₂ ∷ [], tt)) (given δ₁ δ₂) tt r)))) (id⊢ 𝓤 _) $ await ! tt $ pick ! (λ r.
-        split ! $ move ! (1 ∷ []) $ use1 W (some (λ (zs : Rows × (List ℕ × (Unit {0} × (Unit {0} × (Unit {0} × (Unit {0} × Unit {0})))))). ‵ (lasts keep.ended (ν₁ ∷ [], (ν₂ ∷ [], tt)) (given δ₁ δ₂) zs) ⊛ raw (fact 𝓤 (laid (zs .0) (zs .1 .0) r ≡ keptIn at (t .0) p (laid (u .ys) (u .ms) (u .used)))))) (id⊢ 𝓤 _) $ pick ! (λ zs.
+        calls-at ! fm (Keeps 𝓤 H A mem run) known (asked ν₁ ν₂ δ₁ δ₂)
+        (and-then ! (cell ! 5 refl) (and-then ! (cell ! 5 refl) (and-then ! (cell ! 5 refl) (and-then ! (cell ! 5 refl) (and-then ! (cell ! 5 refl) (and-then ! (cell ! 5 refl) (no-more !)))))))
+        (λ v.
+        use1 W (later (some (λ (r : ℕ). ((‵ (flft (ν₁ ∷ []) fullShare) ⊛ (‵ (flft (ν₂ ∷ []) fullShare) ⊛ ‵ ftrue)) ⊛ ‵ (usize .own r (v ∷ [])))
+        ⊛ raw (ensured 𝓤 H A keep.ended (keep.clauses 𝓤 H A mem run) (ν₁ ∷ [], (ν₂ ∷ [], tt)) (given δ₁ δ₂) tt r)))) (id⊢ 𝓤 _) $ await ! tt $ pick ! (λ r.
+        split ! $ move ! (1 ∷ []) $ use1 W (some (λ (zs : Rows × (List ℕ × (Unit {0} × (Unit {0} × (Unit {0} × (Unit {0} × Unit {0})))))). ‵
+        (lasts keep.ended (ν₁ ∷ [], (ν₂ ∷ [], tt)) (given δ₁ δ₂) zs) ⊛ raw (fact 𝓤 (laid (zs .0) (zs .1 .0) r ≡ keptIn at (t .0) p (laid (u .ys) (u .ms) (u .used)))))) (id⊢ 𝓤 _) $ pick ! (λ zs.
         split ! $ move ! (1 ∷ []) $ heard ! (laid (zs .0) (zs .1 .0) r ≡ keptIn at (t .0) p (laid (u .ys) (u .ms) (u .used))) (λ e.
         fsplit ! $ fsplit ! $ move ! (1 ∷ []) $ feqL ! (λ lz. move ! (1 ∷ []) $ fsplit ! $ fsplit ! $ move ! (1 ∷ []) $ feqL ! (λ lu.
         -- [the last marks; true; the last rows; the tokens and the result; what is kept, twice; pulses; κ₀; _19; …]
@@ -201,10 +219,14 @@ module _ {M : Type 1} (𝓤 : URA M) (H : Heap 𝓤) (A : Atoms 𝓤) (W : Given
         again ! Nearer At u (next ps from count (t .0) ws marks at in-pulses u r (zs .0) (zs .1 .0) (more is-more) lz lu e) (add-one-dec (from + count) (u .k) (more is-more)))))))))))))
         (λ no-more-left. jumps ! $ exec ! C Λ En t-5 (atRet En Post) $
         into ! 6 (of-opd ! (cell ! 6 refl)) refl (tt, record { fits = used-fits }) $
-        returns ! (look ! 44 refl) $ forget ! 20 refl $ forget ! 24 refl $ forget ! 26 refl $ forget ! 28 refl $ forget ! 30 refl $ forget ! 32 refl $ forget ! 34 refl $ forget ! 36 refl $ forget ! 38 refl $ forget ! 40 refl $ forget ! 42 refl $ forget ! 44 refl $
-        move ! (44 ∷ 45 ∷ []) $ free1 ! $ move ! (42 ∷ 43 ∷ []) $ free1 ! $ move ! (40 ∷ 41 ∷ []) $ free1 ! $ move ! (38 ∷ 39 ∷ []) $ free1 ! $ move ! (36 ∷ 37 ∷ []) $ free1 ! $ move ! (34 ∷ 35 ∷ []) $ free1 ! $
-        move ! (32 ∷ 33 ∷ []) $ free1 ! $ move ! (30 ∷ 31 ∷ []) $ free1 ! $ move ! (28 ∷ 29 ∷ []) $ free1 ! $ move ! (26 ∷ 27 ∷ []) $ free1 ! $ move ! (24 ∷ 25 ∷ []) $ free1 ! $ move ! (22 ∷ 23 ∷ []) $ free1 ! $
-        move ! (20 ∷ 21 ∷ []) $ free1 ! $ move ! (18 ∷ 19 ∷ []) $ free1 ! $ move ! (16 ∷ 17 ∷ []) $ free1 ! $ move ! (14 ∷ 15 ∷ []) $ free1 ! $ move ! (12 ∷ 13 ∷ []) $ free1 ! $ move ! (10 ∷ 11 ∷ []) $ free1 ! $
+        returns ! (look ! 44 refl) $ forget ! 20 refl $ forget ! 24 refl $ forget ! 26 refl $ forget ! 28 refl $ forget ! 30 refl $ forget ! 32 refl $ forget ! 34 refl $ forget ! 36 refl $
+        forget ! 38 refl $ forget ! 40 refl $ forget ! 42 refl $ forget ! 44 refl $
+        move ! (44 ∷ 45 ∷ []) $ free1 ! $ move ! (42 ∷ 43 ∷ []) $ free1 ! $ move ! (40 ∷ 41 ∷ []) $ free1 ! $ move ! (38 ∷ 39 ∷ []) $ free1 ! $ move ! (36 ∷ 37 ∷ []) $ free1 ! $
+        move ! (34 ∷ 35 ∷ []) $ free1 ! $
+        move ! (32 ∷ 33 ∷ []) $ free1 ! $ move ! (30 ∷ 31 ∷ []) $ free1 ! $ move ! (28 ∷ 29 ∷ []) $ free1 ! $ move ! (26 ∷ 27 ∷ []) $ free1 ! $ move ! (24 ∷ 25 ∷ []) $ free1 ! $
+        move ! (22 ∷ 23 ∷ []) $ free1 ! $
+        move ! (20 ∷ 21 ∷ []) $ free1 ! $ move ! (18 ∷ 19 ∷ []) $ free1 ! $ move ! (16 ∷ 17 ∷ []) $ free1 ! $ move ! (14 ∷ 15 ∷ []) $ free1 ! $ move ! (12 ∷ 13 ∷ []) $ free1 ! $
+        move ! (10 ∷ 11 ∷ []) $ free1 ! $
         move ! (8 ∷ 9 ∷ []) $ free1 ! $ move ! (6 ∷ 7 ∷ []) $ free1 ! $ free0 ! $
         by ! (exits (u .used) (u .ys) (u .ms) used-fits (u .long-w) (u .long-m) (at-end ps from count (t .0) ws marks at u (nltb→le (u .k) (from + count) no-more-left))))
       where
@@ -246,15 +268,24 @@ module _ {M : Type 1} (𝓤 : URA M) (H : Heap 𝓤) (A : Atoms 𝓤) (W : Given
 
   walk : (𝓣 : Routines 𝓤 H) → Triple 𝓤 (𝓣 .C #keep) (Keeps 𝓤 H A mem run)
       → ent 𝓤 (onEntry 𝓤 H A f.signature (κ₀, (κ₁, (κ₂, tt))) (q₀, (q₁, (q₂, tt))) args vals)
-      (WpFn 𝓤 H (𝓣 .C) (𝓣 .Λ) code.function (sliceVal (b₀, o₀) (length ps) ∷ vint w64 from ∷ vint w64 count ∷ valQ t ∷ sliceVal (b₁, o₁) (length ws) ∷ sliceVal (b₂, o₂) (length marks) ∷ vint w64 at ∷ []) Post)
+      (WpFn 𝓤 H (𝓣 .C) (𝓣 .Λ) code.function (sliceVal (b₀, o₀) (length ps) ∷ vint w64 from ∷ vint w64 count ∷ valQ t ∷ sliceVal (b₁, o₁) (length ws) ∷ sliceVal (b₂, o₂) (length marks) ∷ vint w64 at
+      ∷ []) Post)
   unfolding begin
   walk 𝓣 known =
-      qed W ((‵ (flft κ₀ q₀) ⊛ (‵ (flft κ₁ q₁) ⊛ (‵ (flft κ₂ q₂) ⊛ ‵ ftrue))) ∷ ‵ (owns (ShrSlice (named 0) κ₀ P.the-row ∷ usize ∷ usize ∷ Q.the-row ∷ MutSlice (named 1) κ₁ Row ∷ MutSlice (named 2) κ₂ usize ∷ usize ∷ []) args vals) ∷ []) ∵
-      enter ! (𝓣 .C) (𝓣 .Λ) code.function (sliceVal (b₀, o₀) (length ps) ∷ vint w64 from ∷ vint w64 count ∷ valQ t ∷ sliceVal (b₁, o₁) (length ws) ∷ sliceVal (b₂, o₂) (length marks) ∷ vint w64 at ∷ []) _ $
-      alloc1 ! (λ l₀. alloc1 ! (λ l₁. alloc1 ! (λ l₂. alloc1 ! (λ l₃. alloc1 ! (λ l₄. alloc1 ! (λ l₅. alloc1 ! (λ l₆. alloc1 ! (λ l₇. alloc1 ! (λ l₈. alloc1 ! (λ l₉. alloc1 ! (λ l₁₀. alloc1 ! (λ l₁₁. alloc1 ! (λ l₁₂. alloc1 ! (λ l₁₃. alloc1 ! (λ l₁₄. alloc1 ! (λ l₁₅. alloc1 ! (λ l₁₆. alloc1 ! (λ l₁₇. alloc1 ! (λ l₁₈. alloc1 ! (λ l₁₉. alloc0 ! $ params1 ! $
-      pass1 ! (init ! 36 refl (tt, (tt, (record { fits = gp .0 }, tt)))) $ pass1 ! (init ! 34 refl (tt, record { fits = gf })) $ pass1 ! (init ! 32 refl (tt, record { fits = gc })) $ pass1 ! (init ! 30 refl (typedQ 𝓤 H A W t gt)) $
-      pass1 ! (init ! 28 refl (tt, (tt, (record { fits = gw .0 }, tt)))) $ pass1 ! (init ! 26 refl (tt, (tt, (record { fits = gm .0 }, tt)))) $ pass1 ! (init ! 24 refl (tt, record { fits = ga })) $ pass0 ! $
-      move ! (40 ∷ 41 ∷ []) $ split ! $ move ! (1 ∷ []) $ split ! $ move ! (1 ∷ []) $ split ! $ move ! (4 ∷ []) $ fsplit ! $ move ! (1 ∷ []) $ fsplit ! $ move ! (1 ∷ []) $ fsplit ! $ move ! (1 ∷ []) $ fsplit ! $ move ! (1 ∷ []) $ fsplit ! $ move ! (1 ∷ []) $ fsplit ! $
+      qed W ((‵ (flft κ₀ q₀) ⊛ (‵ (flft κ₁ q₁) ⊛ (‵ (flft κ₂ q₂) ⊛ ‵ ftrue)))
+      ∷ ‵ (owns (ShrSlice (named 0) κ₀ P.the-row ∷ usize ∷ usize ∷ Q.the-row ∷ MutSlice (named 1) κ₁ Row ∷ MutSlice (named 2) κ₂ usize ∷ usize ∷ []) args vals) ∷ []) ∵
+      enter ! (𝓣 .C) (𝓣 .Λ) code.function (sliceVal (b₀, o₀) (length ps) ∷ vint w64 from ∷ vint w64 count ∷ valQ t ∷ sliceVal (b₁, o₁) (length ws) ∷ sliceVal (b₂, o₂) (length marks) ∷ vint w64 at
+      ∷ []) _ $
+      alloc1 ! (λ l₀. alloc1 ! (λ l₁. alloc1 ! (λ l₂. alloc1 !
+      (λ l₃. alloc1 ! (λ l₄. alloc1 ! (λ l₅. alloc1 ! (λ l₆. alloc1 !
+      (λ l₇. alloc1 ! (λ l₈. alloc1 ! (λ l₉. alloc1 ! (λ l₁₀. alloc1 !
+      (λ l₁₁. alloc1 ! (λ l₁₂. alloc1 ! (λ l₁₃. alloc1 ! (λ l₁₄. alloc1 ! (λ l₁₅. alloc1 ! (λ l₁₆. alloc1 ! (λ l₁₇. alloc1 ! (λ l₁₈. alloc1 ! (λ l₁₉. alloc0 ! $ params1 ! $
+      pass1 ! (init ! 36 refl (tt, (tt, (record { fits = gp .0 }, tt)))) $ pass1 ! (init ! 34 refl (tt, record { fits = gf })) $ pass1 ! (init ! 32 refl (tt, record { fits = gc })) $
+      pass1 ! (init ! 30 refl (typedQ 𝓤 H A W t gt)) $
+      pass1 ! (init ! 28 refl (tt, (tt, (record { fits = gw .0 }, tt)))) $ pass1 ! (init ! 26 refl (tt, (tt, (record { fits = gm .0 }, tt)))) $ pass1 ! (init ! 24 refl (tt, record { fits = ga })) $
+      pass0 ! $
+      move ! (40 ∷ 41 ∷ []) $ split ! $ move ! (1 ∷ []) $ split ! $ move ! (1 ∷ []) $ split ! $ move ! (4 ∷ []) $ fsplit ! $ move ! (1 ∷ []) $ fsplit ! $ move ! (1 ∷ []) $ fsplit ! $
+      move ! (1 ∷ []) $ fsplit ! $ move ! (1 ∷ []) $ fsplit ! $ move ! (1 ∷ []) $ fsplit ! $
       -- [marks; at's and true; work; t's; count's; from's; pulses; κ₂; true; κ₁; κ₀; _19; …]
       move ! (6 ∷ 10 ∷ 2 ∷ 9 ∷ 0 ∷ 7 ∷ []) $ move ! (6 ∷ []) $ leave ! $ move ! (6 ∷ []) $ leave ! $ move ! (6 ∷ []) $ leave ! $ move ! (6 ∷ []) $ leave ! $ move ! (6 ∷ []) $ leave ! $
       into ! 6 (bin ! (cell ! 6 refl) (cell ! 6 refl) (record { fits = end-fits })) refl (tt, record { fits = end-fits }) $
@@ -262,14 +293,23 @@ module _ {M : Type 1} (𝓤 : URA M) (H : Heap 𝓤) (A : Atoms 𝓤) (W : Given
       into ! 6 (of-opd ! (cell ! 6 refl)) refl (tt, record { fits = ga }) $
       looped 𝓣 known l₀ l₁ l₂ l₃ l₄ l₅ l₆ l₇ l₈ l₉ l₁₀ l₁₁ l₁₂ l₁₃ l₁₄ l₁₅ l₁₆ l₁₇ l₁₈ l₁₉ (begin ps from count (t .0) ws marks at in-pulses in-work in-marks)))))))))))))))))))))
 
-module _ {M : Type 1} (𝓤 : URA M) (H : Heap 𝓤) (A : Atoms 𝓤) (W : Given 𝓤 H A) (mem : Memory → SProp 𝓤) (run : Routine → Fun 𝓤) (𝓣 : Routines 𝓤 H) (known : Triple 𝓤 (𝓣 .C #keep) (Keeps 𝓤 H A mem run)) where
+module _ {M : Type 1} (𝓤 : URA M) (H : Heap 𝓤) (A : Atoms 𝓤) (W : Given 𝓤 H A) (mem : Memory → SProp 𝓤) (run : Routine → Fun 𝓤) (𝓣 : Routines 𝓤 H)
+    (known : Triple 𝓤 (𝓣 .C #keep) (Keeps 𝓤 H A mem run)) where
   sum-list-walks : Walks 𝓤 H A f.ended stayed (WpFn 𝓤 H (𝓣 .C) (𝓣 .Λ) code.function) (f.clauses 𝓤 H A mem run)
   sum-list-walks =
       walked 𝓤 H A f.ended stayed (f.clauses 𝓤 H A mem run) (WpFn 𝓤 H (𝓣 .C) (𝓣 .Λ) code.function)
       (λ κs. (slice-vals, (uint-vals w64, (uint-vals w64, (LL.vals Q.the-type Q′.the-laws, (slice-vals, (slice-vals, (uint-vals w64, tt))))))))
-      (λ κs. (shr-slice-tells (named 0) (κs .0) P.the-row, (uint-tells w64, (uint-tells w64, (LL.tells Q.the-type Q′.the-laws, (mut-slice-tells (named 1) (κs .1 .0) Row, (mut-slice-tells (named 2) (κs .1 .1 .0) usize, (uint-tells w64, tt))))))))
-      (λ κs qs bounds a g are. needs 𝓤 ((a .1 .0 + a .1 .1 .0 ≤ length (a .0 .now)) × (a .1 .1 .1 .1 .1 .1 .0 + a .1 .1 .0 ≤ length (a .1 .1 .1 .1 .0 .now)) × (a .1 .1 .1 .1 .1 .1 .0 + a .1 .1 .0 ≤ length (a .1 .1 .1 .1 .1 .0 .now))) _ (λ h.
-      walk 𝓤 H A W mem run (κs .0) (κs .1 .0) (κs .1 .1 .0) (qs .0) (qs .1 .0) (qs .1 .1 .0) (a .0 .ptr .0) (a .0 .ptr .1) (a .1 .1 .1 .1 .0 .ptr .0) (a .1 .1 .1 .1 .0 .ptr .1) (a .1 .1 .1 .1 .1 .0 .ptr .0) (a .1 .1 .1 .1 .1 .0 .ptr .1)
+      (λ κs. (
+        shr-slice-tells (named 0) (κs .0) P.the-row,
+        (
+          uint-tells w64,
+          (uint-tells w64, (LL.tells Q.the-type Q′.the-laws, (mut-slice-tells (named 1) (κs .1 .0) Row, (mut-slice-tells (named 2) (κs .1 .1 .0) usize, (uint-tells w64, tt))))),
+        ),
+      ))
+      (λ κs qs bounds a g are. needs 𝓤 ((a .1 .0 + a .1 .1 .0 ≤ length (a .0 .now)) × (a .1 .1 .1 .1 .1 .1 .0 + a .1 .1 .0 ≤ length (a .1 .1 .1 .1 .0 .now)) ×
+      (a .1 .1 .1 .1 .1 .1 .0 + a .1 .1 .0 ≤ length (a .1 .1 .1 .1 .1 .0 .now))) _ (λ h.
+      walk 𝓤 H A W mem run (κs .0) (κs .1 .0) (κs .1 .1 .0) (qs .0) (qs .1 .0) (qs .1 .1 .0) (a .0 .ptr .0) (a .0 .ptr .1) (a .1 .1 .1 .1 .0 .ptr .0) (a .1 .1 .1 .1 .0 .ptr .1)
+      (a .1 .1 .1 .1 .1 .0 .ptr .0) (a .1 .1 .1 .1 .1 .0 .ptr .1)
       (a .0 .name) (a .1 .1 .1 .1 .0 .name) (a .1 .1 .1 .1 .1 .0 .name) (a .0 .now) (a .1 .0) (a .1 .1 .0) (a .1 .1 .1 .0) (a .1 .1 .1 .1 .0 .now) (a .1 .1 .1 .1 .1 .0 .now) (a .1 .1 .1 .1 .1 .1 .0)
       (are .0 .0 .1) (are .1 .0 .1) (are .1 .1 .0 .1) (are .1 .1 .1 .0) (are .1 .1 .1 .1 .0 .0 .1) (are .1 .1 .1 .1 .1 .0 .0 .1) (are .1 .1 .1 .1 .1 .1 .0 .1) (h .0) (h .1) (h .2) 𝓣 known))
 

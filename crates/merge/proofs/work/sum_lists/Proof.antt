@@ -97,7 +97,19 @@ use Rattle.merge.proofs.work.sum_lists.Code as code
 use Rattle.merge.proofs.work.sum_lists.Code.Mir.{turn-1, t-1, t-8, t-11, t-12}
 
 abbrev stayed : Stays (f.ended .signature .params) (f.ended .kept)
-stayed = (stay-none (λ _. U.the-row) yes, (stay-none (λ _. L.the-row) yes, (stay-none-slice (0 ∷ []) tt (plain (λ _. P.the-row)) yes, (stay-slice (1 ∷ []) tt (ArrayOf (plain (λ _. f64)) (λ _. tt) 5), (stay-slice (2 ∷ []) tt (plain (λ _. usize)), tt)))))
+stayed = (
+  stay-none (λ _. U.the-row) yes,
+  (
+    stay-none (λ _. L.the-row) yes,
+    (
+      stay-none-slice (0 ∷ []) tt (plain (λ _. P.the-row)) yes,
+      (
+        stay-slice (1 ∷ []) tt (ArrayOf (plain (λ _. f64)) (λ _. tt) 5),
+        (stay-slice (2 ∷ []) tt (plain (λ _. usize)), tt),
+      ),
+    ),
+  ),
+)
 
 module _ {M : Type 1} (𝓤 : URA M) (H : Heap 𝓤) (A : Atoms 𝓤) (W : Given 𝓤 H A) (mem : Memory → SProp 𝓤) (run : Routine → Fun 𝓤) (κ₀ κ₁ κ₂ : Lft) (q₀ q₁ q₂ : Share) (b₀ o₀ b₁ o₁ b₂ o₂ : ℕ) (γ₀ γ₁ γ₂ : GName)
     (t : Tables) (taking : Taking) (ps : List Pulse) (ws : Rows) (marks : List ℕ) (gt : IsTables t) (gl : IsTaking taking) (gp : Room P.the-row (length ps)) (gw : Room Row (length ws)) (gm : Room usize (length marks)) where
@@ -140,7 +152,8 @@ module _ {M : Type 1} (𝓤 : URA M) (H : Heap 𝓤) (A : Atoms 𝓤) (W : Given
   Nearer-wf : WellFounded Nearer
   Nearer-wf = InvImage·wf (λ (u : Up). listsIn taking - u .k) (Nat·lt-wfRel .wf)
 
-  module _ (𝓣 : Routines 𝓤 H) (k₁ : Triple 𝓤 (𝓣 .C #no-ends) (NoEnds 𝓤 H A mem run)) (k₂ : Triple 𝓤 (𝓣 .C #sizes-fit) (SizesFit 𝓤 H A mem run)) (k₃ : Triple 𝓤 (𝓣 .C #lists-in) (Counts 𝓤 H A mem run)) (k₄ : Triple 𝓤 (𝓣 .C #span-of) (Finds 𝓤 H A mem run)) (k₅ : Triple 𝓤 (𝓣 .C #sum-list) (Sums 𝓤 H A mem run)) (k₆ : Triple 𝓤 (𝓣 .C #with-end) (Notes 𝓤 H A mem run))
+  module _ (𝓣 : Routines 𝓤 H) (k₁ : Triple 𝓤 (𝓣 .C #no-ends) (NoEnds 𝓤 H A mem run)) (k₂ : Triple 𝓤 (𝓣 .C #sizes-fit) (SizesFit 𝓤 H A mem run)) (k₃ : Triple 𝓤 (𝓣 .C #lists-in) (Counts 𝓤 H A mem run))
+      (k₄ : Triple 𝓤 (𝓣 .C #span-of) (Finds 𝓤 H A mem run)) (k₅ : Triple 𝓤 (𝓣 .C #sum-list) (Sums 𝓤 H A mem run)) (k₆ : Triple 𝓤 (𝓣 .C #with-end) (Notes 𝓤 H A mem run))
       (l₀ l₁ l₂ l₃ l₄ l₅ l₆ l₇ l₈ l₉ l₁₀ l₁₁ l₁₂ l₁₃ l₁₄ l₁₅ l₁₆ l₁₇ l₁₈ l₁₉ l₂₀ : ℕ) where
     abbrev C : Calls 𝓤 H
     C = 𝓣 .C
@@ -152,7 +165,8 @@ module _ {M : Type 1} (𝓤 : URA M) (H : Heap 𝓤) (A : Atoms 𝓤) (W : Given
     fm = fmOf 𝓤 H (W .laws) 𝓣
 
     abbrev En : Env 𝓤 H
-    En = (E′.mir, l₀) ∷ (U′.mir, l₁) ∷ (L′.mir, l₂) ∷ (slicesP (named 0), l₃) ∷ (sliceW (named 1), l₄) ∷ (sliceM (named 2), l₅) ∷ (E′.mir, l₆) ∷ (word, l₇) ∷ (word, l₈) ∷ (word, l₉) ∷ (S′.mir, l₁₀) ∷ (tyBool, l₁₁) ∷ (word, l₁₂) ∷ (word, l₁₃) ∷ (word, l₁₄) ∷ (tyBool, l₁₅) ∷ (tyBool, l₁₆) ∷ (refW, l₁₇) ∷ (sliceTy refW, l₁₈) ∷ (refM, l₁₉) ∷ (sliceTy refM, l₂₀) ∷ []
+    En = (E′.mir, l₀) ∷ (U′.mir, l₁) ∷ (L′.mir, l₂) ∷ (slicesP (named 0), l₃) ∷ (sliceW (named 1), l₄) ∷ (sliceM (named 2), l₅) ∷ (E′.mir, l₆) ∷ (word, l₇) ∷ (word, l₈) ∷ (word, l₉) ∷ (S′.mir, l₁₀) ∷ (tyBool, l₁₁) ∷ (word, l₁₂) ∷ (word, l₁₃)
+        ∷ (word, l₁₄) ∷ (tyBool, l₁₅) ∷ (tyBool, l₁₆) ∷ (refW, l₁₇) ∷ (sliceTy refW, l₁₈) ∷ (refM, l₁₉) ∷ (sliceTy refM, l₂₀) ∷ []
 
     -- [pulses; κ₀; work; κ₁; marks; κ₂; _20; …; _0; …], with what stands at _6, the ends, _7, how many lists, _8, where the next goes, _9, which it is, _10, its records, and _0, the result
     abbrev Here : Rows → List ℕ → Item 𝓤 → Item 𝓤 → Item 𝓤 → Item 𝓤 → Item 𝓤 → Item 𝓤 → List (Item 𝓤)
@@ -162,7 +176,8 @@ module _ {M : Type 1} (𝓤 : URA M) (H : Heap 𝓤) (A : Atoms 𝓤) (W : Given
         ∷ ‵ (froom word l₁₄ 0) ∷ ‵ (fdies word l₁₄) ∷ ‵ (froom word l₁₃ 0) ∷ ‵ (fdies word l₁₃) ∷ ‵ (froom word l₁₂ 0) ∷ ‵ (fdies word l₁₂)
         ∷ ‵ (froom tyBool l₁₁ 0) ∷ ‵ (fdies tyBool l₁₁) ∷ i₁₀ ∷ ‵ (fdies S′.mir l₁₀) ∷ i₉ ∷ ‵ (fdies word l₉)
         ∷ i₈ ∷ ‵ (fdies word l₈) ∷ i₇ ∷ ‵ (fdies word l₇) ∷ i₆ ∷ ‵ (fdies E′.mir l₆)
-        ∷ ‵ (fat fullShare (sliceM (named 2)) l₅ 0 (sliceVal (b₂, o₂) (length marks))) ∷ ‵ (fdies (sliceM (named 2)) l₅) ∷ ‵ (fat fullShare (sliceW (named 1)) l₄ 0 (sliceVal (b₁, o₁) (length ws))) ∷ ‵ (fdies (sliceW (named 1)) l₄) ∷ ‵ (fat fullShare (slicesP (named 0)) l₃ 0 (sliceVal (b₀, o₀) (length ps))) ∷ ‵ (fdies (slicesP (named 0)) l₃)
+        ∷ ‵ (fat fullShare (sliceM (named 2)) l₅ 0 (sliceVal (b₂, o₂) (length marks))) ∷ ‵ (fdies (sliceM (named 2)) l₅) ∷ ‵ (fat fullShare (sliceW (named 1)) l₄ 0 (sliceVal (b₁, o₁) (length ws))) ∷ ‵ (fdies (sliceW (named 1)) l₄)
+        ∷ ‵ (fat fullShare (slicesP (named 0)) l₃ 0 (sliceVal (b₀, o₀) (length ps))) ∷ ‵ (fdies (slicesP (named 0)) l₃)
         ∷ ‵ (fat fullShare L′.mir l₂ 0 (valL taking)) ∷ ‵ (fdies L′.mir l₂) ∷ ‵ (fat fullShare U′.mir l₁ 0 (valU t)) ∷ ‵ (fdies U′.mir l₁) ∷ i₀ ∷ ‵ (fdies E′.mir l₀) ∷ []
 
     -- before the loop and after it
@@ -170,7 +185,8 @@ module _ {M : Type 1} (𝓤 : URA M) (H : Heap 𝓤) (A : Atoms 𝓤) (W : Given
     Bare ys ms i₀ = Here ys ms (‵ (froom E′.mir l₆ 0)) (‵ (froom word l₇ 0)) (‵ (froom word l₈ 0)) (‵ (froom word l₉ 0)) (‵ (froom S′.mir l₁₀ 0)) i₀
 
     abbrev Running : Up → Rows → List ℕ → ℕ → Item 𝓤 → List (Item 𝓤)
-    Running u ys ms at i₁₀ = Here ys ms (‵ (fat fullShare E′.mir l₆ 0 (valE (u .es)))) (‵ (fat fullShare word l₇ 0 (vint w64 (listsIn taking)))) (‵ (fat fullShare word l₈ 0 (vint w64 at))) (‵ (fat fullShare word l₉ 0 (vint w64 (u .k)))) i₁₀ (‵ (froom E′.mir l₀ 0))
+    Running u ys ms at i₁₀ = Here ys ms (‵ (fat fullShare E′.mir l₆ 0 (valE (u .es)))) (‵ (fat fullShare word l₇ 0 (vint w64 (listsIn taking)))) (‵ (fat fullShare word l₈ 0 (vint w64 at))) (‵ (fat fullShare word l₉ 0 (vint w64 (u .k)))) i₁₀
+        (‵ (froom E′.mir l₀ 0))
 
     abbrev At : Up → List (Item 𝓤)
     At u = Running u (u .ys) (u .ms) (u .at) (‵ (froom S′.mir l₁₀ 0))
@@ -208,7 +224,8 @@ module _ {M : Type 1} (𝓤 : URA M) (H : Heap 𝓤) (A : Atoms 𝓤) (W : Given
         next-fits = lt-of-le-of-lt {m = 8} (omega (arith, in-eight)) (lit< tt)
 
         -- after `sum_list`: the end is noted
-        notes : (s : Span) (r : ℕ) (zs : Rows) (us : List ℕ) → r < 2 ^ 64 → laid zs us r ≡ laidOn (summed (t .time .0) (take (spanOf t i .count) (drop (spanOf t i .from) ps))) (u .at) (u .ys) (u .ms) → length zs ≡ length (u .ys) → length us ≡ length (u .ms)
+        notes : (s : Span) (r : ℕ) (zs : Rows) (us : List ℕ) → r < 2 ^ 64 → laid zs us r ≡ laidOn (summed (t .time .0) (take (spanOf t i .count) (drop (spanOf t i .from) ps))) (u .at) (u .ys) (u .ms) → length zs ≡ length (u .ys) → length us ≡ length
+            (u .ms)
             → Sq W (Running u zs us r (‵ (fat fullShare S′.mir l₁₀ 0 (valS s)))) (runs C Λ En (after 8 turn-1) (anyQ (Turned u)))
         unfolding afterTurn next
         notes s r zs us gr lays lz lu =
@@ -217,9 +234,11 @@ module _ {M : Type 1} (𝓤 : URA M) (H : Heap 𝓤) (A : Atoms 𝓤) (W : Given
             use1 W (later (some (λ (e : Ends). (‵ ftrue ⊛ ‵ (E.the-row .own e (v ∷ []))) ⊛ raw (ensured 𝓤 H A with-end.ended (with-end.clauses 𝓤 H A mem run) tt (u .es, (u .k, (r, tt))) tt e)))) (id⊢ 𝓤 _) $ await ! tt $ pick ! (λ e.
             split ! $ move ! (1 ∷ []) $ use1 W (raw (fact 𝓤 (e ≡ withEnd (u .es) (u .k) r))) (end-told 𝓤 H A mem run (u .es) (u .k) r e) $ heard ! (e ≡ withEnd (u .es) (u .k) r) (λ ee.
             split ! $ leave ! $ facts ! E.the-row (Is E.the-row) (shows 𝓤 H A E.the-row) e (v ∷ []) (λ ie.
-            land ! (from-local ! (stop !)) (store ! 34 refl (LL.lawful E.the-type E′.the-laws 𝓤 H A W .typed e (v ∷ []) ie .0)) $ rewrite ! 34 (λ (x : Val). ‵ (fat fullShare E′.mir l₆ 0 x)) (ap only (LL.tells E.the-type E′.the-laws e (v ∷ []) ie)) refl $
+            land ! (from-local ! (stop !)) (store ! 34 refl (LL.lawful E.the-type E′.the-laws 𝓤 H A W .typed e (v ∷ []) ie .0)) $ rewrite ! 34 (λ (x : Val). ‵ (fat fullShare E′.mir l₆ 0 x))
+            (ap only (LL.tells E.the-type E′.the-laws e (v ∷ []) ie)) refl $
             assigns-last ! (bin ! (cell ! 6 refl) (lit ! tt) (record { fits = next-fits })) (from-local ! (stop !)) (store ! 28 refl (tt, record { fits = next-fits })) $ forget ! 26 refl $
-            again ! Nearer At u (next t taking ps ws marks (eight-places taking gl) (eight-factors taking gl) long u less r zs us e lays lz lu ee (subst (Is E.the-row e) (LL.tells E.the-type E′.the-laws e (v ∷ []) ie) ie)) (add-one-dec (listsIn taking) (u .k) less)))))
+            again ! Nearer At u (next t taking ps ws marks (eight-places taking gl) (eight-factors taking gl) long u less r zs us e lays lz lu ee (subst (Is E.the-row e) (LL.tells E.the-type E′.the-laws e (v ∷ []) ie) ie))
+            (add-one-dec (listsIn taking) (u .k) less)))))
 
         -- after `span_of`: the list is summed, with the rows and the marks lent
         sums : (s : Span) → s ≡ spanOf t i → IsSpan s → Sq W (Running u (u .ys) (u .ms) (u .at) (‵ (fat fullShare S′.mir l₁₀ 0 (valS s)))) (runs C Λ En (after 3 turn-1) (anyQ (Turned u)))
@@ -239,8 +258,10 @@ module _ {M : Type 1} (𝓤 : URA M) (H : Heap 𝓤) (A : Atoms 𝓤) (W : Given
             -- [what is asked; what is kept, twice; pulses; _20; …]
             calls-at ! fm (Sums 𝓤 H A mem run) k₅ (asks ν₁ ν₂ δ₁ δ₂)
             (and-then ! (cell ! 4 refl) (and-then ! (part ! 4 refl tt) (and-then ! (part ! 4 refl tt) (and-then ! (part ! 4 refl tt) (and-then ! (cell ! 4 refl) (and-then ! (cell ! 4 refl) (and-then ! (cell ! 4 refl) (no-more !)))))))) (λ v.
-            use1 W (later (some (λ (r : ℕ). ((‵ (flft κ₀ q₀) ⊛ (‵ (flft (ν₁ ∷ []) fullShare) ⊛ (‵ (flft (ν₂ ∷ []) fullShare) ⊛ ‵ ftrue))) ⊛ ‵ (usize .own r (v ∷ []))) ⊛ raw (ensured 𝓤 H A sum-list.ended (sum-list.clauses 𝓤 H A mem run) (κ₀, (ν₁ ∷ [], (ν₂ ∷ [], tt))) (given δ₁ δ₂) tt r)))) (id⊢ 𝓤 _) $ await ! tt $ pick ! (λ r.
-            split ! $ move ! (1 ∷ []) $ use1 W (some (λ (zs : Unit {0} × (Unit {0} × (Unit {0} × (Unit {0} × (Rows × (List ℕ × (Unit {0} × Unit {0}))))))). ‵ (lasts sum-list.ended (κ₀, (ν₁ ∷ [], (ν₂ ∷ [], tt))) (given δ₁ δ₂) zs) ⊛ raw (fact 𝓤 (laid (zs .1 .1 .1 .1 .0) (zs .1 .1 .1 .1 .1 .0) r ≡ lays)))) (id⊢ 𝓤 _) $ pick ! (λ zs.
+            use1 W (later (some (λ (r : ℕ). ((‵ (flft κ₀ q₀) ⊛ (‵ (flft (ν₁ ∷ []) fullShare) ⊛ (‵ (flft (ν₂ ∷ []) fullShare) ⊛ ‵ ftrue))) ⊛ ‵ (usize .own r (v ∷ []))) ⊛ raw (ensured 𝓤 H A sum-list.ended (sum-list.clauses 𝓤 H A mem run)
+            (κ₀, (ν₁ ∷ [], (ν₂ ∷ [], tt))) (given δ₁ δ₂) tt r)))) (id⊢ 𝓤 _) $ await ! tt $ pick ! (λ r.
+            split ! $ move ! (1 ∷ []) $ use1 W (some (λ (zs : Unit {0} × (Unit {0} × (Unit {0} × (Unit {0} × (Rows × (List ℕ × (Unit {0} × Unit {0}))))))). ‵ (lasts sum-list.ended (κ₀, (ν₁ ∷ [], (ν₂ ∷ [], tt))) (given δ₁ δ₂) zs)
+            ⊛ raw (fact 𝓤 (laid (zs .1 .1 .1 .1 .0) (zs .1 .1 .1 .1 .1 .0) r ≡ lays)))) (id⊢ 𝓤 _) $ pick ! (λ zs.
             split ! $ move ! (1 ∷ []) $ heard ! (laid (zs .1 .1 .1 .1 .0) (zs .1 .1 .1 .1 .1 .0) r ≡ lays) (λ e.
             fsplit ! $ leave ! $ fsplit ! $ leave ! $ fsplit ! $ leave ! $ fsplit ! $ leave ! $ fsplit ! $ fsplit ! $ move ! (1 ∷ []) $ feqL ! (λ lz. move ! (1 ∷ []) $ fsplit ! $ fsplit ! $ move ! (1 ∷ []) $ feqL ! (λ lu.
             -- [the last marks; true; the last rows; the tokens and the result; what is kept, twice; pulses; _20; …]
@@ -271,7 +292,8 @@ module _ {M : Type 1} (𝓤 : URA M) (H : Heap 𝓤) (A : Atoms 𝓤) (W : Given
           into ! 6 (bin ! (cell ! 6 refl) (cell ! 6 refl) tt) refl (tt, tt) $
           first ! $ branches ! (cell ! 6 refl)
           (λ is-more. skips ! $ exec ! C Λ En (after 2 turn-1) (anyQ (Turned u)) $ forget ! 14 refl $
-          calls-plain ! 6 fm (Finds 𝓤 H A mem run) k₄ (to-find 𝓤 H A mem run W t taking (u .k)) (goes-find 𝓤 H A mem run W t taking (u .k) (in-eight (more is-more)) gt gl k-fits) (and-then ! (cell ! 7 refl) (and-then ! (cell ! 7 refl) (and-then ! (cell ! 7 refl) (no-more !))))
+          calls-plain ! 6 fm (Finds 𝓤 H A mem run) k₄ (to-find 𝓤 H A mem run W t taking (u .k)) (goes-find 𝓤 H A mem run W t taking (u .k) (in-eight (more is-more)) gt gl k-fits)
+          (and-then ! (cell ! 7 refl) (and-then ! (cell ! 7 refl) (and-then ! (cell ! 7 refl) (no-more !))))
           S.the-row valS (LL.tells S.the-type S′.the-laws) (typedS 𝓤 H A W) (span-told 𝓤 H A mem run t taking (u .k)) (λ _. id⊢ 𝓤 _) refl (λ s es gs. sums (more is-more) s es gs))
           (λ no-more-left. jumps ! $ exec ! C Λ En t-12 (atRet En Post) $ forget ! 14 refl $
           into ! 6 (of-opd ! (cell ! 6 refl)) refl (typedE 𝓤 H A W (u .es) (u .good)) $
@@ -315,27 +337,35 @@ module _ {M : Type 1} (𝓤 : URA M) (H : Heap 𝓤) (A : Atoms 𝓤) (W : Given
         fits : (r : Bool) → r ≡ fit → T (not (not r)) → fit ≡ true
         fits r e right = sym e ∙ not-false r (is-false (not r) right)
 
-  walk : (𝓣 : Routines 𝓤 H) → Triple 𝓤 (𝓣 .C #no-ends) (NoEnds 𝓤 H A mem run) → Triple 𝓤 (𝓣 .C #sizes-fit) (SizesFit 𝓤 H A mem run) → Triple 𝓤 (𝓣 .C #lists-in) (Counts 𝓤 H A mem run) → Triple 𝓤 (𝓣 .C #span-of) (Finds 𝓤 H A mem run) → Triple 𝓤 (𝓣 .C #sum-list) (Sums 𝓤 H A mem run) → Triple 𝓤 (𝓣 .C #with-end) (Notes 𝓤 H A mem run)
+  walk : (𝓣 : Routines 𝓤 H) → Triple 𝓤 (𝓣 .C #no-ends) (NoEnds 𝓤 H A mem run) → Triple 𝓤 (𝓣 .C #sizes-fit) (SizesFit 𝓤 H A mem run) → Triple 𝓤 (𝓣 .C #lists-in) (Counts 𝓤 H A mem run) → Triple 𝓤 (𝓣 .C #span-of) (Finds 𝓤 H A mem run)
+      → Triple 𝓤 (𝓣 .C #sum-list) (Sums 𝓤 H A mem run) → Triple 𝓤 (𝓣 .C #with-end) (Notes 𝓤 H A mem run)
       → ent 𝓤 (onEntry 𝓤 H A f.signature (κ₀, (κ₁, (κ₂, tt))) (q₀, (q₁, (q₂, tt))) args vals)
       (WpFn 𝓤 H (𝓣 .C) (𝓣 .Λ) code.function (valU t ∷ valL taking ∷ sliceVal (b₀, o₀) (length ps) ∷ sliceVal (b₁, o₁) (length ws) ∷ sliceVal (b₂, o₂) (length marks) ∷ []) Post)
   walk 𝓣 k₁ k₂ k₃ k₄ k₅ k₆ =
       qed W ((‵ (flft κ₀ q₀) ⊛ (‵ (flft κ₁ q₁) ⊛ (‵ (flft κ₂ q₂) ⊛ ‵ ftrue))) ∷ ‵ (owns (U.the-row ∷ L.the-row ∷ ShrSlice (named 0) κ₀ P.the-row ∷ MutSlice (named 1) κ₁ Row ∷ MutSlice (named 2) κ₂ usize ∷ []) args vals) ∷ []) ∵
       enter ! (𝓣 .C) (𝓣 .Λ) code.function (valU t ∷ valL taking ∷ sliceVal (b₀, o₀) (length ps) ∷ sliceVal (b₁, o₁) (length ws) ∷ sliceVal (b₂, o₂) (length marks) ∷ []) _ $
-      alloc1 ! (λ l₀. alloc1 ! (λ l₁. alloc1 ! (λ l₂. alloc1 ! (λ l₃. alloc1 ! (λ l₄. alloc1 ! (λ l₅. alloc1 ! (λ l₆. alloc1 ! (λ l₇. alloc1 ! (λ l₈. alloc1 ! (λ l₉. alloc1 ! (λ l₁₀. alloc1 ! (λ l₁₁. alloc1 ! (λ l₁₂. alloc1 ! (λ l₁₃. alloc1 ! (λ l₁₄. alloc1 ! (λ l₁₅. alloc1 ! (λ l₁₆. alloc1 ! (λ l₁₇. alloc1 ! (λ l₁₈. alloc1 ! (λ l₁₉. alloc1 ! (λ l₂₀. alloc0 ! $ params1 ! $
-      pass1 ! (init ! 38 refl (typedU 𝓤 H A W t gt)) $ pass1 ! (init ! 36 refl (typedL 𝓤 H A W taking gl)) $ pass1 ! (init ! 34 refl (tt, (tt, (record { fits = gp .0 }, tt)))) $ pass1 ! (init ! 32 refl (tt, (tt, (record { fits = gw .0 }, tt)))) $ pass1 ! (init ! 30 refl (tt, (tt, (record { fits = gm .0 }, tt)))) $ pass0 ! $
+      alloc1 ! (λ l₀. alloc1 ! (λ l₁. alloc1 ! (λ l₂. alloc1 !
+      (λ l₃. alloc1 ! (λ l₄. alloc1 ! (λ l₅. alloc1 ! (λ l₆. alloc1 !
+      (λ l₇. alloc1 ! (λ l₈. alloc1 ! (λ l₉. alloc1 ! (λ l₁₀. alloc1 ! (λ l₁₁. alloc1 ! (λ l₁₂. alloc1 ! (λ l₁₃. alloc1 ! (λ l₁₄. alloc1 ! (λ l₁₅. alloc1 ! (λ l₁₆. alloc1 ! (λ l₁₇. alloc1 ! (λ l₁₈. alloc1 ! (λ l₁₉. alloc1 ! (λ l₂₀. alloc0 ! $
+      params1 ! $
+      pass1 ! (init ! 38 refl (typedU 𝓤 H A W t gt)) $ pass1 ! (init ! 36 refl (typedL 𝓤 H A W taking gl)) $ pass1 ! (init ! 34 refl (tt, (tt, (record { fits = gp .0 }, tt)))) $ pass1 ! (init ! 32 refl (tt, (tt, (record { fits = gw .0 }, tt)))) $
+      pass1 ! (init ! 30 refl (tt, (tt, (record { fits = gm .0 }, tt)))) $ pass0 ! $
       move ! (42 ∷ 43 ∷ []) $ split ! $ move ! (1 ∷ []) $ split ! $ move ! (1 ∷ []) $ split ! $ move ! (4 ∷ []) $ fsplit ! $ move ! (1 ∷ []) $ fsplit ! $ move ! (1 ∷ []) $ fsplit ! $ move ! (1 ∷ []) $ fsplit ! $ move ! (1 ∷ []) $ fsplit ! $
       -- [marks; true; work; pulses; taking's; t's; κ₂; true; κ₁; κ₀; _20; …]
       move ! (3 ∷ 9 ∷ 2 ∷ 8 ∷ 0 ∷ 6 ∷ []) $ move ! (6 ∷ []) $ leave ! $ move ! (6 ∷ []) $ leave ! $ move ! (6 ∷ []) $ leave ! $ move ! (6 ∷ []) $ leave ! $
       body 𝓣 k₁ k₂ k₃ k₄ k₅ k₆ l₀ l₁ l₂ l₃ l₄ l₅ l₆ l₇ l₈ l₉ l₁₀ l₁₁ l₁₂ l₁₃ l₁₄ l₁₅ l₁₆ l₁₇ l₁₈ l₁₉ l₂₀)))))))))))))))))))))
 
-module _ {M : Type 1} (𝓤 : URA M) (H : Heap 𝓤) (A : Atoms 𝓤) (W : Given 𝓤 H A) (mem : Memory → SProp 𝓤) (run : Routine → Fun 𝓤) (𝓣 : Routines 𝓤 H) (k₁ : Triple 𝓤 (𝓣 .C #no-ends) (NoEnds 𝓤 H A mem run)) (k₂ : Triple 𝓤 (𝓣 .C #sizes-fit) (SizesFit 𝓤 H A mem run)) (k₃ : Triple 𝓤 (𝓣 .C #lists-in) (Counts 𝓤 H A mem run)) (k₄ : Triple 𝓤 (𝓣 .C #span-of) (Finds 𝓤 H A mem run)) (k₅ : Triple 𝓤 (𝓣 .C #sum-list) (Sums 𝓤 H A mem run)) (k₆ : Triple 𝓤 (𝓣 .C #with-end) (Notes 𝓤 H A mem run)) where
+module _ {M : Type 1} (𝓤 : URA M) (H : Heap 𝓤) (A : Atoms 𝓤) (W : Given 𝓤 H A) (mem : Memory → SProp 𝓤) (run : Routine → Fun 𝓤) (𝓣 : Routines 𝓤 H) (k₁ : Triple 𝓤 (𝓣 .C #no-ends) (NoEnds 𝓤 H A mem run))
+    (k₂ : Triple 𝓤 (𝓣 .C #sizes-fit) (SizesFit 𝓤 H A mem run)) (k₃ : Triple 𝓤 (𝓣 .C #lists-in) (Counts 𝓤 H A mem run)) (k₄ : Triple 𝓤 (𝓣 .C #span-of) (Finds 𝓤 H A mem run)) (k₅ : Triple 𝓤 (𝓣 .C #sum-list) (Sums 𝓤 H A mem run))
+    (k₆ : Triple 𝓤 (𝓣 .C #with-end) (Notes 𝓤 H A mem run)) where
   sum-lists-walks : Walks 𝓤 H A f.ended stayed (WpFn 𝓤 H (𝓣 .C) (𝓣 .Λ) code.function) (f.clauses 𝓤 H A mem run)
   sum-lists-walks =
       walked 𝓤 H A f.ended stayed (f.clauses 𝓤 H A mem run) (WpFn 𝓤 H (𝓣 .C) (𝓣 .Λ) code.function) (λ κs. (LL.vals U.the-type U′.the-laws, (LL.vals L.the-type L′.the-laws, (slice-vals, (slice-vals, (slice-vals, tt))))))
       (λ κs. (LL.tells U.the-type U′.the-laws, (LL.tells L.the-type L′.the-laws, (shr-slice-tells (named 0) (κs .0) P.the-row, (mut-slice-tells (named 1) (κs .1 .0) Row, (mut-slice-tells (named 2) (κs .1 .1 .0) usize, tt))))))
       (λ κs qs bounds a g are. via 𝓤 _ (fst∗ 𝓤 _ (emp 𝓤))
       (walk 𝓤 H A W mem run (κs .0) (κs .1 .0) (κs .1 .1 .0) (qs .0) (qs .1 .0) (qs .1 .1 .0) (a .1 .1 .0 .ptr .0) (a .1 .1 .0 .ptr .1) (a .1 .1 .1 .0 .ptr .0) (a .1 .1 .1 .0 .ptr .1) (a .1 .1 .1 .1 .0 .ptr .0) (a .1 .1 .1 .1 .0 .ptr .1)
-      (a .1 .1 .0 .name) (a .1 .1 .1 .0 .name) (a .1 .1 .1 .1 .0 .name) (a .0) (a .1 .0) (a .1 .1 .0 .now) (a .1 .1 .1 .0 .now) (a .1 .1 .1 .1 .0 .now) (are .0) (are .1 .0) (are .1 .1 .0 .0 .1) (are .1 .1 .1 .0 .0 .1) (are .1 .1 .1 .1 .0 .0 .1) 𝓣 k₁ k₂ k₃ k₄ k₅ k₆))
+      (a .1 .1 .0 .name) (a .1 .1 .1 .0 .name) (a .1 .1 .1 .1 .0 .name) (a .0) (a .1 .0) (a .1 .1 .0 .now) (a .1 .1 .1 .0 .now) (a .1 .1 .1 .1 .0 .now) (are .0) (are .1 .0) (are .1 .1 .0 .0 .1) (are .1 .1 .1 .0 .0 .1)
+      (are .1 .1 .1 .1 .0 .0 .1) 𝓣 k₁ k₂ k₃ k₄ k₅ k₆))
 
   sum-lists-meets : Meets 𝓤 H A f.signature (WpFn 𝓤 H (𝓣 .C) (𝓣 .Λ) code.function) (f.spec 𝓤 H A mem run)
   sum-lists-meets =
