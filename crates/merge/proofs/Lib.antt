@@ -6,6 +6,7 @@ pub mod Callees
 pub mod Turns
 pub mod Spans
 pub mod Lists
+pub mod Back
 pub mod Twice
 pub mod Next
 pub mod Scaled
