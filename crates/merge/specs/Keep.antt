@@ -1,5 +1,6 @@
--- How the code lays a list down: one pulse after the other, each added to the last row or given one of its own. Definitions only; that the
--- rows are those of `summed` is a law (`proofs/Kept.antt`).
+-- How the code lays a list down: one pulse after the other, each added to the last row or given one of its own; where a list's records lie;
+-- and an end noted. Definitions only; that the rows are those of `summed`, and the records those of `recordsOf`, are laws (`kept-summed` in
+-- `proofs/Kept.antt`, `spans` in `proofs/Spans.antt`).
 use Prim.Native.Nat.{ℕ, _+_, _-_, _*_}
 use mathlib.Core.Bool.{_&&_, cond}
 use mathlib.Core.List.{List, [], _∷_}
