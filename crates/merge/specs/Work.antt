@@ -1,10 +1,10 @@
 -- The work rows: summed lists one behind the other, a row of five numbers for each pulse, and beside it the place of its bin. Definitions only.
-use Prim.Native.Nat.{ℕ, _+_, _-_}
+use Prim.Native.Nat.{ℕ, zero, suc, _+_, _-_}
 use mathlib.Core.Bool.{Bool, _&&_, cond}
 use mathlib.Core.List.{List, [], _∷_, _++_, map}
 use lib.Dec.{eqb}
 use lib.Ieee.{Float}
-use lib.ListN.{length, take, drop, replicate}
+use lib.ListN.{length, getD, take, drop, replicate}
 use Rattle.pulse.specs.declared.list.Pulse.{Pulse}
 use Rattle.tables.specs.declared.Tables.{Tables}
 use Rattle.merge.specs.declared.work.Ends.{Ends}
@@ -51,6 +51,14 @@ endsFrom at (l ∷ ls) = (at + length l) ∷ endsFrom (at + length l) ls
 abbrev pub endsOf : List (List Pulse) → Ends
 endsOf ls = record { ends = endsFrom 0 ls ++ replicate (8 - length ls) 0 }
 
+-- where list k begins: where the one before it ends
+abbrev pub beginOf : Ends → ℕ → ℕ
+beginOf e zero = 0
+beginOf e (suc k) = getD (e .ends) k 0
+
+abbrev pub noEnds : Ends
+noEnds = record { ends = replicate 8 0 }
+
 -- 1,024 records, rows and marks for each of eight lists
 abbrev pub sizesFit : ℕ → ℕ → ℕ → Bool
 sizesFit pulses rows marks = eqb pulses 8192 && eqb rows 8192 && eqb marks 8192
@@ -69,4 +77,4 @@ gatheredOf t parts pulses rows marks =
     let ls = listsOf t pulses parts in
     cond (sizesFit (length pulses) (length rows) (length marks))
     (gathered (over 0 (map rowOfPulse (inOne ls)) rows) (over 0 (map markOf (inOne ls)) marks) (endsOf ls))
-    (gathered rows marks (endsOf []))
+    (gathered rows marks noEnds)

@@ -1,0 +1,93 @@
+-- An envelope in the scratch is the envelope: worked out again, in any room, it leaves the scratch as it is. For the room only decides whether the
+-- parts are refused, not what they are. Assumes nothing.
+use Prim.Native.Nat.{ℕ, _≤_}
+use native.Mathlib.Omega.{arith}
+use mathlib.Core.Path.{_≡_, refl, sym, ap, _∙_}
+use mathlib.Core.Bool.{Bool, true, false, not, cond, true≢false}
+use mathlib.Core.List.{List, _++_}
+use lib.Dec.{T, ltb, eqb}
+use lib.Ieee.{Float, nan, inf, fin, binary64, lt, eq, ne, isNan, ofBits, toBits, fits}
+use lib.Ieee.Bits.{ofBits-toBits}
+use lib.ListN.{length, drop}
+use borrow.Author.Tests.{eqb-true}
+use Rattle.quant.specs.declared.refusal.Refusal.the-variants.{ShapeTooShort, EndPastRow}
+use Rattle.quant.specs.declared.settings.Settings.{Settings}
+use Rattle.pulse.specs.declared.bin.Bin.{Bin}
+use Rattle.shape.specs.declared.parts.Parts.{Parts}
+use Rattle.shape.specs.declared.parts.Parted.{Parted}
+use Rattle.shape.specs.declared.parts.Parted.the-variants.{Within, Refused}
+use Rattle.shape.specs.declared.envelope.Enveloped.the-variants as enveloped
+use Rattle.shape.specs.Parts.{nought, indexAt, t1, t3, unbroken, broken, ordered, partedOf}
+use Rattle.shape.specs.Envelope.{least, Fitting, shapeOf, finitePoints, scratchFilled, envelopedOf, scratchAfter}
+use Rattle.shape.proofs.Filling.{within-fits, fits-more, least-left}
+use Rattle.shape.proofs.Envelopes.{scratch-length, rest-stays}
+use Rattle.mixdown.specs.Sampled.{partsAt}
+
+-- ---- the parts, without the room
+module _ (w p o rate dt : Float) where
+  abbrev n : ℕ
+  n = indexAt (t3 w p o rate dt) rate
+
+  abbrev roomy : Parted
+  roomy = cond (eq p nought) (Within (unbroken w p o rate dt n)) (ordered (broken w p o rate dt n))
+
+  roomy-is : (room : ℕ) (q : Parts) → partedOf w p o rate dt room ≡ Within q → roomy ≡ Within q
+  unfolding partedOf
+  roomy-is room q e = go (lt (t1 w p o rate dt) nought) (ltb room n) e
+    where
+      go : (a b : Bool) → cond a (Refused ShapeTooShort) (cond b (Refused EndPastRow) roomy) ≡ Within q → roomy ≡ Within q
+      go true b f = let z : _≡_ {A = ℕ} 0 1 = cc in absurd (omega arith)
+      go false true f = let z : _≡_ {A = ℕ} 0 1 = cc in absurd (omega arith)
+      go false false f = f
+
+  parts-same : (room room' : ℕ) (q q' : Parts) → partedOf w p o rate dt room ≡ Within q → partedOf w p o rate dt room' ≡ Within q' → q ≡ q'
+  parts-same room room' q q' e f = let same : Within q ≡ Within q' = sym (roomy-is room q e) ∙ roomy-is room' q' f in cc
+
+-- ---- filled twice
+
+filled-twice : (q : Parts) (old : List Float) → Fitting q (length old) → scratchFilled q (scratchFilled q old) ≡ scratchFilled q old
+filled-twice q old fit = go (finitePoints q)
+  where
+    go : (b : Bool) → cond b (shapeOf q ++ drop (q .length) (cond b (shapeOf q ++ drop (q .length) old) old)) (cond b (shapeOf q ++ drop (q .length) old) old) ≡ cond b (shapeOf q ++ drop (q .length) old) old
+    go true = ap (λ (l : List Float). shapeOf q ++ l) (rest-stays q old fit)
+    go false = refl
+
+filled-length : (q : Parts) (old : List Float) → Fitting q (length old) → length (scratchFilled q old) ≡ length old
+filled-length q old fit = go (finitePoints q)
+  where
+    go : (b : Bool) → length (cond b (shapeOf q ++ drop (q .length) old) old) ≡ length old
+    go true = scratch-length q old fit
+    go false = refl
+
+module _ (s : Settings) (b : Bin) (offset : Float) (room : ℕ) (old : List Float) (h : room ≤ length old) where
+  fitting : (q : Parts) → partsAt s b offset room ≡ Within q → Fitting q (length old)
+  fitting q e = fits-more q (least room 65536) (length old) (let less = least-left room 65536 in omega (arith, less)) (within-fits (least room 65536) q _ _ _ _ _ e)
+
+  -- the scratch is as long as before
+  pub after-length : length (scratchAfter (partsAt s b offset room) old) ≡ length old
+  after-length = go (partsAt s b offset room) refl
+    where
+      go : (d : Parted) → partsAt s b offset room ≡ d → length (scratchAfter d old) ≡ length old
+      go (Within q) e = filled-length q old (fitting q e)
+      go (Refused r) e = refl
+
+  -- and holds the envelope
+  pub holds-after : (k : ℕ) → envelopedOf (partsAt s b offset room) ≡ enveloped.Points k → (room' : ℕ)
+      → scratchAfter (partsAt s b offset room') (scratchAfter (partsAt s b offset room) old) ≡ scratchAfter (partsAt s b offset room) old
+  holds-after k points room' = go (partsAt s b offset room) refl points (partsAt s b offset room') refl
+    where
+      go : (d : Parted) → partsAt s b offset room ≡ d → envelopedOf d ≡ enveloped.Points k → (d' : Parted) → partsAt s b offset room' ≡ d' → scratchAfter d' (scratchAfter d old) ≡ scratchAfter d old
+      go (Refused r) e f d' e' = let z : _≡_ {A = ℕ} 0 1 = cc in absurd (omega arith)
+      go (Within q) e f (Refused r) e' = refl
+      go (Within q) e f (Within q') e' = rw (parts-same _ _ _ _ _ (least room' 65536) (least room 65536) q' q e' e) (filled-twice q old (fitting q e))
+
+-- ---- offsets by their bits
+
+pub no-nan : (x : Float) → ne x x ≡ false → T (not (isNan x))
+unfolding ne isNan
+no-nan nan e = absurd (true≢false e)
+no-nan (inf s) e = tt
+no-nan (fin s m k) e = tt
+
+pub bits-same : (a b : Float) → T (fits binary64 a) → T (fits binary64 b) → eqb (toBits binary64 a) (toBits binary64 b) ≡ true → a ≡ b
+bits-same a b f g e = sym (ofBits-toBits binary64 a f) ∙ ap (ofBits binary64) (eqb-true _ _ e) ∙ ofBits-toBits binary64 b g
