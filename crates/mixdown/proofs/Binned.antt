@@ -103,7 +103,7 @@ run-length all r =
     let d = length-drop (r .at) all in
     omega (arith, a, b, c, d)
 
-joined-length : (all : List Pulse) (rs : List Run) → length all ≤ 8192 → length (joined (map (runIn all) rs)) ≤ length rs * 8192
+pub joined-length : (all : List Pulse) (rs : List Run) → length all ≤ 8192 → length (joined (map (runIn all) rs)) ≤ length rs * 8192
 unfolding joined
 joined-length all [] h = omega arith
 joined-length all (r ∷ rs) h =

@@ -1,12 +1,13 @@
 -- How many bins a channel has, and their rows among the lent rows. Assumes nothing.
-use Prim.Native.Nat.{ℕ, _*_, _≤_, _<_}
+use Prim.Native.Nat.{ℕ, _+_, _*_, _≤_, _<_}
 use native.Mathlib.Omega.{arith}
 use mathlib.Core.Path.{_≡_, refl, sym, ap, _∙_}
 use mathlib.Core.Bool.{Bool, true, false, cond}
 use mathlib.Core.List.{List, []}
 use lib.Dec.{ltb}
 use lib.Ieee.{Float}
-use lib.ListN.{length, take, drop, List·getD-eq-default}
+use lib.ListN.{length, take, drop, getD, List·getD-eq-default}
+use lib.Seq.{take-take, getD-take, getD-drop}
 use borrow.Author.Tests.{ltb-true, ltb-false}
 use Rattle.tables.specs.declared.Tables.{Tables}
 use Rattle.tables.specs.Tables.{noChannel, channelAt}
@@ -41,3 +42,10 @@ module _ (t : Tables) (bins : List (List Float)) (i : ℕ) where
       go : (b : Bool) → ltb i 8 ≡ b → length (rowsOf t bins i) ≡ binsHeld t i
       go true e = part-length t bins i (binsHeld t i) refl (ltb-true i 8 e) whole
       go false e = let none = held-past t i eight (ltb-false i 8 e) in ap length (rows-none none) ∙ sym none
+
+-- the first of them
+pub rows-first : (t : Tables) (bins : List (List Float)) (i p : ℕ) → p ≤ binsHeld t i → take p (drop (64 * i) bins) ≡ take p (rowsOf t bins i)
+rows-first t bins i p h = sym (take-take p (binsHeld t i) (drop (64 * i) bins) h) ∙ ap (take p) (rows-held t bins i)
+
+pub rows-at : (t : Tables) (bins : List (List Float)) (i p : ℕ) → p < binsHeld t i → getD (rowsOf t bins i) p [] ≡ getD bins (64 * i + p) []
+rows-at t bins i p h = ap (λ (l : List (List Float)). getD l p []) (sym (rows-held t bins i)) ∙ getD-take (binsHeld t i) (drop (64 * i) bins) p [] h ∙ getD-drop (64 * i) bins p []

@@ -41,3 +41,9 @@ module _ (t : Tables) (bins : List (List Float)) (marks : List ℕ) (row : List 
   pub start-done : length parts ≤ k → take k runs ++ runsForFrom t bins marks row begin (drop k parts) (drop k ends) ≡ take k runs
   unfolding runsForFrom
   start-done h = rw (drop-of-length-le parts h) (append-nil (take k runs))
+
+pub runs-few : (t : Tables) (bins : List (List Float)) (marks : List ℕ) (row : List Float) (begin : ℕ) (parts : List Part) (ends : List ℕ) → length (runsForFrom t bins marks row begin parts ends) ≤ length parts
+unfolding runsForFrom
+runs-few t bins marks row begin [] ends = omega arith
+runs-few t bins marks row begin (p ∷ ps) [] = omega arith
+runs-few t bins marks row begin (p ∷ ps) (e ∷ es) = let rest = runs-few t bins marks row e ps es in omega (arith, rest)

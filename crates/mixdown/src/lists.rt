@@ -8,7 +8,7 @@ ghost use Rattle.rows.specs.Rows.{rowsFit};
 ghost use Rattle.commands.specs.Play.{rowsOf};
 ghost use Rattle.merge.specs.Taking.{partsIn};
 ghost use Rattle.mixdown.specs.Bins.{isAmong, allRows, firstsAfter};
-ghost use Rattle.mixdown.specs.Starts.{Ended, mergedIn};
+ghost use Rattle.mixdown.specs.Starts.{binsHeld, Ended, mergedIn};
 ghost use Rattle.mixdown.specs.Sampled.{rowed, out, ranBins};
 use super::bin::sample_bin;
 use super::bins::appeared;
@@ -41,8 +41,10 @@ pub(crate) fn sample_lists(
     let mut n: usize = 0;
     let mut k: usize = 0;
     while k < taking.count {
+        let list = k;
+        k += 1;
         match sample_list(
-            s, t, taking, ends, k, bins, work, marks, rows, i, q, scratch, n,
+            s, t, taking, ends, list, bins, work, marks, rows, i, q, scratch, n,
         ) {
             Answer::Done(m) => {
                 n = m;
@@ -51,7 +53,6 @@ pub(crate) fn sample_lists(
                 return Answer::Refused(why, m);
             }
         }
-        k += 1;
     }
     Answer::Done(n)
 }
@@ -84,7 +85,9 @@ fn sample_list(
     while p < many {
         let j = 64 * at + p;
         let row = bins[j];
-        if !seen(t, taking, bins, k, at, p, row) {
+        let known = seen(t, taking, bins, k, at, p, row);
+        p += 1;
+        if !known {
             let runs = runs_for(t, taking, ends, bins, marks, row);
             match sample_bin(
                 s, row, tolerance, runs, work, marks, rows, i, q, scratch, n,
@@ -97,7 +100,6 @@ fn sample_list(
                 }
             }
         }
-        p += 1;
     }
     Answer::Done(n)
 }
@@ -112,7 +114,7 @@ fn seen(
     p: usize,
     row: [f64; 5],
 ) -> bool
-    requires { ⌜ (length (now bins) ≡ 512) × (taking .count ≤ 8) × (k ≤ taking .count) × (at < 8) × (p ≤ length (rowsOf t (now bins) at)) ⌝ }
+    requires { ⌜ (length (now bins) ≡ 512) × (taking .count ≤ 8) × (k ≤ taking .count) × (at < 8) × (p ≤ binsHeld t at) ⌝ }
     ensures { λ r. ⌜ r ≡ isAmong row (allRows t (now (bins .entry)) (take k (partsIn taking)) ++ take p (rowsOf t (now (bins .entry)) at)) ⌝ }
 {
     if appeared(t, taking, bins, k, row) {
