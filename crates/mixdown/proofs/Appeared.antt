@@ -47,7 +47,7 @@ module _ (t : Tables) (bins : List (List Float)) (row : List Float) where
   rows-append [] ys = refl
   rows-append (x ∷ xs) ys = ap (λ (rs : List (List Float)). rowsOf t bins (x .place) ++ rs) (rows-append xs ys) ∙ sym (append-assoc (rowsOf t bins (x .place)) (allRows t bins xs) (allRows t bins ys))
 
-  rows-one : (p : Part) → allRows t bins (p ∷ []) ≡ rowsOf t bins (p .place)
+  pub rows-one : (p : Part) → allRows t bins (p ∷ []) ≡ rowsOf t bins (p .place)
   unfolding allRows
   rows-one p = append-nil (rowsOf t bins (p .place))
 

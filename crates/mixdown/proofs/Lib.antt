@@ -12,3 +12,4 @@ pub mod Shaped
 pub mod Lengths
 pub mod Binned
 pub mod Listed
+pub mod Allbins
