@@ -13,3 +13,4 @@ pub mod Lengths
 pub mod Binned
 pub mod Listed
 pub mod Allbins
+pub mod Ending

@@ -1,12 +1,20 @@
 -- Document 01: pulses added onto rows one after another, up to the first that is refused: "a refused pulse writes no sample, pulses before it
 -- in the same call stay added"; the answer's place and count are pulses added. Definitions only.
 use Prim.Native.Nat.{ℕ, suc, _-_}
+use mathlib.Core.Bool.{Bool, true, _&&_, cond}
 use mathlib.Core.List.{List, [], _∷_}
+use lib.Dec.{leb, eqb}
 use lib.Ieee.{Float}
 use lib.ListN.{length, take}
 use Rattle.quant.specs.declared.refusal.Answer.{Answer}
 use Rattle.quant.specs.declared.refusal.Answer.the-variants as answer
+use Rattle.quant.specs.declared.refusal.Refusal.the-variants.{WrongSize}
 use Rattle.quant.specs.declared.settings.Settings.{Settings}
+use Rattle.rows.specs.Rows.{rowsFit}
+use Rattle.tables.specs.declared.Tables.{Tables}
+use Rattle.merge.specs.declared.taking.Taking.{Taking}
+use Rattle.merge.specs.declared.work.Ends.{Ends}
+use Rattle.merge.specs.Taking.{partsIn}
 use Rattle.shape.specs.declared.parts.Parted.{Parted}
 use Rattle.shape.specs.Parts.{partedOf}
 use Rattle.shape.specs.Envelope.{least, scratchAfter}
@@ -21,6 +29,8 @@ use Rattle.placing.specs.declared.Curved.{Curved}
 use Rattle.placing.specs.declared.Judged.{Judged}
 use Rattle.placing.specs.declared.Judged.the-variants.{Plateau, Shaped, Refused}
 use Rattle.placing.specs.Judged.{judged}
+use Rattle.mixdown.specs.Bins.{allRows, firstsAfter}
+use Rattle.mixdown.specs.Starts.{mergedIn}
 
 -- ---- the rows of a call, and its scratch
 pub record Rowed : Type 0 where
@@ -97,3 +107,22 @@ andThen o next = go (o .answer)
 unfoldable pub ranBins : Settings → ℕ → (List Float → List Pulse) → List (List Float) → ℕ → Rowed → Out
 ranBins s rows merged [] k st = out (answer.Done k) st
 ranBins s rows merged (r ∷ rs) k st = andThen (ranPulses s (binOf r) rows (merged r) k st) (ranBins s rows merged rs)
+
+-- ---- the whole of it, for anything that is lent
+
+-- no list ends past the work rows
+unfoldable pub endsFit : List ℕ → Bool
+endsFit [] = true
+endsFit (e ∷ es) = leb e 8192 && endsFit es
+
+-- 64 bins for each of eight channels, 1,024 work rows and marks for each of eight lists, rows of a size that rows have, and a scratch no shorter
+abbrev pub mixFits : Taking → Ends → ℕ → ℕ → ℕ → ℕ → ℕ → ℕ → ℕ → Bool
+mixFits taking ends bins work marks rows i q scratch =
+    eqb bins 512 && eqb work 8192 && eqb marks 8192 && (leb (taking .count) 8 && endsFit (ends .ends)) && (rowsFit rows i q && leb i scratch)
+
+-- the bins by first appearance, each with its pulses as the work rows hold them; 13 for other sizes
+unfoldable pub mixedDown : Settings → Tables → Taking → Ends → List (List Float) → List (List Float) → List ℕ → ℕ → Rowed → Out
+mixedDown s t taking ends bins work marks rows st =
+    cond (mixFits taking ends (length bins) (length work) (length marks) rows (length (st .i)) (length (st .q)) (length (st .scratch)))
+    (ranBins s rows (mergedIn t bins work marks (partsIn taking) (ends .ends)) (firstsAfter [] (allRows t bins (partsIn taking))) 0 st)
+    (out (answer.Refused WrongSize 0) st)
