@@ -14,3 +14,4 @@ pub mod Binned
 pub mod Listed
 pub mod Allbins
 pub mod Ending
+pub mod Whole

@@ -20,6 +20,7 @@ use Rattle.tables.specs.declared.Tables.{Tables}
 use Rattle.merge.specs.Sum.{plusP, together, keptFrom, summedBy, summedAgain}
 use Rattle.merge.specs.Join.{joined}
 use Rattle.merge.specs.Taking.{Part}
+use Rattle.merge.proofs.Kept.{summed-length}
 use Rattle.placing.specs.declared.Judged.{Judged}
 use Rattle.placing.specs.declared.Judged.the-variants as judgement
 use Rattle.placing.specs.Judged.{judged}
@@ -68,22 +69,6 @@ firsts-length before (r ∷ rs) = go (isAmong r before) (firsts-length (before +
     go : (b : Bool) → length (firstsAfter (before ++ (r ∷ [])) rs) ≤ length rs → length (cond b (firstsAfter (before ++ (r ∷ [])) rs) (r ∷ firstsAfter (before ++ (r ∷ [])) rs)) ≤ suc (length rs)
     go true h = omega (arith, h)
     go false h = omega (arith, h)
-
--- ---- summing makes no more pulses
-
-kept-length : (falls : Pulse → Pulse → Bool) (k : Pulse) (ps : List Pulse) → length (keptFrom falls k ps) ≤ suc (length ps)
-unfolding keptFrom
-kept-length falls k [] = omega arith
-kept-length falls k (p ∷ ps) = go (falls k p) (kept-length falls (plusP k p) ps) (kept-length falls p ps)
-  where
-    go : (b : Bool) → length (keptFrom falls (plusP k p) ps) ≤ suc (length ps) → length (keptFrom falls p ps) ≤ suc (length ps) → length (cond b (keptFrom falls (plusP k p) ps) (k ∷ keptFrom falls p ps)) ≤ suc (suc (length ps))
-    go true h g = omega (arith, h)
-    go false h g = omega (arith, g)
-
-pub summed-few : (falls : Pulse → Pulse → Bool) (ps : List Pulse) → length (summedBy falls ps) ≤ length ps
-unfolding summedBy
-summed-few falls [] = omega arith
-summed-few falls (p ∷ ps) = kept-length falls p ps
 
 -- ---- one after another
 
@@ -263,7 +248,7 @@ merged-few t bins work marks parts ends r a b c =
     let long = pulses-length work marks (a ∙ sym b) in
     let most = joined-length (pulsesIn work marks) runs (omega (arith, long, a)) in
     let less = runs-few t bins marks r 0 parts ends in
-    let all = summed-few (together (t .time .0)) (joined (map (runIn (pulsesIn work marks)) runs)) in
+    let all = summed-length (together (t .time .0)) (joined (map (runIn (pulsesIn work marks)) runs)) in
     omega (arith, most, less, all, c)
 
 -- what a bin came to, by the runs that were made for it
