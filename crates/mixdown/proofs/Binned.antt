@@ -25,7 +25,7 @@ use Rattle.mixdown.specs.declared.onto.Held.{Held}
 use Rattle.mixdown.specs.Runs.{Within, noRun, ofMark, pulseAt, pulsesIn, runIn, runsIn, pickedIn, movedOn}
 use Rattle.mixdown.specs.Sampled.{Rowed, rowed, Out, out, addedTo, unlessRefused, ranPulses}
 use Rattle.mixdown.specs.Holding.{Holds, accepted}
-use Rattle.mixdown.proofs.Joining.{none-left, in-lists, in-rows, next-left, within-moved}
+use Rattle.mixdown.proofs.Picks.{left, pulseOf, Picks, picked-next, picked-none}
 use Rattle.mixdown.proofs.Lengths.{i-length, q-length, scratch-length}
 
 -- ---- summing
@@ -119,138 +119,85 @@ few all r h k =
     omega (arith, a, b, k)
 
 -- ---- the loop: kept is not yet added, what r has left is not yet looked at
+
+abbrev pub todo : Settings → Bin → Float → List (List Float) → List ℕ → ℕ → Pulse → Runs → ℕ → Rowed → Out
+todo s b tolerance work marks rows kept r n st = ranPulses s b rows (keptFrom (together tolerance) kept (left work marks r)) n st
+
 module _ (s : Settings) (b : Bin) (tolerance : Float) (work : List (List Float)) (marks : List ℕ) (rows : ℕ) where
-  abbrev pub left : Runs → List Pulse
-  left r = joined (runsIn (pulsesIn work marks) r)
+  pub record Going (all : Out) (st₀ st : Rowed) (r : Runs) (p : Picked) (kept : Pulse) (held : Held) (n : ℕ) : Type 0 where
+    pub same-i : length (st .i) ≡ length (st₀ .i)
+    pub same-q : length (st .q) ≡ length (st₀ .q)
+    pub same-scratch : length (st .scratch) ≡ length (st₀ .scratch)
+    pub picks : Picks work marks r p
+    pub holds : Holds s b held (st .scratch)
+    pub few-added : n + length (left work marks r) ≤ 2 ^ 61
+    pub whole : todo s b tolerance work marks rows kept r n st ≡ all
 
-  abbrev pub todo : Pulse → Runs → ℕ → Rowed → Out
-  todo kept r n st = ranPulses s b rows (keptFrom (together tolerance) kept (left r)) n st
+-- one turn, from what holds before it
+module _ {s : Settings} {b : Bin} {tolerance : Float} {work : List (List Float)} {marks : List ℕ} {rows : ℕ} {all : Out} {st₀ st : Rowed} {r : Runs} {p : Picked} {kept : Pulse} {held : Held} {n : ℕ} (g : Going s b tolerance work marks rows all st₀ st r p kept held n) where
+  abbrev x : Pulse
+  x = pulseOf work marks r p
 
-  pub record Going (all : Out) (i₀ q₀ scratch₀ i q scratch : List Float) (r : Runs) (p : Picked) (kept : Pulse) (held : Held) (n : ℕ) : Type 0 where
-    pub same-i : length i ≡ length i₀
-    pub same-q : length q ≡ length q₀
-    pub same-scratch : length scratch ≡ length scratch₀
-    pub most : r .count ≤ 8
-    pub long : length (r .runs) ≡ 8
-    pub within : Within (r .runs)
-    pub picked : p ≡ pickedIn work marks r
-    pub holds : Holds s b held scratch
-    pub few-added : n + length (left r) ≤ 2 ^ 61
-    pub whole : todo kept r n (rowed i q scratch) ≡ all
+  abbrev verdict : Judged
+  verdict = judged s b kept (length (st .i))
 
-  -- ---- a pulse picked from runs, and what is left behind it
-  module _ (rows-full : length work ≡ 8192) (marks-full : length marks ≡ 8192) (r : Runs) (p : Picked) (most : r .count ≤ 8) (long : length (r .runs) ≡ 8) (within : Within (r .runs)) (is : p ≡ pickedIn work marks r) where
-    abbrev pub here : Pulse
-    here = scaledP (getD (r .runs) (p .list) noRun .factor) (pulseAt work marks (p .at))
+  pub less : p .some ≡ true → (r' : Runs) → r' ≡ movedOn marks r p → length (left work marks r') < length (left work marks r)
+  less e r' is = rw is (let k = ap length (picked-next (g .picks) e) in omega (arith, k))
 
-    abbrev pub behind-it : Runs
-    behind-it = movedOn marks r p
+  todo-next : p .some ≡ true → (r' : Runs) → r' ≡ movedOn marks r p → ranPulses s b rows (keptFrom (together tolerance) kept (x ∷ left work marks r')) n st ≡ all
+  todo-next e r' is = rw is (ap (λ (ps : List Pulse). ranPulses s b rows (keptFrom (together tolerance) kept ps) n st) (sym (picked-next (g .picks) e)) ∙ g .whole)
 
-    same-full : length work ≡ length marks
-    same-full = rows-full ∙ sym marks-full
+  -- the next falls together with the kept one
+  pub near-turn : p .some ≡ true → (r' : Runs) → r' ≡ movedOn marks r p → (p' : Picked) → Picks work marks r' p' → together tolerance kept x ≡ true → Going s b tolerance work marks rows all st₀ st r' p' (plusP kept x) held n
+  near-turn e r' is p' next near =
+      record {
+        same-i = g .same-i;
+        same-q = g .same-q;
+        same-scratch = g .same-scratch;
+        picks = next;
+        holds = g .holds;
+        few-added = let k = less e r' is in omega (arith, k, g .few-added);
+        whole = ap (λ (ps : List Pulse). ranPulses s b rows ps n st) (sym (kept-near (together tolerance) kept x (left work marks r') near)) ∙ todo-next e r' is;
+      }
 
-    count-in : r .count ≤ length (r .runs)
-    count-in = omega (arith, most, long)
+  -- it does not: the kept one is added
+  apart-is : p .some ≡ true → (r' : Runs) → r' ≡ movedOn marks r p → together tolerance kept x ≡ false → ranPulses s b rows (kept ∷ keptFrom (together tolerance) x (left work marks r')) n st ≡ all
+  apart-is e r' is apart = ap (λ (ps : List Pulse). ranPulses s b rows ps n st) (sym (kept-apart (together tolerance) kept x (left work marks r') apart)) ∙ todo-next e r' is
 
-    pub picked-list : p .some ≡ true → p .list < 8
-    picked-list e = rw is (let k = in-lists work marks same-full marks-full r count-in within (rw is at e) in omega (arith, k, most))
+  last-is : p .some ≡ false → ranPulses s b rows (kept ∷ []) n st ≡ all
+  last-is e = ap (λ (ps : List Pulse). ranPulses s b rows ps n st) (sym (kept-last (together tolerance) kept) ∙ ap (keptFrom (together tolerance) kept) (sym (picked-none (g .picks) e))) ∙ g .whole
 
-    pub picked-row : p .some ≡ true → p .at < 8192
-    picked-row e = rw is (in-rows work marks same-full marks-full r count-in within (rw is at e))
+  module _ {st' : Rowed} (after : st' ≡ addedTo s b rows verdict st) where
+    pub i-same : length (st' .i) ≡ length (st₀ .i)
+    i-same = ap (λ (o : Rowed). length (o .i)) after ∙ i-length s b rows st verdict ∙ g .same-i
 
-    pub picked-next : p .some ≡ true → left r ≡ here ∷ left behind-it
-    picked-next e = rw is (next-left work marks same-full marks-full r count-in within (rw is at e))
+    pub q-same : length (st' .q) ≡ length (st₀ .q)
+    q-same = ap (λ (o : Rowed). length (o .q)) after ∙ q-length s b rows st verdict ∙ g .same-q
 
-    pub picked-none : p .some ≡ false → left r ≡ []
-    picked-none e = none-left work marks same-full marks-full r count-in within (rw is at e)
+    pub scratch-same : length (st₀ .i) ≤ length (st₀ .scratch) → length (st' .scratch) ≡ length (st₀ .scratch)
+    scratch-same h = ap (λ (o : Rowed). length (o .scratch)) after ∙ scratch-length s b rows st (omega (arith, h, g .same-i, g .same-scratch)) verdict ∙ g .same-scratch
 
-    pub behind-within : Within (behind-it .runs)
-    behind-within = rw is (within-moved work marks same-full marks-full r count-in within)
-
-    pub behind-long : length (behind-it .runs) ≡ 8
-    behind-long = length-set (r .runs) (p .list) _ ∙ long
-
-  -- ---- one turn, from what holds before it
-  module _ (rows-full : length work ≡ 8192) (marks-full : length marks ≡ 8192) (all : Out) (i₀ q₀ scratch₀ i q scratch : List Float) (r : Runs) (p : Picked) (kept : Pulse) (held : Held) (n : ℕ) (g : Going all i₀ q₀ scratch₀ i q scratch r p kept held n) where
-    abbrev pub x : Pulse
-    x = here rows-full marks-full r p (g .most) (g .long) (g .within) (g .picked)
-
-    abbrev pub r' : Runs
-    r' = behind-it rows-full marks-full r p (g .most) (g .long) (g .within) (g .picked)
-
-    abbrev st : Rowed
-    st = rowed i q scratch
-
-    abbrev verdict : Judged
-    verdict = judged s b kept (length i)
-
-    more : p .some ≡ true → left r ≡ x ∷ left r'
-    more = picked-next rows-full marks-full r p (g .most) (g .long) (g .within) (g .picked)
-
-    pub less : p .some ≡ true → length (left r') < length (left r)
-    less e = let k = ap length (more e) in omega (arith, k)
-
-    todo-next : p .some ≡ true → ranPulses s b rows (keptFrom (together tolerance) kept (x ∷ left r')) n st ≡ all
-    todo-next e = ap (λ (ps : List Pulse). ranPulses s b rows (keptFrom (together tolerance) kept ps) n st) (sym (more e)) ∙ g .whole
-
-    -- the next falls together with the kept one
-    pub near-turn : p .some ≡ true → together tolerance kept x ≡ true → (p' : Picked) → p' ≡ pickedIn work marks r' → Going all i₀ q₀ scratch₀ i q scratch r' p' (plusP kept x) held n
-    near-turn e near p' is =
+    pub on-turn : length (st₀ .i) ≤ length (st₀ .scratch) → p .some ≡ true → (r' : Runs) → r' ≡ movedOn marks r p → (p' : Picked) → Picks work marks r' p' → together tolerance kept x ≡ false
+        → accepted verdict ≡ true → (h : Held) → Holds s b h (st' .scratch) → Going s b tolerance work marks rows all st₀ st' r' p' x h (n + 1)
+    on-turn short e r' is p' next apart taken h holds =
         record {
-          same-i = g .same-i;
-          same-q = g .same-q;
-          same-scratch = g .same-scratch;
-          most = g .most;
-          long = behind-long rows-full marks-full r p (g .most) (g .long) (g .within) (g .picked);
-          within = behind-within rows-full marks-full r p (g .most) (g .long) (g .within) (g .picked);
-          picked = is;
-          holds = g .holds;
-          few-added = let k = less e in omega (arith, k, g .few-added);
-          whole = ap (λ (ps : List Pulse). ranPulses s b rows ps n st) (sym (kept-near (together tolerance) kept x (left r') near)) ∙ todo-next e;
+          same-i = i-same;
+          same-q = q-same;
+          same-scratch = scratch-same short;
+          picks = next;
+          holds = holds;
+          few-added = let k = less e r' is in omega (arith, k, g .few-added);
+          whole = ap (ranPulses s b rows (keptFrom (together tolerance) x (left work marks r')) (n + 1)) after ∙ sym (ran-on s b rows kept (keptFrom (together tolerance) x (left work marks r')) n st taken) ∙ apart-is e r' is apart;
         }
 
-    -- it does not: the kept one is added
-    apart-is : p .some ≡ true → together tolerance kept x ≡ false → ranPulses s b rows (kept ∷ keptFrom (together tolerance) x (left r')) n st ≡ all
-    apart-is e apart = ap (λ (ps : List Pulse). ranPulses s b rows ps n st) (sym (kept-apart (together tolerance) kept x (left r') apart)) ∙ todo-next e
+    stays : (why : Refusal) → verdict ≡ judgement.Refused why → st' ≡ st
+    stays why e = after ∙ ap (λ (d : Judged). addedTo s b rows d st) e
 
-    last-is : p .some ≡ false → ranPulses s b rows (kept ∷ []) n st ≡ all
-    last-is e =
-        ap (λ (ps : List Pulse). ranPulses s b rows ps n st) (sym (kept-last (together tolerance) kept) ∙ ap (keptFrom (together tolerance) kept) (sym (picked-none rows-full marks-full r p (g .most) (g .long) (g .within) (g .picked) e))) ∙ g .whole
+    pub refused-turn : p .some ≡ true → together tolerance kept x ≡ false → (why : Refusal) → verdict ≡ judgement.Refused why → out (answer.Refused why n) st' ≡ all
+    refused-turn e apart why not-ok = ap (out (answer.Refused why n)) (stays why not-ok) ∙ sym (ran-refused s b rows kept (keptFrom (together tolerance) x (left work marks (movedOn marks r p))) n st why not-ok) ∙ apart-is e (movedOn marks r p) refl apart
 
-    module _ (i' q' scratch' : List Float) (after : rowed i' q' scratch' ≡ addedTo s b rows verdict st) where
-      pub i-same : length i' ≡ length i₀
-      i-same = ap (λ (o : Rowed). length (o .i)) after ∙ i-length s b rows st verdict ∙ g .same-i
+    pub on-last : p .some ≡ false → accepted verdict ≡ true → out (answer.Done (n + 1)) st' ≡ all
+    on-last e taken = ap (out (answer.Done (n + 1))) after ∙ sym (ran-none s b rows (n + 1) (addedTo s b rows verdict st)) ∙ sym (ran-on s b rows kept [] n st taken) ∙ last-is e
 
-      pub q-same : length q' ≡ length q₀
-      q-same = ap (λ (o : Rowed). length (o .q)) after ∙ q-length s b rows st verdict ∙ g .same-q
-
-      pub scratch-same : length i₀ ≤ length scratch₀ → length scratch' ≡ length scratch₀
-      scratch-same h = ap (λ (o : Rowed). length (o .scratch)) after ∙ scratch-length s b rows st (omega (arith, h, g .same-i, g .same-scratch)) verdict ∙ g .same-scratch
-
-      pub on-turn : length i₀ ≤ length scratch₀ → p .some ≡ true → together tolerance kept x ≡ false → accepted verdict ≡ true → (h : Held) → Holds s b h scratch' → (p' : Picked) → p' ≡ pickedIn work marks r'
-          → Going all i₀ q₀ scratch₀ i' q' scratch' r' p' x h (n + 1)
-      on-turn short e apart taken h holds p' is =
-          record {
-            same-i = i-same;
-            same-q = q-same;
-            same-scratch = scratch-same short;
-            most = g .most;
-            long = behind-long rows-full marks-full r p (g .most) (g .long) (g .within) (g .picked);
-            within = behind-within rows-full marks-full r p (g .most) (g .long) (g .within) (g .picked);
-            picked = is;
-            holds = holds;
-            few-added = let k = less e in omega (arith, k, g .few-added);
-            whole = ap (ranPulses s b rows (keptFrom (together tolerance) x (left r')) (n + 1)) after ∙ sym (ran-on s b rows kept (keptFrom (together tolerance) x (left r')) n st taken) ∙ apart-is e apart;
-          }
-
-      stays : (why : Refusal) → verdict ≡ judgement.Refused why → rowed i' q' scratch' ≡ st
-      stays why e = after ∙ ap (λ (d : Judged). addedTo s b rows d st) e
-
-      pub refused-turn : p .some ≡ true → together tolerance kept x ≡ false → (why : Refusal) → verdict ≡ judgement.Refused why → out (answer.Refused why n) (rowed i' q' scratch') ≡ all
-      refused-turn e apart why not-ok = ap (out (answer.Refused why n)) (stays why not-ok) ∙ sym (ran-refused s b rows kept (keptFrom (together tolerance) x (left r')) n st why not-ok) ∙ apart-is e apart
-
-      pub on-last : p .some ≡ false → accepted verdict ≡ true → out (answer.Done (n + 1)) (rowed i' q' scratch') ≡ all
-      on-last e taken = ap (out (answer.Done (n + 1))) after ∙ sym (ran-none s b rows (n + 1) (addedTo s b rows verdict st)) ∙ sym (ran-on s b rows kept [] n st taken) ∙ last-is e
-
-      pub refused-last : p .some ≡ false → (why : Refusal) → verdict ≡ judgement.Refused why → out (answer.Refused why n) (rowed i' q' scratch') ≡ all
-      refused-last e why not-ok = ap (out (answer.Refused why n)) (stays why not-ok) ∙ sym (ran-refused s b rows kept [] n st why not-ok) ∙ last-is e
+    pub refused-last : p .some ≡ false → (why : Refusal) → verdict ≡ judgement.Refused why → out (answer.Refused why n) st' ≡ all
+    refused-last e why not-ok = ap (out (answer.Refused why n)) (stays why not-ok) ∙ sym (ran-refused s b rows kept [] n st why not-ok) ∙ last-is e

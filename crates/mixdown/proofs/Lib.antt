@@ -10,6 +10,7 @@ pub mod Laid
 pub mod Holdings
 pub mod Shaped
 pub mod Lengths
+pub mod Picks
 pub mod Binned
 pub mod Listed
 pub mod Allbins

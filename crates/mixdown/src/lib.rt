@@ -43,9 +43,7 @@ pub fn mix_lists(
     let lists = both(taking.count <= 8, ends_fit(ends));
     let room = both(rows_fit(rows, i.len(), q.len()), i.len() <= scratch.len());
     if both(both(sizes, lists), room) {
-        return sample_lists(
-            s, t, taking, ends, bins, work, marks, rows, i, q, scratch,
-        );
+        return sample_lists(s, t, taking, ends, bins, work, marks, rows, i, q, scratch);
     }
     Answer::Refused(Refusal::WrongSize, 0)
 }

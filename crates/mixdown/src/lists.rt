@@ -44,7 +44,19 @@ pub(crate) fn sample_lists(
         let list = k;
         k += 1;
         match sample_list(
-            s, t, taking, ends, list, bins, work, marks, rows, i, q, scratch, n,
+            s,
+            t,
+            taking,
+            ends,
+            list,
+            bins,
+            work,
+            marks,
+            rows,
+            i,
+            q,
+            scratch,
+            n,
         ) {
             Answer::Done(m) => {
                 n = m;
@@ -89,9 +101,7 @@ fn sample_list(
         p += 1;
         if !known {
             let runs = runs_for(t, taking, ends, bins, marks, row);
-            match sample_bin(
-                s, row, tolerance, runs, work, marks, rows, i, q, scratch, n,
-            ) {
+            match sample_bin(s, row, tolerance, runs, work, marks, rows, i, q, scratch, n) {
                 Answer::Done(m) => {
                     n = m;
                 }
