@@ -1,5 +1,5 @@
 -- The pulses of one bin, run one after another while they are joined and summed: what is still to do equals what was to do. Assumes nothing.
-use Prim.Native.Nat.{ℕ, zero, suc, _+_, _*_, _-_, _^_, _<_, _≤_}
+use Prim.Native.Nat.{ℕ, suc, _+_, _*_, _-_, _^_, _<_, _≤_}
 use native.Mathlib.Omega.{arith}
 use native.Mathlib.Numerals.{add-one}
 use mathlib.Core.Path.{_≡_, refl, sym, ap, _∙_}
@@ -7,7 +7,7 @@ use mathlib.Core.Bool.{Bool, true, false, cond, true≢false}
 use mathlib.Core.List.{List, [], _∷_, map}
 use lib.Dec.{eqb}
 use lib.Ieee.{Float, lt}
-use lib.ListN.{length, take, drop, getD, length-take, length-drop, length-map, length-set}
+use lib.ListN.{length, take, drop, length-take, length-drop, length-map}
 use Rattle.quant.specs.declared.refusal.Answer.the-variants as answer
 use Rattle.quant.specs.declared.refusal.Refusal.{Refusal}
 use Rattle.quant.specs.declared.settings.Settings.{Settings}
@@ -22,8 +22,8 @@ use Rattle.mixdown.specs.declared.runs.Run.{Run}
 use Rattle.mixdown.specs.declared.runs.Runs.{Runs}
 use Rattle.mixdown.specs.declared.runs.Picked.{Picked}
 use Rattle.mixdown.specs.declared.onto.Held.{Held}
-use Rattle.mixdown.specs.Runs.{Within, noRun, ofMark, pulseAt, pulsesIn, runIn, runsIn, pickedIn, movedOn}
-use Rattle.mixdown.specs.Sampled.{Rowed, rowed, Out, out, addedTo, unlessRefused, ranPulses}
+use Rattle.mixdown.specs.Runs.{ofMark, runIn, runsIn, movedOn}
+use Rattle.mixdown.specs.Sampled.{Rowed, Out, out, addedTo, unlessRefused, ranPulses}
 use Rattle.mixdown.specs.Holding.{Holds, accepted}
 use Rattle.mixdown.proofs.Picks.{left, pulseOf, Picks, picked-next, picked-none}
 use Rattle.mixdown.proofs.Lengths.{i-length, q-length, scratch-length}

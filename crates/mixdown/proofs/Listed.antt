@@ -1,13 +1,13 @@
 -- Bins run one after another: how a list of bins parts, what is left of it after one bin, how many pulses are added, and that no length changes.
 -- Assumes nothing.
-use Prim.Native.Nat.{ℕ, zero, suc, _+_, _*_, _-_, _^_, _<_, _≤_}
+use Prim.Native.Nat.{ℕ, suc, _+_, _*_, _-_, _<_, _≤_}
 use native.Mathlib.Omega.{arith}
 use native.Mathlib.Numerals.{add-one}
 use mathlib.Core.Path.{_≡_, refl, sym, ap, _∙_}
-use mathlib.Core.Bool.{Bool, true, false, cond, true≢false}
+use mathlib.Core.Bool.{Bool, true, false, cond}
 use mathlib.Core.List.{List, [], _∷_, _++_, map, append-nil, append-assoc}
 use lib.Ieee.{Float}
-use lib.ListN.{length, take, drop, getD, length-append, drop-of-length-le}
+use lib.ListN.{length, take, drop, getD, drop-of-length-le}
 use lib.Seq.{drop-cons, take-suc}
 use Rattle.quant.specs.declared.refusal.Answer.{Answer}
 use Rattle.quant.specs.declared.refusal.Answer.the-variants as answer
@@ -17,7 +17,7 @@ use Rattle.pulse.specs.declared.bin.Bin.{Bin}
 use Rattle.pulse.specs.declared.list.Pulse.{Pulse}
 use Rattle.pulse.specs.Bin.{binOf}
 use Rattle.tables.specs.declared.Tables.{Tables}
-use Rattle.merge.specs.Sum.{plusP, together, keptFrom, summedBy, summedAgain}
+use Rattle.merge.specs.Sum.{together, summedAgain}
 use Rattle.merge.specs.Join.{joined}
 use Rattle.merge.specs.Taking.{Part}
 use Rattle.merge.proofs.Kept.{summed-length}
@@ -29,7 +29,7 @@ use Rattle.mixdown.specs.declared.runs.Runs.{Runs}
 use Rattle.mixdown.specs.Runs.{pulsesIn, runIn, runsIn}
 use Rattle.mixdown.specs.Bins.{isAmong, firstsAfter}
 use Rattle.mixdown.specs.Starts.{runsForFrom, mergedIn}
-use Rattle.mixdown.specs.Sampled.{Rowed, rowed, Out, out, addedTo, unlessRefused, ranPulses, andThen, ranBins}
+use Rattle.mixdown.specs.Sampled.{Rowed, Out, out, addedTo, unlessRefused, ranPulses, andThen, ranBins}
 use Rattle.mixdown.proofs.Lengths.{i-length, q-length, scratch-length}
 use Rattle.mixdown.proofs.Marked.{pulses-length}
 use Rattle.mixdown.proofs.Binned.{joined-length}

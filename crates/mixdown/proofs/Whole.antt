@@ -2,11 +2,11 @@
 -- scaled, joined by time and summed again. Assumes nothing.
 use Prim.Native.Nat.{ℕ, _*_, _-_, _≤_}
 use native.Mathlib.Omega.{arith}
-use mathlib.Core.Path.{_≡_, refl, sym, ap, _∙_}
+use mathlib.Core.Path.{_≡_, sym, ap, _∙_}
 use mathlib.Core.Bool.{true}
-use mathlib.Core.List.{List, [], _∷_, _++_, map}
+use mathlib.Core.List.{List, [], _∷_, map}
 use lib.Ieee.{Float}
-use lib.ListN.{length, take, drop, getD, replicate, length-map, length-append, length-take}
+use lib.ListN.{length, take, drop, length-map, length-append, length-take}
 use Rattle.quant.specs.declared.settings.Settings.{Settings}
 use Rattle.rows.specs.Rows.{rowsFit}
 use Rattle.pulse.specs.declared.list.Pulse.{Pulse}
@@ -16,11 +16,10 @@ use Rattle.merge.specs.declared.taking.Taking.{Taking}
 use Rattle.merge.specs.Sum.{togetherInBin, summedAgain}
 use Rattle.merge.specs.Join.{joined}
 use Rattle.merge.specs.Taking.{Part, partsIn, recordsOf, listOf}
-use Rattle.merge.specs.Work.{rowOfPulse, markOf, over, listsOf, inOne, endsFrom, endsOf}
+use Rattle.merge.specs.Work.{rowOfPulse, markOf, over, listsOf, inOne, endsOf}
 use Rattle.merge.proofs.Kept.{summed-length}
 use Rattle.merge.proofs.Over.{length-over}
-use Rattle.mixdown.specs.Runs.{pulsesIn}
-use Rattle.mixdown.specs.Bins.{binsBy, runOf, mergedOf}
+use Rattle.mixdown.specs.Bins.{binsBy, mergedOf}
 use Rattle.mixdown.specs.Starts.{mergedIn}
 use Rattle.mixdown.specs.Sampled.{Rowed, ranBins, mixedDown}
 use Rattle.mixdown.proofs.Laid.{read-back, all-runs, all-ended}

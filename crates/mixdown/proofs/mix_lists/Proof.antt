@@ -3,7 +3,7 @@ use Rattle.mixdown.proofs.Ending.{Fits, fits}
 use Rattle.mixdown.specs.Sampled.{mixFits, mixedDown}
 use lib.ListN.{length}
 use mathlib.Core.Bool.{Bool, true}
-use mathlib.Core.Path.{_≡_, refl, sym, ap, _∙_}
+use mathlib.Core.Path.{_≡_, refl, sym, _∙_}
 use borrow.Author.Needs.{needs}
 use Rattle.mixdown.proofs.mix_lists.Statement.{statement}
 use Rattle.mixdown.proofs.mix_lists.Tie as tie

@@ -1,20 +1,20 @@
 -- `mixdown::bin::sample_bin` meets its contract. The invariant: the kept pulse and what the runs have left, run from here, come to what the
 -- contract says. Assumes nothing.
-use Prim.Native.Nat.{ℕ, _≤_}
+use Prim.Native.Nat.{_≤_}
 use native.Mathlib.Omega.{arith}
 use borrow.Author.Needs.{needs}
 use mathlib.Core.Path.{_≡_, refl, sym, ap, _∙_}
 use mathlib.Core.Bool.{true, false, true≢false}
-use mathlib.Core.List.{List, _∷_}
+use mathlib.Core.List.{List}
 use lib.ListN.{length}
 use Rattle.quant.proofs.Judging.{taken, passed}
 use Rattle.pulse.specs.declared.bin.Bin.{Bin}
 use Rattle.pulse.specs.declared.list.Pulse.{Pulse}
 use Rattle.pulse.specs.Bin.{binOf}
-use Rattle.merge.specs.Sum.{together, keptFrom, summedBy, summedAgain}
+use Rattle.merge.specs.Sum.{together, summedBy, summedAgain}
 use Rattle.mixdown.specs.declared.runs.Runs.{Runs}
 use Rattle.mixdown.specs.Runs.{pulsesIn, movedOn}
-use Rattle.mixdown.specs.Sampled.{Rowed, Out, rowed, ranPulses}
+use Rattle.mixdown.specs.Sampled.{Out, rowed, ranPulses}
 use Rattle.mixdown.proofs.Sizes.{eight-runs}
 use Rattle.mixdown.proofs.Marked.{pulses-length}
 use Rattle.mixdown.proofs.Picks.{left, pulseOf, Picks, picked-list, picked-row, picked-next, picked-none, picks-next}

@@ -14,8 +14,8 @@ use Rattle.mixdown.specs.Runs.{Within}
 use Rattle.merge.specs.Taking.{partsIn}
 use borrow.Author.Needs.{needs}
 use lib.ListN.{length, take, drop, getD}
-use mathlib.Core.List.{List, _++_}
-use Prim.Native.Nat.{ℕ, _+_, _-_, _≤_, _<_}
+use mathlib.Core.List.{_++_}
+use Prim.Native.Nat.{_+_, _-_, _≤_}
 use mathlib.Core.Path.{_≡_, refl, sym, ap, _∙_}
 use native.Mathlib.Omega.{arith}
 use Rattle.mixdown.proofs.bins.runs_for.Statement.{statement}

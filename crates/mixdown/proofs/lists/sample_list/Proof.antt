@@ -11,20 +11,19 @@ use Rattle.mixdown.specs.Starts.{binsHeld}
 use Rattle.tables.proofs.Sizes.{eight-channels}
 use Rattle.quant.proofs.Judging.{taken, passed}
 use Rattle.pulse.specs.declared.list.Pulse.{Pulse}
-use mathlib.Core.Bool.{Bool, true, false}
 use lib.Ieee.{Float}
 use mathlib.Core.List.{[]}
 use Rattle.mixdown.proofs.Listed.{Listing, list-start, seen-step, new-step, refused-step, list-end}
 use Rattle.mixdown.specs.Sampled.{rowed, ranBins}
 use Rattle.mixdown.specs.Starts.{mergedIn}
-use Rattle.mixdown.specs.Bins.{isAmong, allRows, firstsAfter}
+use Rattle.mixdown.specs.Bins.{allRows, firstsAfter}
 use Rattle.merge.specs.Taking.{partsIn}
 use Rattle.commands.specs.Play.{rowsOf}
 use borrow.Author.Needs.{needs}
 use lib.ListN.{length, take, getD}
 use Prim.Native.Nat.{ℕ, _+_, _*_, _-_, _≤_, _<_}
 use mathlib.Core.List.{List}
-use mathlib.Core.Path.{_≡_, refl, sym, ap, _∙_}
+use mathlib.Core.Path.{_≡_, sym, ap, _∙_}
 use native.Mathlib.Omega.{arith}
 use Rattle.mixdown.proofs.lists.sample_list.Statement.{statement}
 use Rattle.mixdown.proofs.lists.sample_list.Tie as tie

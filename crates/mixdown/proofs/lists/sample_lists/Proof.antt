@@ -13,10 +13,10 @@ use Rattle.mixdown.specs.Starts.{mergedIn}
 use Rattle.mixdown.specs.Bins.{allRows, firstsAfter}
 use Rattle.merge.specs.Taking.{partsIn}
 use borrow.Author.Needs.{needs}
-use lib.ListN.{length, take, getD}
-use Prim.Native.Nat.{ℕ, _-_, _≤_, _<_}
+use lib.ListN.{length, getD}
+use Prim.Native.Nat.{_-_, _≤_, _<_}
 use mathlib.Core.List.{List, []}
-use mathlib.Core.Path.{_≡_, refl, sym, ap, _∙_}
+use mathlib.Core.Path.{_≡_, sym, _∙_}
 use native.Mathlib.Omega.{arith}
 use Rattle.mixdown.proofs.lists.sample_lists.Statement.{statement}
 use Rattle.mixdown.proofs.lists.sample_lists.Tie as tie

@@ -1,7 +1,7 @@
 -- `mixdown::lists::seen` meets its contract. Assumes nothing.
 use Rattle.mixdown.proofs.Held.{held-most, rows-many, rows-first}
 use Rattle.mixdown.proofs.Appeared.{among-append}
-use Rattle.mixdown.specs.Bins.{isAmong, allRows}
+use Rattle.mixdown.specs.Bins.{allRows}
 use Rattle.tables.proofs.Sizes.{eight-channels}
 use Rattle.merge.specs.Taking.{partsIn}
 use Rattle.commands.specs.Play.{rowsOf}

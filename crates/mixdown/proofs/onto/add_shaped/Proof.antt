@@ -4,10 +4,8 @@ use Rattle.mixdown.proofs.Holdings.{after-length, holds-after}
 use Rattle.mixdown.specs.Sampled.{partsAt, withPoints}
 use Rattle.shape.specs.Envelope.{scratchAfter}
 use lib.ListN.{length}
-use lib.Ieee.{Float}
-use Prim.Native.Nat.{ℕ, _-_, _≤_}
-use mathlib.Core.List.{List}
-use mathlib.Core.Path.{_≡_, refl, sym, ap, _∙_}
+use Prim.Native.Nat.{_-_, _≤_}
+use mathlib.Core.Path.{sym, ap, _∙_}
 use native.Mathlib.Omega.{arith}
 use borrow.Author.Needs.{needs}
 use Rattle.mixdown.proofs.onto.add_shaped.Statement.{statement}

@@ -8,7 +8,7 @@ use Rattle.mixdown.proofs.Sizes.{eight-runs}
 use Rattle.mixdown.specs.Runs.{pickedFrom}
 use borrow.Author.Needs.{needs}
 use lib.ListN.{take, drop}
-use mathlib.Core.Path.{_≡_, refl, sym, _∙_}
+use mathlib.Core.Path.{_≡_, sym, _∙_}
 use Prim.Native.Nat.{_≤_, _<_}
 use native.Mathlib.Omega.{arith}
 use Rattle.mixdown.proofs.runs.pick.Statement.{statement}
