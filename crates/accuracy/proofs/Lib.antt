@@ -13,3 +13,5 @@ pub mod Carrier
 pub mod Zero
 pub mod Samples
 pub mod Example
+pub mod One
+pub mod Merged
