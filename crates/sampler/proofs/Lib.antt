@@ -1,0 +1,5 @@
+-- What is proved of no one function.
+pub mod Order
+pub mod Left
+pub mod Callees
+pub mod Passing
