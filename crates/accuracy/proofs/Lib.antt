@@ -15,3 +15,4 @@ pub mod Samples
 pub mod Example
 pub mod One
 pub mod Merged
+pub mod Call

@@ -3,3 +3,4 @@ pub mod Order
 pub mod Left
 pub mod Callees
 pub mod Passing
+pub mod Done
