@@ -1,7 +1,7 @@
 -- DEMAND 3. A sampling call that added exactly one pulse, of no shape, onto rows of zeros: sample k of the pulse lies within (k + 1) 2 ^ -49 m of the
 -- exact product, in I and, with two rows, in Q, and all other samples are zero. Nothing is assumed but the mission's bounds: that the numbers are
 -- doubles and finite follows from the call. Assumes nothing.
-use Prim.Native.Nat.{ℕ, suc, _+_, _≤_, _<_}
+use Prim.Native.Nat.{ℕ, _+_, _≤_, _<_}
 use native.Mathlib.Omega.{arith}
 use mathlib.Core.Path.{_≡_, refl, sym, ap, subst, _∙_}
 use mathlib.Core.Bool.{Bool, true, false, _&&_, cond, true≢false}
@@ -13,7 +13,7 @@ use lib.Ieee.Fits.{mul-fits}
 use lib.Ieee.Scale.{finite}
 use lib.ListN.{length, getD, replicate, length-replicate, getD-replicate}
 use Rattle.quant.specs.declared.complex.Complex.{Complex}
-use Rattle.quant.specs.declared.phaser.Phased.the-variants.{Pair, NotFinite}
+use Rattle.quant.specs.declared.phaser.Phased.the-variants.{Pair}
 use Rattle.quant.specs.declared.refusal.Answer.the-variants.{Done}
 use Rattle.quant.specs.declared.settings.Settings.{Settings}
 use Rattle.quant.specs.Complex.{timesC}
@@ -41,14 +41,14 @@ use Rattle.placing.specs.Phases.{phase0, dphase, startPair, rotationPair}
 use Rattle.placing.specs.Judged.{judged, countOf, weightNumbers}
 use Rattle.placing.proofs.Accepted.{HeldFlat, flat-held, curved-held}
 use Rattle.mixdown.specs.Bins.{binsBy, mergedOf}
-use Rattle.mixdown.specs.Sampled.{Rowed, Out, ranBins, addedTo}
+use Rattle.mixdown.specs.Sampled.{Rowed, ranBins, addedTo}
 use Rattle.mixdown.specs.Holding.{accepted}
 use Rattle.sampler.specs.declared.Request.{Request}
 use Rattle.sampler.specs.Sampler.{Left, sampled}
 use Rattle.sampler.proofs.Order.{fitting-sizes}
 use Rattle.sampler.proofs.Done.{Accepted, call-done}
 use Rattle.accuracy.specs.Exact.{Held, Tame, Near, carrierExactly, absolute}
-use Rattle.accuracy.specs.Call.{Bounded, Zeros, Only, PlateauNear, PlateauThen, OneNear}
+use Rattle.accuracy.specs.Call.{Bounded, Zeros, OneNear}
 use Rattle.accuracy.proofs.One.{One, one-added}
 use Rattle.accuracy.proofs.Merged.{all-merged}
 use Rattle.accuracy.proofs.Samples.{one-row-near, first-row-near, second-row-near}

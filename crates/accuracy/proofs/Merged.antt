@@ -1,7 +1,7 @@
 -- Every pulse that a call adds, after merging and crosstalk, is made of doubles: its parts are products or sums. Assumes nothing.
 use mathlib.Core.Bool.{Bool, true, false, cond}
 use mathlib.Core.List.{List, [], _∷_, map}
-use lib.Ieee.{Float, binary64, lt, add, mul}
+use lib.Ieee.{Float, binary64, lt}
 use lib.Ieee.Fits.{add-fits, mul-fits}
 use Rattle.pulse.specs.declared.list.Pulse.{Pulse}
 use Rattle.tables.specs.declared.Tables.{Tables}
@@ -12,7 +12,7 @@ use Rattle.commands.specs.Play.{rowsOf}
 use Rattle.merge.specs.Taking.{Part, listOf}
 use Rattle.merge.proofs.Scaled.{Fitting, AllFitting}
 use Rattle.mixdown.specs.Runs.{ofMark}
-use Rattle.mixdown.specs.Bins.{isAmong, runFrom, runOf, mergedOf}
+use Rattle.mixdown.specs.Bins.{isAmong, runOf, mergedOf}
 
 scaled-fits : (f : Float) (p : Pulse) → Fitting (scaledP f p)
 scaled-fits f p = record { amp-re = mul-fits binary64 (p .amp .re) f; amp-im = mul-fits binary64 (p .amp .im) f; drag-re = mul-fits binary64 (p .drag .re) f; drag-im = mul-fits binary64 (p .drag .im) f }

@@ -1,9 +1,9 @@
 -- A sampling call that is done: its settings fit, its sizes fit, its plan is accepted, and it is `eachPulse`. Assumes nothing.
 use Prim.Native.Nat.{ℕ}
 use native.Mathlib.Omega.{arith}
-use mathlib.Core.Path.{_≡_, refl, sym, ap, _∙_}
+use mathlib.Core.Path.{_≡_, refl, sym, _∙_}
 use mathlib.Core.Bool.{Bool, true, false, cond, true≢false}
-use mathlib.Core.List.{List, []}
+use mathlib.Core.List.{List}
 use lib.Dec.{eqb}
 use lib.Ieee.{Float}
 use lib.ListN.{length, take}
@@ -21,12 +21,11 @@ use Rattle.tables.specs.declared.Tables.{Tables}
 use Rattle.tables.specs.Tables.{found}
 use Rattle.merge.specs.Taking.{packed}
 use Rattle.crosstalk.specs.declared.names.Crosstalk.{Crosstalk}
-use Rattle.crosstalk.specs.declared.parts.Plan.{Plan}
 use Rattle.crosstalk.specs.Crosstalk.{namesIn, crossFits, crossFine, doubledAt, allKnown, isKnown, partsFor, refusedPlan, acceptedPlan, planned}
 use Rattle.mixdown.specs.Sampled.{Rowed}
 use Rattle.sampler.specs.declared.Request.{Request}
 use Rattle.sampler.specs.Sizes.{sizesFit}
-use Rattle.sampler.specs.Sampler.{left, eachPulse, byPlan, byClock, sampled}
+use Rattle.sampler.specs.Sampler.{eachPulse, byClock, sampled}
 
 -- a refused plan is not done
 module _ (t : Tables) (channel : Name) (c : Crosstalk) (factors : List Float) where
