@@ -64,6 +64,19 @@ mod c {
             numbers: *const f64,
             numbers_len: usize,
         ) -> usize;
+        pub fn skierralu_add_plateau(
+            rows: usize,
+            i: *mut f64,
+            i_len: usize,
+            q: *mut f64,
+            q_len: usize,
+            start: usize,
+            count: usize,
+            re: f64,
+            im: f64,
+            cos: f64,
+            sin: f64,
+        );
         pub fn skierralu_iir(
             rows: usize,
             i: *mut f64,
@@ -185,4 +198,25 @@ pub fn fir(rows: usize, i: &mut [f64], q: &mut [f64], taps: &[f64]) -> usize {
 
 pub fn iir(rows: usize, i: &mut [f64], q: &mut [f64], sections: &[f64]) -> usize {
     step(c::skierralu_iir, rows, i, q, sections)
+}
+
+/// A plateau onto two rows: `count` samples from `start` on.
+pub fn add_plateau(i: &mut [f64], q: &mut [f64], start: usize, count: usize, carrier: [f64; 2], rotation: [f64; 2]) {
+    let ([re, im], [cos, sin]) = (carrier, rotation);
+    let (i_len, q_len) = (i.len(), q.len());
+    unsafe {
+        c::skierralu_add_plateau(
+            2,
+            i.as_mut_ptr(),
+            i_len,
+            q.as_mut_ptr(),
+            q_len,
+            start,
+            count,
+            re,
+            im,
+            cos,
+            sin,
+        )
+    }
 }

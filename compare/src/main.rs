@@ -8,6 +8,7 @@ mod host;
 mod ieee;
 mod iir;
 mod mixer;
+mod near;
 mod quant;
 mod replays;
 mod report;
@@ -24,6 +25,7 @@ fn main() -> ExitCode {
             bench::run();
             return ExitCode::SUCCESS;
         }
+        Some("near") => return near::run(),
         Some("replays") => {
             replays::print();
             return ExitCode::SUCCESS;
@@ -43,7 +45,7 @@ fn main() -> ExitCode {
         Some(word) => match word.parse() {
             Ok(scale) => scale,
             Err(_) => {
-                eprintln!("usage: compare [SCALE | bench | replays | commands PROGRAM.. | stored_lists | stored_answers]");
+                eprintln!("usage: compare [SCALE | bench | near | replays | commands PROGRAM.. | stored_lists | stored_answers]");
                 return ExitCode::from(2);
             }
         },

@@ -8,6 +8,8 @@ ghost use Rattle.ieee.specs.Fused.{fma};
 ghost use Rattle.host.specs.Coded.{Coded};
 ghost use Rattle.host.specs.Places.{indexOf, placeOf, refusedPlace};
 ghost use Rattle.iir.specs.Iir.{Iir};
+ghost use Rattle.mix.specs.Part.{firstRow, secondRow};
+ghost use Rattle.mix.specs.Plateau.{carried, real, imaginary};
 ghost use Rattle.mixer.specs.Mixer.{Iq, Offset};
 ghost use Rattle.quant.specs.Aligned.{alignedOf, placedOf};
 ghost use Rattle.quant.specs.declared.refusal.Answer.{Answer};
@@ -19,6 +21,7 @@ use quant::aligned::Aligned;
 use quant::aligned::Placed;
 use quant::aligned::align;
 use quant::aligned::place;
+use quant::complex::Complex;
 use quant::quantity::Frequency;
 use quant::quantity::Phase;
 use quant::quantity::Time;
@@ -183,4 +186,25 @@ pub extern "C" fn skierralu_fir(rows: usize, i: &mut [f64], q: &mut [f64], taps:
 {
     let r = fir::fir(rows, i, q, taps);
     quant::refusal::code(r)
+}
+
+// A plateau: the carrier and the rotation as two numbers each.
+#[no_mangle]
+pub extern "C" fn skierralu_add_plateau(
+    rows: usize,
+    i: &mut [f64],
+    q: &mut [f64],
+    start: usize,
+    count: usize,
+    re: f64,
+    im: f64,
+    cos: f64,
+    sin: f64,
+)
+    ensures { λ r. ⌜ now (i .exit) ≡ firstRow rows start count (now (i .entry)) (now (q .entry)) (carried real (record { re = re; im = im }) (record { re = cos; im = sin })) ⌝ }
+    ensures { λ r. ⌜ now (q .exit) ≡ secondRow rows start count (now (i .entry)) (now (q .entry)) (carried imaginary (record { re = re; im = im }) (record { re = cos; im = sin })) ⌝ }
+{
+    let carrier = Complex { re, im };
+    let rotation = Complex { re: cos, im: sin };
+    mix::add_plateau(rows, i, q, start, count, carrier, rotation);
 }
