@@ -1,0 +1,40 @@
+-- Words for the laws of the sampling call: the pulses of a call in the order in which they are added, and the rows with the first of them. Definitions only.
+use Prim.Native.Nat.{ℕ, suc}
+use mathlib.Core.List.{List, [], _∷_, _++_}
+use lib.Ieee.{Float}
+use lib.ListN.{length}
+use Rattle.quant.specs.declared.refusal.Answer.{Answer}
+use Rattle.quant.specs.declared.refusal.Answer.the-variants.{Done, Refused}
+use Rattle.quant.specs.declared.settings.Settings.{Settings}
+use Rattle.pulse.specs.declared.bin.Bin.{Bin}
+use Rattle.pulse.specs.declared.list.Pulse.{Pulse}
+use Rattle.pulse.specs.Bin.{binOf}
+use Rattle.placing.specs.Judged.{judged}
+use Rattle.mixdown.specs.Sampled.{Rowed, addedTo}
+
+-- a pulse with its bin
+pub record Due : Type 0 where
+  pub bin : Bin
+  pub pulse : Pulse
+
+abbrev pub due : Bin → Pulse → Due
+due b p = record { bin = b; pulse = p }
+
+unfoldable pub duesOf : Bin → List Pulse → List Due
+duesOf b [] = []
+duesOf b (p ∷ ps) = due b p ∷ duesOf b ps
+
+-- bin by bin
+unfoldable pub allDues : (List Float → List Pulse) → List (List Float) → List Due
+allDues merged [] = []
+allDues merged (r ∷ rs) = duesOf (binOf r) (merged r) ++ allDues merged rs
+
+-- the rows with some pulses added, one after another
+unfoldable pub withAll : Settings → ℕ → List Due → Rowed → Rowed
+withAll s rows [] st = st
+withAll s rows (d ∷ ds) st = withAll s rows ds (addedTo s (d .bin) rows (judged s (d .bin) (d .pulse) (length (st .i))) st)
+
+-- the count or the place of an answer
+abbrev pub countIn : Answer → ℕ
+countIn (Done k) = k
+countIn (Refused r k) = k
