@@ -9,6 +9,9 @@ use Rattle.quant.specs.declared.settings.Settings.{Settings}
 use Rattle.pulse.specs.declared.bin.Bin.{Bin}
 use Rattle.pulse.specs.declared.list.Pulse.{Pulse}
 use Rattle.pulse.specs.Bin.{binOf}
+use Rattle.placing.specs.declared.Judged.{Judged}
+use Rattle.placing.specs.declared.Judged.the-variants as judgement
+use Rattle.placing.specs.declared.Judged.the-variants.{Plateau, Shaped}
 use Rattle.placing.specs.Judged.{judged}
 use Rattle.mixdown.specs.Sampled.{Rowed, addedTo}
 
@@ -38,3 +41,14 @@ withAll s rows (d ∷ ds) st = withAll s rows ds (addedTo s (d .bin) rows (judge
 abbrev pub countIn : Answer → ℕ
 countIn (Done k) = k
 countIn (Refused r k) = k
+
+-- the samples that an accepted pulse is added onto: from where, and how many; of a refused one none
+abbrev pub fromOf : Judged → ℕ
+fromOf (Plateau f) = f .start
+fromOf (Shaped c) = c .start
+fromOf (judgement.Refused r) = 0
+
+abbrev pub lengthOf : Judged → ℕ
+lengthOf (Plateau f) = f .count
+lengthOf (Shaped c) = c .points
+lengthOf (judgement.Refused r) = 0
