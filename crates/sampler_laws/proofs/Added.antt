@@ -1,15 +1,12 @@
 -- A call's rows are the rows before plus its first pulses, one after another, as many as its answer counts; so a refused pulse, and what would
 -- come behind it, changes no sample. And an accepted pulse changes no sample outside its range. Assumes nothing.
-use Prim.Native.Nat.{ℕ, zero, suc, _+_, _≤_, _<_}
+use Prim.Native.Nat.{ℕ, suc, _+_, _≤_}
 use native.Mathlib.Omega.{arith}
 use mathlib.Core.Path.{_≡_, refl, sym, ap, _∙_}
-use mathlib.Core.Bool.{Bool, true, false, _&&_, cond}
 use mathlib.Core.List.{List, [], _∷_, _++_}
-use lib.Dec.{eqb}
-use lib.Ieee.{Float, nan}
+use lib.Ieee.{Float}
 use lib.ListN.{length, take, length-append}
 use lib.Seq.{take-append-le, take-append-add, take-length}
-use Rattle.quant.specs.declared.complex.Complex.{Complex}
 use Rattle.quant.specs.declared.refusal.Answer.{Answer}
 use Rattle.quant.specs.declared.refusal.Answer.the-variants as answer
 use Rattle.quant.specs.declared.settings.Settings.{Settings}
@@ -88,9 +85,9 @@ module _ (s : Settings) (rows : ℕ) where
             upto = let h = g .upto in omega (arith, h, size);
             counted = let h = g .counted in let c = f .counted in omega (arith, h, c, whole);
             rows-are =
-              g .rows-are
-              ∙ ap (withAll s rows (take (g .many) (allDues merged rs))) here
-              ∙ sym (with-append (duesOf (binOf r) (merged r)) (take (g .many) (allDues merged rs)) st)
-              ∙ ap (λ (ds : List Due). withAll s rows ds st) (sym (take-append-add (duesOf (binOf r) (merged r)) (allDues merged rs) (g .many)));
+                g .rows-are
+                ∙ ap (withAll s rows (take (g .many) (allDues merged rs))) here
+                ∙ sym (with-append (duesOf (binOf r) (merged r)) (take (g .many) (allDues merged rs)) st)
+                ∙ ap (λ (ds : List Due). withAll s rows ds st) (sym (take-append-add (duesOf (binOf r) (merged r)) (allDues merged rs) (g .many)));
             all-if-done = λ m e. let h = g .all-if-done m e in omega (arith, h, size);
           }

@@ -1,15 +1,14 @@
 -- The two ways of a sampling call: refused before the first pulse, and then all is as it came; or its settings, sizes and plan are accepted, and its
 -- rows are the rows before plus its first pulses. With the unit matrix the call is the one without crosstalk, bit for bit. Assumes nothing.
-use Prim.Native.Nat.{ℕ, _+_}
+use Prim.Native.Nat.{ℕ}
 use native.Mathlib.Omega.{arith}
 use mathlib.Core.Path.{_≡_, refl, sym, ap, subst, _∙_}
 use mathlib.Core.Bool.{Bool, true, false, cond, true≢false}
-use mathlib.Core.List.{List, []}
+use mathlib.Core.List.{List}
 use lib.Ieee.{Float}
 use lib.ListN.{length}
 use Rattle.quant.specs.declared.refusal.Answer.{Answer}
 use Rattle.quant.specs.declared.refusal.Answer.the-variants.{Done, Refused}
-use Rattle.quant.specs.declared.refusal.Refusal.{Refusal}
 use Rattle.quant.specs.declared.refusal.Refusal.the-variants as why
 use Rattle.quant.specs.declared.settings.Fitting.{Fitting}
 use Rattle.quant.specs.declared.settings.Fitting.the-variants.{Fit, Unfit}
@@ -20,13 +19,13 @@ use Rattle.tables.specs.declared.Tables.{Tables}
 use Rattle.merge.specs.Taking.{Part, packed, partsIn}
 use Rattle.crosstalk.specs.declared.names.Crosstalk.{Crosstalk}
 use Rattle.crosstalk.specs.declared.parts.Plan.{Plan}
-use Rattle.crosstalk.specs.Crosstalk.{crossFits, partsFor, acceptedPlan, planned, ownParts}
+use Rattle.crosstalk.specs.Crosstalk.{partsFor, acceptedPlan, planned, ownParts}
 use Rattle.crosstalk.proofs.Laws.{Passes, accepted-is, UnitMatrix, unit-own}
 use Rattle.mixdown.specs.Bins.{binsBy, mergedOf}
-use Rattle.mixdown.specs.Sampled.{Rowed, Out, out}
+use Rattle.mixdown.specs.Sampled.{Rowed, out}
 use Rattle.sampler.specs.declared.Request.{Request}
 use Rattle.sampler.specs.Sizes.{sizesFit}
-use Rattle.sampler.specs.Sampler.{Left, left, eachPulse, byPlan, byClock, sampled}
+use Rattle.sampler.specs.Sampler.{Left, left, byPlan, byClock, sampled}
 use Rattle.sampler.proofs.Done.{Accepted, plan-told}
 use Rattle.sampler_laws.specs.Added.{allDues}
 use Rattle.sampler_laws.proofs.Added.{First, bins-first}

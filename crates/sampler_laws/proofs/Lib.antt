@@ -1,3 +1,4 @@
 pub mod Added
 pub mod Outside
 pub mod Calls
+pub mod Own

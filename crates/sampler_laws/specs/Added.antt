@@ -1,5 +1,5 @@
 -- Words for the laws of the sampling call: the pulses of a call in the order in which they are added, and the rows with the first of them. Definitions only.
-use Prim.Native.Nat.{ℕ, suc}
+use Prim.Native.Nat.{ℕ}
 use mathlib.Core.List.{List, [], _∷_, _++_}
 use lib.Ieee.{Float}
 use lib.ListN.{length}
