@@ -14,6 +14,7 @@ mod report;
 mod rng;
 mod rows;
 mod series;
+mod timed;
 mod trig;
 
 use std::process::ExitCode;
@@ -22,6 +23,11 @@ fn main() -> ExitCode {
     let scale = match std::env::args().nth(1).as_deref() {
         Some("bench") => {
             bench::run();
+            timed::run();
+            return ExitCode::SUCCESS;
+        }
+        Some("bench_commands") => {
+            timed::run();
             return ExitCode::SUCCESS;
         }
         Some("replays") => {
@@ -43,7 +49,7 @@ fn main() -> ExitCode {
         Some(word) => match word.parse() {
             Ok(scale) => scale,
             Err(_) => {
-                eprintln!("usage: compare [SCALE | bench | replays | commands PROGRAM.. | stored_lists | stored_answers]");
+                eprintln!("usage: compare [SCALE | bench | bench_commands | replays | commands PROGRAM.. | stored_lists | stored_answers]");
                 return ExitCode::from(2);
             }
         },
