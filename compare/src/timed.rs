@@ -1,5 +1,5 @@
 //! The command call timed beside the Rust's: 1,024 commands over 8 channels, most of them plays into a handful of bins, on fresh tables.
-//! Ours is called through the crate `time_commands`, which copies its arrays for every call: the same calls with no command are taken off.
+//! Ours is called through the crate `time_commands`, which makes its arrays anew for every call: the same calls with one command are taken off.
 //! Ours leaves each list sorted; the Rust sorts and sums it when it builds it, so that it is timed with its building and without.
 use crate::rng::Rng;
 use std::hint::black_box;
@@ -115,7 +115,7 @@ fn ours(list: &[Timed]) -> f64 {
         };
         (0..RUNS).map(|_| run()).fold(f64::INFINITY, f64::min)
     };
-    (best(COMMANDS) - best(0)) / (ROUNDS * COMMANDS) as f64
+    (best(COMMANDS) - best(1)) / (ROUNDS * (COMMANDS - 1)) as f64
 }
 
 fn theirs(list: &[Timed], build: bool) -> f64 {
