@@ -102,7 +102,10 @@ fn turn_at(t: Tables, i: usize, m: Moved) -> Step
     ensures { λ r. ⌜ r ≡ turned t i m ⌝ }
 {
     let osc = m.osc;
-    unless_refused(m.refused, t, with_osc(t, i, osc))
+    if !m.refused {
+        return goes_on(with_osc(t, i, osc));
+    }
+    stops(t, Refusal::NotFinite)
 }
 
 fn swap_to(t: Tables, i: usize, j: usize, s: Swapped) -> Step
