@@ -1,5 +1,6 @@
 //! Our exported functions beside Rust's, or beside the true value, over many inputs: one file a subject. See compare/run and compare/bench.
 mod bench;
+mod calls;
 mod cases;
 mod commands;
 mod fir;
@@ -36,7 +37,9 @@ fn main() -> ExitCode {
         }
         Some("commands") => {
             let program: Vec<String> = std::env::args().skip(2).collect();
-            return commands::compare(200, &program);
+            let lists = commands::compare(200, &program);
+            let calls = calls::compare(200, &program);
+            return if lists == ExitCode::SUCCESS { calls } else { lists };
         }
         Some("stored_lists") => {
             commands::stored(false);

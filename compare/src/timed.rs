@@ -91,7 +91,10 @@ fn play(rng: &mut Rng, channel: &'static str, amplitude: f64) -> Command<'static
 
 /// Nanoseconds a command in the best run.
 fn ours(list: &[Timed]) -> f64 {
-    let words: Vec<u64> = list.iter().flat_map(|(command, ..)| words(command)).collect();
+    let words: Vec<u64> = list
+        .iter()
+        .flat_map(|(command, ..)| words(command))
+        .collect();
     let numbers: Vec<f64> = list.iter().flat_map(numbers).collect();
     let call = |count, rounds| {
         // SAFETY: both slices are lent for the call, and it only reads them.

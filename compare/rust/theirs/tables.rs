@@ -11,6 +11,7 @@ use bosing::schedule::{
 };
 use bosing::shape::Shape;
 
+#[derive(Clone)]
 pub struct Tables {
     executor: Executor,
     time_tolerance: f64,
