@@ -8,8 +8,8 @@ use theirs::osc::Osc;
 use theirs::tables::{Command, Item, Play, Tables};
 
 const COMMANDS: usize = 1024;
-const ROUNDS: usize = 20;
-const RUNS: usize = 150;
+const ROUNDS: usize = 4;
+const RUNS: usize = 800;
 const CHANNELS: [&str; 8] = ["q0", "q1", "q2", "q3", "q4", "q5", "q6", "q7"];
 
 mod c {
@@ -37,10 +37,9 @@ pub fn run() {
         ("1,024 barriers", |_| 6),
     ];
     for (name, kind) in kinds {
-        let list = commands(kind);
-        let ours = ours(&list);
-        row(name, ours, theirs(&list, false));
-        row(&format!("{name}, with build"), ours, theirs(&list, true));
+        let [ours, theirs, built] = best(&commands(kind));
+        row(name, ours, theirs);
+        row(&format!("{name}, with build"), ours, built);
     }
 }
 
@@ -89,56 +88,66 @@ fn play(rng: &mut Rng, channel: &'static str, amplitude: f64) -> Command<'static
     })
 }
 
-/// Nanoseconds a command in the best run.
-fn ours(list: &[Timed]) -> f64 {
+/// Nanoseconds a command in the best runs: ours, the Rust's, and the Rust's with its building. The three take turns.
+fn best(list: &[Timed]) -> [f64; 3] {
     let words: Vec<u64> = list
         .iter()
         .flat_map(|(command, ..)| words(command))
         .collect();
     let numbers: Vec<f64> = list.iter().flat_map(numbers).collect();
-    let call = |count, rounds| {
-        // SAFETY: both slices are lent for the call, and it only reads them.
-        unsafe {
-            c::skierralu_time_commands(
-                words.as_ptr(),
-                words.len(),
-                numbers.as_ptr(),
-                numbers.len(),
-                count,
-                rounds,
-            )
-        }
-    };
-    assert_eq!(call(COMMANDS, 1), COMMANDS, "all were run");
-    let best = |count| {
-        let run = || {
-            let start = Instant::now();
-            black_box(call(black_box(count), ROUNDS));
-            start.elapsed().as_nanos() as f64
-        };
-        (0..RUNS).map(|_| run()).fold(f64::INFINITY, f64::min)
-    };
-    (best(COMMANDS) - best(1)) / (ROUNDS * (COMMANDS - 1)) as f64
-}
-
-fn theirs(list: &[Timed], build: bool) -> f64 {
     let item = |(command, start, span): &Timed| Item::new(command, *start, *span).expect("an item");
     let items: Vec<Item> = list.iter().map(item).collect();
-    let run = || {
-        let mut tables: Vec<Tables> = (0..ROUNDS).map(|_| bench()).collect();
-        let mut lists = Vec::with_capacity(ROUNDS);
-        let start = Instant::now();
-        for tables in &mut tables {
-            assert!(tables.run(black_box(&items)), "all were run");
-        }
-        if build {
-            lists.extend(tables.drain(..).map(Tables::into_lists));
-        }
-        let time = start.elapsed().as_nanos() as f64;
-        black_box((tables, lists));
-        time
+    let mut best = [f64::INFINITY; 4];
+    for _ in 0..RUNS {
+        let times = [
+            ours(&words, &numbers, COMMANDS),
+            ours(&words, &numbers, 1),
+            theirs(&items, false),
+            theirs(&items, true),
+        ];
+        best = std::array::from_fn(|k| times[k].min(best[k]));
+    }
+    let [all, one, theirs, built] = best.map(|time| time / ROUNDS as f64);
+    let commands = COMMANDS as f64;
+    [
+        (all - one) / (commands - 1.0),
+        theirs / commands,
+        built / commands,
+    ]
+}
+
+/// Nanoseconds for the first `count` commands, ROUNDS times.
+fn ours(words: &[u64], numbers: &[f64], count: usize) -> f64 {
+    let start = Instant::now();
+    // SAFETY: both slices are lent for the call, and it only reads them.
+    let run = unsafe {
+        c::skierralu_time_commands(
+            words.as_ptr(),
+            words.len(),
+            numbers.as_ptr(),
+            numbers.len(),
+            black_box(count),
+            ROUNDS,
+        )
     };
-    (0..RUNS).map(|_| run()).fold(f64::INFINITY, f64::min) / (ROUNDS * COMMANDS) as f64
+    let time = start.elapsed().as_nanos() as f64;
+    assert_eq!(run, count, "all were run");
+    time
+}
+
+fn theirs(items: &[Item], build: bool) -> f64 {
+    let mut tables: Vec<Tables> = (0..ROUNDS).map(|_| bench()).collect();
+    let mut lists = Vec::with_capacity(ROUNDS);
+    let start = Instant::now();
+    for tables in &mut tables {
+        assert!(tables.run(black_box(items)), "all were run");
+    }
+    if build {
+        lists.extend(tables.drain(..).map(Tables::into_lists));
+    }
+    let time = start.elapsed().as_nanos() as f64;
+    black_box((tables, lists));
+    time
 }
 
 fn bench() -> Tables {
