@@ -23,7 +23,7 @@ enum Told {
     Outside,
 }
 
-const CHANNELS: [&str; 8] = [
+pub const CHANNELS: [&str; 8] = [
     "q0",
     "q1",
     "q10",
@@ -97,8 +97,8 @@ fn agrees(told: &Told, ours: &str) -> bool {
     }
 }
 
-/// What the program prints, cut before each line `x`.
-fn run(program: &[String], text: &str) -> Vec<String> {
+/// What the program prints, cut before each line `x` and the lines `a` that stand before it.
+pub fn run(program: &[String], text: &str) -> Vec<String> {
     let mut program = Process::new(&program[0])
         .args(&program[1..])
         .stdin(Stdio::piped())
@@ -112,10 +112,12 @@ fn run(program: &[String], text: &str) -> Vec<String> {
     writing.join().expect("written");
     assert!(output.status.success(), "{:?}", output.status);
     let mut answers: Vec<String> = Vec::new();
+    let mut adding = false;
     for line in String::from_utf8(output.stdout).expect("text").lines() {
-        if line.starts_with('x') {
+        if line.starts_with(['a', 'x']) && !adding {
             answers.push(String::new());
         }
+        adding = line.starts_with('a');
         let answer = answers.last_mut().expect("an answer first");
         answer.push_str(line);
         answer.push('\n');
@@ -208,7 +210,7 @@ fn case(rng: &mut Rng, k: u64) -> Case {
 }
 
 /// Every channel with its bins and pulses. None where a channel has over 64 bins.
-fn after(tables: &Tables) -> Option<String> {
+pub fn after(tables: &Tables) -> Option<String> {
     let lists = tables.lists().expect("lists");
     let mut text = String::new();
     for (name, osc) in tables.states() {
@@ -327,7 +329,7 @@ fn odd_number(rng: &mut Rng, number: f64, odd: u64) -> f64 {
 }
 
 /// Quarters, samples, a bench's frequencies, any size about 1, zeros.
-fn number(rng: &mut Rng) -> f64 {
+pub fn number(rng: &mut Rng) -> f64 {
     match rng.below(6) {
         0 => rng.within(-40, 40) as f64 / 4.0,
         1 | 2 => rng.sample(),
@@ -340,11 +342,11 @@ fn number(rng: &mut Rng) -> f64 {
     }
 }
 
-fn word(x: f64) -> String {
+pub fn word(x: f64) -> String {
     format!(" {:016x}", x.to_bits())
 }
 
-fn naming(name: &str) -> String {
+pub fn naming(name: &str) -> String {
     let mut bytes = [0; 16];
     bytes[..name.len()].copy_from_slice(name.as_bytes());
     let half = |at: usize| u64::from_le_bytes(bytes[at..at + 8].try_into().expect("eight"));
@@ -363,7 +365,7 @@ fn letter(command: &Command) -> (char, &'static str) {
     }
 }
 
-fn line(command: &Command, start: f64, span: f64) -> String {
+pub fn line(command: &Command, start: f64, span: f64) -> String {
     let rest = match *command {
         Command::Play(p) => {
             let shape = p.shape.map_or(" 0000000000000000".repeat(3), naming);

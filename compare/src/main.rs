@@ -1,5 +1,6 @@
 //! Our exported functions beside Rust's, or beside the true value, over many inputs: one file a subject. See compare/run and compare/bench.
 mod bench;
+mod calls;
 mod cases;
 mod commands;
 mod fir;
@@ -15,6 +16,7 @@ mod report;
 mod rng;
 mod rows;
 mod series;
+mod timed;
 mod trig;
 
 use std::process::ExitCode;
@@ -23,6 +25,11 @@ fn main() -> ExitCode {
     let scale = match std::env::args().nth(1).as_deref() {
         Some("bench") => {
             bench::run();
+            timed::run();
+            return ExitCode::SUCCESS;
+        }
+        Some("bench_commands") => {
+            timed::run();
             return ExitCode::SUCCESS;
         }
         Some("near") => return near::run(),
@@ -32,7 +39,9 @@ fn main() -> ExitCode {
         }
         Some("commands") => {
             let program: Vec<String> = std::env::args().skip(2).collect();
-            return commands::compare(200, &program);
+            let lists = commands::compare(200, &program);
+            let calls = calls::compare(200, &program);
+            return if lists == ExitCode::SUCCESS { calls } else { lists };
         }
         Some("stored_lists") => {
             commands::stored(false);
@@ -45,7 +54,7 @@ fn main() -> ExitCode {
         Some(word) => match word.parse() {
             Ok(scale) => scale,
             Err(_) => {
-                eprintln!("usage: compare [SCALE | bench | near | replays | commands PROGRAM.. | stored_lists | stored_answers]");
+                eprintln!("usage: compare [SCALE | bench | bench_commands | near | replays | commands PROGRAM.. | stored_lists | stored_answers]");
                 return ExitCode::from(2);
             }
         },

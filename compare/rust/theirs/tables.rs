@@ -11,6 +11,7 @@ use bosing::schedule::{
 };
 use bosing::shape::Shape;
 
+#[derive(Clone)]
 pub struct Tables {
     executor: Executor,
     time_tolerance: f64,
@@ -150,6 +151,17 @@ impl Tables {
             }
         }
         (items.len(), None)
+    }
+
+    /// All of them in one call, as the Rust is used: whether all were run. Where one panics, so does this.
+    pub fn run(&mut self, items: &[Item]) -> bool {
+        let arranged = items.iter().map(Item::arranged);
+        self.executor.execute_arranged(arranged).is_ok()
+    }
+
+    /// Every channel's pulses, summed, in place of the tables.
+    pub fn into_lists(self) -> Lists {
+        Lists::new(self.executor.into_result(), self.time_tolerance)
     }
 
     /// The oscillators in order of adding.

@@ -10,7 +10,6 @@ ghost use Rattle.commands.specs.Play.{rowsOf, isNew, isFull, grown, puls
 use super::command::Play;
 use super::step::Step;
 use super::step::goes_on;
-use super::step::osc_at;
 use super::step::stops;
 use executor::osc::OscState;
 use ieee::finite::is_finite;
@@ -49,24 +48,29 @@ pub(crate) fn play(t: Tables, bins: &[[f64; 5]], start: Time, span: Time, p: Pla
     }
     let channel = p.channel;
     match find(t, channel) {
-        Found::At(i) => push(t, bins, i, start, span, p, osc_at(t, i)),
+        Found::At(i) => {
+            let c = t.channels[i];
+            push(t, bins, i, c, start, span, p)
+        }
         Found::Nowhere => stops(t, Refusal::UnknownChannel),
     }
 }
 
-// The pulse gets the oscillator's frequency, and the play's own phase.
+// The pulse gets the oscillator's frequency, and the play's own phase. The channel at the place i is handed on, so that it is copied once.
 fn push(
     t: Tables,
     bins: &[[f64; 5]],
     i: usize,
+    c: Channel,
     start: Time,
     span: Time,
     p: Play,
-    osc: OscState,
 ) -> Step
     requires { ⌜ (i < 8) × (length (now bins) ≡ 512) ⌝ }
-    ensures { λ r. ⌜ r ≡ pushed t (now (bins .entry)) i (start .0) p (binWith osc p (span .0)) ⌝ }
+    requires { ⌜ c ≡ channelAt t i ⌝ }
+    ensures { λ r. ⌜ r ≡ pushed t (now (bins .entry)) i (start .0) p (binWith (c .osc) p (span .0)) ⌝ }
 {
+    let osc = c.osc;
     let b = bin_with(osc, p, span);
     let e = b.envelope;
     if !both(is_finite(b.global.0), is_finite(e.plateau.0)) {
@@ -76,16 +80,24 @@ fn push(
         return goes_on(t);
     }
     match weigh(p.amplitude, p.phase, p.drag) {
-        Weighed::Fine(w) => store_at(t, bins, i, start, w, row_of(b)),
+        Weighed::Fine(w) => store_at(t, bins, i, c, start, w, row_of(b)),
         Weighed::Overflow => stops(t, Refusal::NotFinite),
     }
 }
 
-fn store_at(t: Tables, bins: &[[f64; 5]], i: usize, start: Time, w: Weight, row: [f64; 5]) -> Step
+fn store_at(
+    t: Tables,
+    bins: &[[f64; 5]],
+    i: usize,
+    c: Channel,
+    start: Time,
+    w: Weight,
+    row: [f64; 5],
+) -> Step
     requires { ⌜ (i < 8) × (length (now bins) ≡ 512) ⌝ }
+    requires { ⌜ c ≡ channelAt t i ⌝ }
     ensures { λ r. ⌜ r ≡ storedAt t (now (bins .entry)) i (start .0) w row ⌝ }
 {
-    let c = t.channels[i];
     let many = at_most_64(c.bins);
     let first = 64 * i;
     let at = place(row, &bins[first..first + many]);
@@ -93,7 +105,7 @@ fn store_at(t: Tables, bins: &[[f64; 5]], i: usize, start: Time, w: Weight, row:
     if is_full(new, c.bins, c.pulses) {
         return stops(t, Refusal::Full);
     }
-    stores(t, i, at, new, start, w, row)
+    stores(t, i, c, at, new, start, w, row)
 }
 
 fn at_most_64(n: usize) -> usize
@@ -115,12 +127,21 @@ fn is_full(new: bool, bins: usize, pulses: usize) -> bool
     1024 <= pulses
 }
 
-fn stores(t: Tables, i: usize, at: usize, new: bool, start: Time, w: Weight, row: [f64; 5]) -> Step
+fn stores(
+    t: Tables,
+    i: usize,
+    c: Channel,
+    at: usize,
+    new: bool,
+    start: Time,
+    w: Weight,
+    row: [f64; 5],
+) -> Step
     requires { ⌜ (i < 8) × (at ≤ 64) ⌝ }
-    requires { ⌜ (new ≡ true → channelAt t i .bins < 64) × (channelAt t i .pulses < 1024) ⌝ }
+    requires { ⌜ c ≡ channelAt t i ⌝ }
+    requires { ⌜ (new ≡ true → c .bins < 64) × (c .pulses < 1024) ⌝ }
     ensures { λ r. ⌜ r ≡ stores t i at new (start .0) w row ⌝ }
 {
-    let c = t.channels[i];
     let amp = w.amp;
     let drag = w.drag;
     let pulse = Pulse {

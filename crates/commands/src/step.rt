@@ -14,6 +14,7 @@ use quant::name::Name;
 use quant::name::same;
 use quant::quantity::Time;
 use quant::refusal::Refusal;
+use tables::Channel;
 use tables::Found;
 use tables::Tables;
 use tables::find;
@@ -77,7 +78,10 @@ pub(crate) fn turn(t: Tables, name: Name, c: Command, time: Time) -> Step
     ensures { λ r. ⌜ r ≡ turnedAt t (found t name) c (time .0) ⌝ }
 {
     match find(t, name) {
-        Found::At(i) => turn_at(t, i, moved_by(c, time, osc_at(t, i))),
+        Found::At(i) => {
+            let channel = t.channels[i];
+            turn_at(t, i, channel, c, time)
+        }
         Found::Nowhere => stops(t, Refusal::UnknownChannel),
     }
 }
@@ -97,12 +101,19 @@ pub(crate) fn swap(t: Tables, n: Name, m: Name, time: Time) -> Step
     }
 }
 
-fn turn_at(t: Tables, i: usize, m: Moved) -> Step
-    requires { ⌜ i < 8 ⌝ }
-    ensures { λ r. ⌜ r ≡ turned t i m ⌝ }
+fn turn_at(t: Tables, i: usize, channel: Channel, c: Command, time: Time) -> Step
+    requires { ⌜ channel ≡ channelAt t i ⌝ }
+    ensures { λ r. ⌜ r ≡ turned t i (movedBy c (time .0) (channel .osc)) ⌝ }
 {
+    let was = channel.osc;
+    let m = moved_by(c, time, was);
     let osc = m.osc;
-    unless_refused(m.refused, t, with_osc(t, i, osc))
+    let mut after = channel;
+    after.osc = osc;
+    if !m.refused {
+        return goes_on(with_channel(t, i, after));
+    }
+    stops(t, Refusal::NotFinite)
 }
 
 fn swap_to(t: Tables, i: usize, j: usize, s: Swapped) -> Step
@@ -149,7 +160,7 @@ fn unmoved(osc: OscState) -> Moved
 }
 
 // The oscillator of the channel at a place.
-pub(crate) fn osc_at(t: Tables, i: usize) -> OscState
+fn osc_at(t: Tables, i: usize) -> OscState
     requires { ⌜ i < 8 ⌝ }
     ensures { λ r. ⌜ r ≡ channelAt t i .osc ⌝ }
 {

@@ -14,12 +14,22 @@ use quant::quantity::Amplitude;
 use quant::quantity::Frequency;
 use quant::quantity::Phase;
 use quant::quantity::Time;
+use quant::refusal::Answer;
+use tables::Tabled;
 use tables::Tables;
 
 // Whether the letter is a command's.
 pub(crate) fn is_command(kind: u8) -> bool {
     match kind {
         b'p' | b'h' | b'H' | b'f' | b'F' | b'w' | b'b' => true,
+        _ => false,
+    }
+}
+
+// Whether the letter ends a list.
+pub(crate) fn is_end(kind: u8) -> bool {
+    match kind {
+        b'x' | b'X' => true,
         _ => false,
     }
 }
@@ -40,8 +50,8 @@ pub(crate) fn kind_of(line: &[u8]) -> u8 {
 
 fn is_known(kind: u8) -> bool {
     match kind {
-        b't' | b'c' | b's' | b'x' => true,
-        _ => is_command(kind),
+        b't' | b'c' | b's' => true,
+        _ => is_end(kind) || is_command(kind),
     }
 }
 
@@ -58,19 +68,21 @@ fn words_of(kind: u8) -> usize
     }
 }
 
-// The tables after a line.
-pub(crate) fn tables_after(kind: u8, line: &[u8], t: Tables) -> Tables {
-    if kind == b't' {
-        let amp = Amplitude(float(line, 0));
-        return tables::make(amp, Time(float(line, 1)), choice(line, 2)).tables;
+// What a line does to the tables.
+pub(crate) fn added(kind: u8, line: &[u8], t: Tables) -> Tabled {
+    match kind {
+        b't' => tables::make(
+            Amplitude(float(line, 0)),
+            Time(float(line, 1)),
+            choice(line, 2),
+        ),
+        b'c' => tables::add_channel(t, name(line, 0), osc_of(line)),
+        b's' => tables::add_shape(t, name(line, 0)),
+        _ => Tabled {
+            answer: Answer::Done(0),
+            tables: t,
+        },
     }
-    if kind == b'c' {
-        return tables::add_channel(t, name(line, 0), osc_of(line)).tables;
-    }
-    if kind == b's' {
-        return tables::add_shape(t, name(line, 0)).tables;
-    }
-    t
 }
 
 fn osc_of(line: &[u8]) -> OscState

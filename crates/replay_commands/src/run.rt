@@ -1,35 +1,65 @@
 // One list: its lines read, its commands run as one call.
+use super::line::added;
 use super::line::arranged_of;
 use super::line::is_command;
 use super::line::kind_of;
-use super::line::tables_after;
 use super::show::show;
+use super::show::show_refused;
 use super::words::end_of;
 use super::words::least;
 use commands::command::Arranged;
+use owned::Executed;
 use owned::execute_owned;
 use pulse::list::Pulse;
 use quant::complex::Complex;
 use quant::quantity::Amplitude;
 use quant::quantity::Time;
+use tables::Tabled;
 use tables::Tables;
 
-pub(crate) fn one(list: &[u8]) {
-    let mut tables = tables::make(Amplitude(0.0), Time(0.0), false).tables;
+pub(crate) fn one(list: &[u8], before: Executed, bins: &mut [[f64; 5]]) -> Executed {
+    let tabled = before.tabled;
+    let pulses = before.pulses;
+    let mut tables = tabled.tables;
     let mut commands = [arranged_of(b'b', b""); 1024];
     let mut count: usize = 0;
+    let mut kind: u8 = b'x';
     let mut at: usize = 0;
     while at < list.len() {
         let end = end_of(list, at);
         let next = end + 1;
-        let kind = told(kind_of(&list[at..end]));
-        tables = tables_after(kind, &list[at..end], tables);
+        kind = told(kind_of(&list[at..end]));
+        tables = answered(added(kind, &list[at..end], tables));
         let slot = least(count, 1023);
         commands[slot] = arranged_of(kind, &list[at..end]);
         count = count_after(kind, count);
         at = next;
     }
-    finish(tables, commands, count);
+    if kind == b'X' {
+        return shown(
+            execute_owned(tables, commands, count, &mut bins[..0], pulses),
+            bins,
+        );
+    }
+    shown(execute_owned(tables, commands, count, bins, pulses), bins)
+}
+
+fn shown(e: Executed, bins: &[[f64; 5]]) -> Executed {
+    show(e, bins);
+    e
+}
+
+fn answered(t: Tabled) -> Tables {
+    let answer = t.answer;
+    show_refused(answer);
+    t.tables
+}
+
+// No tables yet, and no pulses.
+pub(crate) fn nothing() -> Executed {
+    let tabled = tables::make(Amplitude(0.0), Time(0.0), false);
+    let pulses = [no_pulse(); 8192];
+    Executed { tabled, pulses }
 }
 
 // A line that cannot be read is answered.
@@ -46,13 +76,6 @@ fn count_after(kind: u8, count: usize) -> usize {
         return least(count, 1023) + 1;
     }
     count
-}
-
-fn finish(tables: Tables, commands: [Arranged; 1024], count: usize) {
-    let mut bins = [[0.0; 5]; 512];
-    let pulses = [no_pulse(); 8192];
-    let e = execute_owned(tables, commands, count, &mut bins, pulses);
-    show(e, &bins);
 }
 
 fn no_pulse() -> Pulse {

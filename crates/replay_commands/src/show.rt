@@ -26,6 +26,15 @@ pub(crate) fn show(e: Executed, bins: &[[f64; 5]]) {
     }
 }
 
+// The number of an addition that is refused.
+pub(crate) fn show_refused(a: Answer) {
+    if let Answer::Refused(why, _) = a {
+        io::write_all(1, b"a");
+        print_word(number(why) as u64);
+        io::write_all(1, b"\n");
+    }
+}
+
 fn show_answer(a: Answer) {
     match a {
         Answer::Done(count) => show_two(0, count as u64),

@@ -1,15 +1,19 @@
 -- `replay_commands::each` meets its contract: it is safe and ends, since each turn goes past a list. Assumes nothing.
 use Prim.Native.Nat.{_-_, _≤_}
+use mathlib.Core.Path.{_≡_}
 use borrow.Author.Needs.{needs}
 use lib.ListN.{length}
 use Rattle.replay_commands.proofs.each.Statement.{statement}
 use Rattle.replay_commands.proofs.each.Tie as tie
 
 abbrev Inv-loop : tie.InvT-loop
-Inv-loop text at₀ at = at ≤ length text
+Inv-loop text bins₀ e₀ at₀ bins e at = (at ≤ length text) × (length bins ≡ 512)
 
 abbrev μ-loop : tie.MeasureT-loop
-μ-loop text at₀ at = length text - at
+μ-loop text bins₀ e₀ at₀ bins e at = length text - at
+
+nothing-requires : tie.Need-nothing-requires Inv-loop μ-loop
+nothing-requires c κs = search needs
 
 loop-holds : tie.Need-loop-holds Inv-loop μ-loop
 loop-holds c = search needs
@@ -25,6 +29,9 @@ part-one-start c = search needs
 
 part-one-end : tie.Need-part-one-end Inv-loop μ-loop
 part-one-end c = search needs
+
+slice-aggregate-one : tie.Need-slice-aggregate-one Inv-loop μ-loop
+slice-aggregate-one c = search needs
 
 one-requires : tie.Need-one-requires Inv-loop μ-loop
 one-requires c κs = search needs
@@ -44,11 +51,13 @@ each-spec =
     (tie.spec
     Inv-loop
     μ-loop
+    nothing-requires
     loop-holds
     list-end-requires
     sub-one
     part-one-start
     part-one-end
+    slice-aggregate-one
     one-requires
     loop-less
     loop-again

@@ -23,8 +23,11 @@ add-least c = search needs
 least-requires : tie.Need-least-requires Inv-loop μ-loop
 least-requires c κs = search needs
 
-shared-slice-read-if1 : tie.Need-shared-slice-read-if1 Inv-loop μ-loop
-shared-slice-read-if1 c = search needs
+shared-slice-read-is-end : tie.Need-shared-slice-read-is-end Inv-loop μ-loop
+shared-slice-read-is-end c = search needs
+
+is-end-requires : tie.Need-is-end-requires Inv-loop μ-loop
+is-end-requires c κs = search needs
 
 returns : tie.Need-returns Inv-loop μ-loop
 returns c = search needs
@@ -48,7 +51,8 @@ list-end-spec =
     end-of-requires
     add-least
     least-requires
-    shared-slice-read-if1
+    shared-slice-read-is-end
+    is-end-requires
     returns
     loop-less
     loop-again

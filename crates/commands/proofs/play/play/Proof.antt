@@ -5,7 +5,8 @@ use Rattle.tables.specs.Tables.{shapesIn, isIn}
 use Rattle.pulse.specs.Envelope.{nought}
 use lib.Ieee.{lt}
 use mathlib.Core.Bool.{true, false, _&&_, not}
-use mathlib.Core.Path.{_≡_, sym, _∙_}
+use mathlib.Core.Path.{_≡_, refl, sym, _∙_}
+use native.Mathlib.Omega.{arith}
 use Prim.Native.Nat.{_<_}
 use Rattle.tables.proofs.Finding.{found-eight}
 use Rattle.tables.proofs.Sizes.{eight-channels}
@@ -19,7 +20,7 @@ both-requires : tie.Need-both-requires
 both-requires c κs = search needs
 
 module _ (d : tie.After-both) where
-  flag : d .both .result ≡ (d .before .before .before .args .p .shaped && not (isIn (d .before .before .before .args .p .shape) (shapesIn (d .before .before .before .args .t))))
+  flag : d .both .result ≡ (d .before .before .before .args .p .shaped && not (isIn (d .before .before .before .args .p .shape) (shapesIn (d .before .before .before .args .t1))))
   flag = cc
 
 stops-requires : tie.Need-stops-requires
@@ -53,13 +54,16 @@ module _ (c : tie.After-known-told) where
   there =
       let s = c .before .before .before .before .before .before .before .before .before .before .before .before in
       let a = s .args in
-      found-eight (a .t) (a .p .channel) _ (eight-channels (a .t) _ (s .good .0)) (sym (c .before .before .before .find .ensures) ∙ c .before .i .given .1)
+      found-eight (a .t1) (a .p .channel) _ (eight-channels (a .t1) _ (s .good .0)) (sym (c .before .before .before .find .ensures) ∙ c .before .i .given .1)
 
-osc-at-requires : tie.Need-osc-at-requires
-osc-at-requires c κs = there c
+mul-c : tie.Need-mul-c
+mul-c c = let below = there c in omega arith
+
+element-copy-out-c : tie.Need-element-copy-out-c
+element-copy-out-c c = there c
 
 push-requires : tie.Need-push-requires
-push-requires c κs = (there (c .before), c .before .before .before .before .before .before .before .before .before .before .before .before .before .pre)
+push-requires c κs = ((there (c .before), c .before .before .before .before .before .before .before .before .before .before .before .before .before .pre), refl)
 
 enum-told : tie.Need-enum-told
 enum-told c = search needs
@@ -72,7 +76,7 @@ unfolding playedAt
 returns-3 c =
     let a = c .before .before .before .before .before .before .before .before .before .before .before .before .before .before .args in
     let low : lt (plateauOf (a .p) (a .span .0)) nought ≡ false = rw (c .before .before .before .before .before .before .before .before .before .plateau-of .ensures) at (c .before .before .before .before .before .before .before .if2 .left) in
-    rw (c .push .ensures, c .before .osc-at .ensures, sym (flag (c .before .before .before .before .before .before .before .before .before .before .before)) ∙ c .before .before .before .before .before .before .before .before .before .before .if1 .left, low, sym (c .before .before .before .before .before .find .ensures) ∙ c .before .before .before .i .given .1)
+    rw (c .push .ensures, sym (flag (c .before .before .before .before .before .before .before .before .before .before .before)) ∙ c .before .before .before .before .before .before .before .before .before .before .if1 .left, low, sym (c .before .before .before .before .before .find .ensures) ∙ c .before .before .before .i .given .1)
 
 returns-4 : tie.Need-returns-4
 unfolding playedAt
@@ -94,7 +98,8 @@ play-spec =
     returns-2
     find-requires
     enum-known-i
-    osc-at-requires
+    mul-c
+    element-copy-out-c
     push-requires
     enum-told
     stops-requires-3

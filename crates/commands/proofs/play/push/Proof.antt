@@ -23,7 +23,7 @@ both-requires c κs = search needs
 
 module _ (d : tie.After-both) where
   abbrev bin : Bin
-  bin = let a = d .before .before .before .before .before .args in binWith (a .osc) (a .p) (a .span .0)
+  bin = let a = d .before .before .before .before .before .before .args in binWith (a .c .osc) (a .p) (a .span .0)
 
   flag : d .both .result ≡ (finite (bin .global .0) && finite (bin .envelope .plateau .0))
   flag = rw (d .both .ensures, d .before .is-finite2 .ensures, d .before .before .is-finite .ensures, d .before .before .before .before .bin-with .ensures)

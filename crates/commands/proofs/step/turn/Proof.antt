@@ -1,7 +1,8 @@
 -- `commands::step::turn` meets its contract. Assumes nothing.
 use borrow.Author.Needs.{needs}
 use Rattle.commands.specs.Step.{turnedAt}
-use mathlib.Core.Path.{sym, _∙_}
+use mathlib.Core.Path.{refl, sym, _∙_}
+use native.Mathlib.Omega.{arith}
 use Prim.Native.Nat.{_<_}
 use Rattle.tables.proofs.Finding.{found-eight}
 use Rattle.tables.proofs.Sizes.{eight-channels}
@@ -19,16 +20,16 @@ module _ (c : tie.After-known-told) where
   there =
       let s = c .before .before .before .before in
       let a = s .args in
-      found-eight (a .t) (a .name) _ (eight-channels (a .t) _ (s .good .0)) (sym (c .before .before .before .find .ensures) ∙ c .before .i .given .1)
+      found-eight (a .t1) (a .name) _ (eight-channels (a .t1) _ (s .good .0)) (sym (c .before .before .before .find .ensures) ∙ c .before .i .given .1)
 
-osc-at-requires : tie.Need-osc-at-requires
-osc-at-requires c κs = there c
+mul-channel : tie.Need-mul-channel
+mul-channel c = let below = there c in omega arith
 
-moved-by-requires : tie.Need-moved-by-requires
-moved-by-requires c κs = search needs
+element-copy-out-channel : tie.Need-element-copy-out-channel
+element-copy-out-channel c = there c
 
 turn-at-requires : tie.Need-turn-at-requires
-turn-at-requires c κs = there (c .before .before)
+turn-at-requires c κs = refl
 
 enum-told : tie.Need-enum-told
 enum-told c = search needs
@@ -38,7 +39,7 @@ stops-requires c κs = search needs
 
 returns : tie.Need-returns
 unfolding turnedAt
-returns c = rw (c .turn-at .ensures, c .before .moved-by .ensures, c .before .before .osc-at .ensures, sym (c .before .before .before .before .before .before .find .ensures) ∙ c .before .before .before .before .i .given .1)
+returns c = rw (c .turn-at .ensures, sym (c .before .before .before .before .before .find .ensures) ∙ c .before .before .before .i .given .1)
 
 returns-2 : tie.Need-returns-2
 unfolding turnedAt
@@ -50,8 +51,8 @@ turn-spec =
     (tie.spec
     find-requires
     enum-known-i
-    osc-at-requires
-    moved-by-requires
+    mul-channel
+    element-copy-out-channel
     turn-at-requires
     enum-told
     stops-requires

@@ -6,13 +6,10 @@ use Rattle.replay_commands.proofs.run.one.Statement.{statement}
 use Rattle.replay_commands.proofs.run.one.Tie as tie
 
 abbrev Inv-loop : tie.InvT-loop
-Inv-loop list tables₀ commands₀ count₀ at₀ tables commands count at = at ≤ length list + 1
+Inv-loop list bins pulses tables₀ commands₀ count₀ kind₀ at₀ tables commands count kind at = at ≤ length list + 1
 
 abbrev μ-loop : tie.MeasureT-loop
-μ-loop list tables₀ commands₀ count₀ at₀ tables commands count at = length list - at
-
-make-requires : tie.Need-make-requires Inv-loop μ-loop
-make-requires c κs = search needs
+μ-loop list bins pulses tables₀ commands₀ count₀ kind₀ at₀ tables commands count kind at = length list - at
 
 slice-aggregate-arranged-of : tie.Need-slice-aggregate-arranged-of Inv-loop μ-loop
 slice-aggregate-arranged-of c = search needs
@@ -44,17 +41,20 @@ kind-of-requires c κs = search needs
 told-requires : tie.Need-told-requires Inv-loop μ-loop
 told-requires c κs = search needs
 
-sub-tables-after : tie.Need-sub-tables-after Inv-loop μ-loop
-sub-tables-after c = search needs
+sub-added : tie.Need-sub-added Inv-loop μ-loop
+sub-added c = search needs
 
-part-tables-after-start : tie.Need-part-tables-after-start Inv-loop μ-loop
-part-tables-after-start c = search needs
+part-added-start : tie.Need-part-added-start Inv-loop μ-loop
+part-added-start c = search needs
 
-part-tables-after-end : tie.Need-part-tables-after-end Inv-loop μ-loop
-part-tables-after-end c = search needs
+part-added-end : tie.Need-part-added-end Inv-loop μ-loop
+part-added-end c = search needs
 
-tables-after-requires : tie.Need-tables-after-requires Inv-loop μ-loop
-tables-after-requires c κs = search needs
+added-requires : tie.Need-added-requires Inv-loop μ-loop
+added-requires c κs = search needs
+
+answered-requires : tie.Need-answered-requires Inv-loop μ-loop
+answered-requires c κs = search needs
 
 least-requires : tie.Need-least-requires Inv-loop μ-loop
 least-requires c κs = search needs
@@ -86,11 +86,35 @@ loop-less c = search needs
 loop-again : tie.Need-loop-again Inv-loop μ-loop
 loop-again c = search needs
 
-finish-requires : tie.Need-finish-requires Inv-loop μ-loop
-finish-requires c κs = search needs
+slice-relend-prefix-execute-owned : tie.Need-slice-relend-prefix-execute-owned Inv-loop μ-loop
+slice-relend-prefix-execute-owned c = search needs
+
+slice-aggregate-execute-owned : tie.Need-slice-aggregate-execute-owned Inv-loop μ-loop
+slice-aggregate-execute-owned c = search needs
+
+execute-owned-requires : tie.Need-execute-owned-requires Inv-loop μ-loop
+execute-owned-requires c κs = search needs
+
+shown-requires : tie.Need-shown-requires Inv-loop μ-loop
+shown-requires c κs = search needs
+
+same-length : tie.Need-same-length Inv-loop μ-loop
+same-length c = search needs
 
 returns : tie.Need-returns Inv-loop μ-loop
 returns c = search needs
+
+execute-owned-requires-2 : tie.Need-execute-owned-requires-2 Inv-loop μ-loop
+execute-owned-requires-2 c κs = search needs
+
+shown-requires-2 : tie.Need-shown-requires-2 Inv-loop μ-loop
+shown-requires-2 c κs = search needs
+
+same-length-2 : tie.Need-same-length-2 Inv-loop μ-loop
+same-length-2 c = search needs
+
+returns-2 : tie.Need-returns-2 Inv-loop μ-loop
+returns-2 c = search needs
 
 pub one-spec : {M : Type 1} → statement M
 one-spec =
@@ -98,7 +122,6 @@ one-spec =
     (tie.spec
     Inv-loop
     μ-loop
-    make-requires
     slice-aggregate-arranged-of
     arranged-of-requires
     loop-holds
@@ -109,10 +132,11 @@ one-spec =
     part-kind-of-end
     kind-of-requires
     told-requires
-    sub-tables-after
-    part-tables-after-start
-    part-tables-after-end
-    tables-after-requires
+    sub-added
+    part-added-start
+    part-added-end
+    added-requires
+    answered-requires
     least-requires
     sub-arranged-of
     part-arranged-of-start
@@ -123,5 +147,13 @@ one-spec =
     count-after-requires
     loop-less
     loop-again
-    finish-requires
-    returns)
+    slice-relend-prefix-execute-owned
+    slice-aggregate-execute-owned
+    execute-owned-requires
+    shown-requires
+    same-length
+    returns
+    execute-owned-requires-2
+    shown-requires-2
+    same-length-2
+    returns-2)
