@@ -1,13 +1,12 @@
 -- The rows of several lists: whether a bin is among them, list by list; and the lists that take part, one by one. Assumes nothing.
 use Prim.Native.Nat.{ℕ, zero, suc, _+_, _-_, _<_, _≤_}
 use native.Mathlib.Omega.{arith}
-use native.Mathlib.Numerals.{add-one}
 use mathlib.Core.Path.{_≡_, refl, sym, ap, _∙_}
 use mathlib.Core.Bool.{Bool, true, false, _||_, cond}
 use mathlib.Core.List.{List, [], _∷_, _++_, append-nil, append-assoc}
 use lib.Dec.{ltb, leb·suc-suc}
 use lib.Ieee.{Float, nan}
-use lib.ListN.{length, take, drop, getD, length-take, length-append}
+use lib.ListN.{length, take, drop, getD, length-take}
 use borrow.Author.Tests.{lt-ltb, le-ltb}
 use lib.Seq.{take-suc, take-add, getD-take}
 use Rattle.pulse.specs.Bin.{sameRow, placeOf}

@@ -1,6 +1,6 @@
 -- The pulse that is picked is the first of the lists joined, and the runs moved on behind it join to the rest. By the lists in turn: `joined`
 -- takes its first list's pulse unless one of those behind is earlier, and so does the picking. Assumes nothing.
-use Prim.Native.Nat.{ℕ, zero, suc, _+_, _-_, _≤_, _<_}
+use Prim.Native.Nat.{ℕ, suc, _-_, _≤_, _<_}
 use native.Mathlib.Omega.{arith}
 use mathlib.Core.Path.{_≡_, refl, sym, ap, _∙_}
 use mathlib.Core.Bool.{Bool, true, false, _&&_, cond, true≢false}
@@ -16,7 +16,7 @@ use Rattle.merge.specs.Join.{joinedTwo, joined}
 use Rattle.sampler.specs.declared.runs.Run.{Run}
 use Rattle.sampler.specs.declared.runs.Runs.{Runs}
 use Rattle.sampler.specs.declared.runs.Picked.{Picked}
-use Rattle.sampler.specs.Runs.{pulseAt, pulsesIn, runIn, runsIn, timeAt, nonePicked, picked, noRun, advancedBy, better, pickedFrom, pickedIn, behind, movedOn, Within}
+use Rattle.sampler.specs.Runs.{pulseAt, pulsesIn, runIn, runsIn, timeAt, picked, noRun, advancedBy, better, pickedFrom, pickedIn, behind, movedOn, Within}
 use Rattle.sampler.proofs.Marked.{run-next, run-none}
 
 -- ---- joining

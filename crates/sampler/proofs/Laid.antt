@@ -1,13 +1,13 @@
 -- The work rows hold the summed lists one behind the other; so the runs of a bin over them are the lists' pulses of that bin, each times its
 -- list's factor. By the lists in turn: each stands behind those before it. Assumes nothing.
-use Prim.Native.Nat.{ℕ, zero, suc, _+_, _-_, _<_, _≤_}
+use Prim.Native.Nat.{ℕ, zero, suc, _+_, _-_, _≤_}
 use native.Mathlib.Omega.{arith}
 use mathlib.Core.Path.{_≡_, refl, sym, ap, _∙_}
 use mathlib.Core.Bool.{Bool, true, false, cond}
 use mathlib.Core.List.{List, [], _∷_, _++_, map, append-assoc}
 use lib.Ieee.{Float}
 use lib.ListN.{length, take, drop, getD, length-append, replicate}
-use lib.Seq.{take-at, drop-at, drop-nil}
+use lib.Seq.{take-at, drop-at}
 use Rattle.pulse.specs.declared.list.Pulse.{Pulse}
 use Rattle.pulse.specs.Bin.{placeOf}
 use Rattle.tables.specs.declared.Tables.{Tables}
@@ -15,9 +15,8 @@ use Rattle.commands.specs.Play.{rowsOf}
 use Rattle.merge.specs.Sum.{scaledP}
 use Rattle.merge.specs.Taking.{Part, listOf}
 use Rattle.merge.specs.Work.{rowOfPulse, markOf, over, listsOf, inOne, endsFrom}
-use Rattle.sampler.specs.declared.runs.Run.{Run}
-use Rattle.sampler.specs.Runs.{pulseAt, pulsesIn, ofMark, runIn, advanced}
-use Rattle.sampler.specs.Bins.{isAmong, runFrom, runOf}
+use Rattle.sampler.specs.Runs.{pulsesIn, ofMark, runIn, advanced}
+use Rattle.sampler.specs.Bins.{isAmong, runOf}
 use Rattle.sampler.specs.Starts.{targetOf, runFor, runsForFrom, Ended}
 use Rattle.sampler.proofs.Spans.{span-none}
 use Rattle.sampler.proofs.Marked.{pulses-length, front}

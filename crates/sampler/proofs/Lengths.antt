@@ -1,14 +1,13 @@
 -- A pulse changes no length: neither of the rows nor of the scratch. Assumes nothing.
 use Prim.Native.Nat.{ℕ, _+_, _-_, _≤_}
 use native.Mathlib.Omega.{arith}
-use mathlib.Core.Path.{_≡_, refl, sym, ap, _∙_}
-use mathlib.Core.Bool.{Bool, true, false, _&&_, cond, true≢false}
-use mathlib.Core.List.{List, [], _∷_, _++_, map}
+use mathlib.Core.Path.{_≡_, refl, sym, _∙_}
+use mathlib.Core.Bool.{Bool, true, false, _&&_, cond}
+use mathlib.Core.List.{List, _++_}
 use lib.Dec.{eqb}
 use lib.Ieee.{Float}
 use lib.ListN.{length, take, drop, length-append, length-take, length-drop}
 use borrow.Author.Tests.{eqb-true}
-use Rattle.quant.specs.declared.complex.Complex.{Complex}
 use Rattle.quant.specs.declared.settings.Settings.{Settings}
 use Rattle.pulse.specs.declared.bin.Bin.{Bin}
 use Rattle.mix.specs.Part.{partFits, onPart, firstRow, secondRow}

@@ -11,7 +11,7 @@ use lib.ListN.{length, take, drop, getD}
 use Rattle.pulse.specs.declared.list.Pulse.{Pulse}
 use Rattle.merge.specs.Sum.{scaledP}
 use Rattle.sampler.specs.declared.runs.Run.{Run}
-use Rattle.sampler.specs.Runs.{pulseOf, pulseAt, pulsesIn, ofMark, runIn, advanced, advancedBy, behind}
+use Rattle.sampler.specs.Runs.{pulseAt, pulsesIn, ofMark, runIn, advanced, advancedBy, behind}
 use Rattle.sampler.proofs.Spans.{span-cons, span-none, advanced-here, advanced-later, advanced-over}
 
 -- ---- the work rows as pulses

@@ -1,6 +1,6 @@
 -- A pulse with a shape, once its envelope is in the scratch. Assumes nothing.
 use Prim.Native.Nat.{ℕ, _-_, _≤_}
-use mathlib.Core.Path.{_≡_, refl, sym, ap, _∙_}
+use mathlib.Core.Path.{_≡_, refl}
 use mathlib.Core.List.{List}
 use native.Mathlib.Omega.{arith}
 use lib.Ieee.{Float}
@@ -10,7 +10,7 @@ use Rattle.mix.specs.Part.{firstRow, secondRow}
 use Rattle.mix.specs.Plateau.{real, imaginary}
 use Rattle.mix.specs.Envelope.{shapedBy}
 use Rattle.placing.specs.declared.Curved.{Curved}
-use Rattle.sampler.specs.Sampled.{Rowed, rowed, withPoints}
+use Rattle.sampler.specs.Sampled.{rowed, withPoints}
 
 pub shaped-rows : (rows : ℕ) (c : Curved) (i q scratch i' q' : List Float) → c .points ≤ length scratch
     → i' ≡ firstRow rows (c .start) (length (take (c .points - 0) (drop 0 scratch))) i q (shapedBy real (c .amp) (c .drag) (c .rotation) (take (c .points - 0) (drop 0 scratch)) (c .carrier))

@@ -1,6 +1,5 @@
 -- Document 01, "Lists and merging": "factor 0 skips a list; amp and drag of a summed list are multiplied; lists join by time, ties by name
 -- position, then are summed again, with the tables' time tolerance. Bins stand by first appearance." Definitions only.
-use Prim.Native.Nat.{ℕ}
 use mathlib.Core.Bool.{Bool, cond}
 use mathlib.Core.List.{List, [], _∷_, _++_, map}
 use lib.Dec.{ltb}

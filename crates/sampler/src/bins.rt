@@ -90,15 +90,12 @@ pub(crate) fn runs_for(
     requires { ⌜ (length (now bins) ≡ 512) × (length (now marks) ≡ 8192) × (taking .count ≤ 8) × Ended (ends .ends) ⌝ }
     ensures { λ r. ⌜ (take (r .count) (r .runs) ≡ runsForFrom t (now (bins .entry)) (now (marks .entry)) row 0 (partsIn taking) (ends .ends)) × (r .count ≤ 8) × Within (r .runs) ⌝ }
 {
-    let mut runs = [
-        Run {
-            at: 0,
-            end: 0,
-            mark: 0,
-            factor: 0.0,
-        };
-        8
-    ];
+    let mut runs = [Run {
+        at: 0,
+        end: 0,
+        mark: 0,
+        factor: 0.0,
+    }; 8];
     let mut begin: usize = 0;
     let mut k: usize = 0;
     while k < taking.count {

@@ -32,14 +32,18 @@ enum-told c = search needs
 returns-2 : tie.Need-returns-2
 unfolding barrierOf
 returns-2 c =
-    rw (equals (c .before .before .before .before .before .before .before .count .ensures) (c .before .before .before .before .before .before .if1 .left),
-    sym (c .before .before .before .pair-in .ensures) ∙ c .before .times .given .1)
+    rw (
+      equals (c .before .before .before .before .before .before .before .count .ensures) (c .before .before .before .before .before .before .if1 .left),
+      sym (c .before .before .before .pair-in .ensures) ∙ c .before .times .given .1,
+    )
 
 returns-3 : tie.Need-returns-3
 unfolding barrierOf
 returns-3 c =
-    rw (equals (c .before .before .before .before .before .before .count .ensures) (c .before .before .before .before .before .if1 .left),
-    sym (c .before .before .pair-in .ensures) ∙ c .enum-told .given .1)
+    rw (
+      equals (c .before .before .before .before .before .before .count .ensures) (c .before .before .before .before .before .if1 .left),
+      sym (c .before .before .pair-in .ensures) ∙ c .enum-told .given .1,
+    )
 
 pub barrier-spec : {M : Type 1} → statement M
 barrier-spec =

@@ -31,8 +31,10 @@ swap-requires c κs = search needs
 returns-2 : tie.Need-returns-2
 unfolding commandOf
 returns-2 c =
-    rw (sym (c .before .before .before .before .before .is-word .ensures) ∙ c .before .before .before .before .if1 .left,
-    sym (c .before .before .is-word2 .ensures) ∙ c .before .if2 .taken) (c .swap .ensures)
+    rw (
+      sym (c .before .before .before .before .before .is-word .ensures) ∙ c .before .before .before .before .if1 .left,
+      sym (c .before .before .is-word2 .ensures) ∙ c .before .if2 .taken,
+    ) (c .swap .ensures)
 
 slice-aggregate-is-word-3 : tie.Need-slice-aggregate-is-word-3
 slice-aggregate-is-word-3 c = search needs
@@ -46,9 +48,11 @@ barrier-requires c κs = search needs
 returns-3 : tie.Need-returns-3
 unfolding commandOf
 returns-3 c =
-    rw (sym (c .before .before .before .before .before .before .before .before .is-word .ensures) ∙ c .before .before .before .before .before .before .before .if1 .left,
-    sym (c .before .before .before .before .before .is-word2 .ensures) ∙ c .before .before .before .before .if2 .left,
-    sym (c .before .before .is-word3 .ensures) ∙ c .before .if3 .taken) (c .barrier .ensures)
+    rw (
+      sym (c .before .before .before .before .before .before .before .before .is-word .ensures) ∙ c .before .before .before .before .before .before .before .if1 .left,
+      sym (c .before .before .before .before .before .is-word2 .ensures) ∙ c .before .before .before .before .if2 .left,
+      sym (c .before .before .is-word3 .ensures) ∙ c .before .if3 .taken,
+    ) (c .barrier .ensures)
 
 step-requires : tie.Need-step-requires
 step-requires c κs = search needs
@@ -56,9 +60,11 @@ step-requires c κs = search needs
 returns-4 : tie.Need-returns-4
 unfolding commandOf
 returns-4 c =
-    rw (sym (c .before .before .before .before .before .before .before .before .is-word .ensures) ∙ c .before .before .before .before .before .before .before .if1 .left,
-    sym (c .before .before .before .before .before .is-word2 .ensures) ∙ c .before .before .before .before .if2 .left,
-    sym (c .before .before .is-word3 .ensures) ∙ c .before .if3 .left) (c .step .ensures)
+    rw (
+      sym (c .before .before .before .before .before .before .before .before .is-word .ensures) ∙ c .before .before .before .before .before .before .before .if1 .left,
+      sym (c .before .before .before .before .before .is-word2 .ensures) ∙ c .before .before .before .before .if2 .left,
+      sym (c .before .before .is-word3 .ensures) ∙ c .before .if3 .left,
+    ) (c .step .ensures)
 
 pub command-spec : {M : Type 1} → statement M
 command-spec =

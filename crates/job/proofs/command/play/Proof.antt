@@ -29,8 +29,10 @@ enum-told c = search needs
 returns-2 : tie.Need-returns-2
 unfolding playOf
 returns-2 c =
-    rw (equals (c .before .before .before .before .before .count .ensures) (c .before .before .before .before .if1 .left),
-    sym (c .before .before .name-in .ensures) ∙ c .enum-told .given .1)
+    rw (
+      equals (c .before .before .before .before .before .count .ensures) (c .before .before .before .before .if1 .left),
+      sym (c .before .before .name-in .ensures) ∙ c .enum-told .given .1,
+    )
 
 slice-aggregate-shape-in : tie.Need-slice-aggregate-shape-in
 slice-aggregate-shape-in c = search needs
@@ -47,9 +49,11 @@ enum-told-2 c = search needs
 returns-3 : tie.Need-returns-3
 unfolding playOf
 returns-3 c =
-    rw (equals (c .before .before .before .before .before .before .before .before .before .before .count .ensures) (c .before .before .before .before .before .before .before .before .before .if1 .left),
-    sym (c .before .before .before .before .before .before .before .name-in .ensures) ∙ c .before .before .before .before .before .named .given .1,
-    sym (c .before .before .shape-in .ensures) ∙ c .enum-told2 .given .1)
+    rw (
+      equals (c .before .before .before .before .before .before .before .before .before .before .count .ensures) (c .before .before .before .before .before .before .before .before .before .if1 .left),
+      sym (c .before .before .before .before .before .before .before .name-in .ensures) ∙ c .before .before .before .before .before .named .given .1,
+      sym (c .before .before .shape-in .ensures) ∙ c .enum-told2 .given .1,
+    )
 
 slice-aggregate-pair-in : tie.Need-slice-aggregate-pair-in
 slice-aggregate-pair-in c = search needs
@@ -69,10 +73,12 @@ enum-told-3 c = search needs
 returns-4 : tie.Need-returns-4
 unfolding playOf
 returns-4 c =
-    rw (equals (c .before .before .before .before .before .before .before .before .before .before .before .before .before .before .before .before .count .ensures) (c .before .before .before .before .before .before .before .before .before .before .before .before .before .before .before .if1 .left),
-    sym (c .before .before .before .before .before .before .before .before .before .before .before .before .before .name-in .ensures) ∙ c .before .before .before .before .before .before .before .before .before .before .before .named .given .1,
-    sym (c .before .before .before .before .before .before .before .before .shape-in .ensures) ∙ c .before .before .before .before .before .before .form .given .1,
-    sym (c .before .before .pair-in .ensures) ∙ c .enum-told3 .given .1)
+    rw (
+      equals (c .before .before .before .before .before .before .before .before .before .before .before .before .before .before .before .before .count .ensures) (c .before .before .before .before .before .before .before .before .before .before .before .before .before .before .before .if1 .left),
+      sym (c .before .before .before .before .before .before .before .before .before .before .before .before .before .name-in .ensures) ∙ c .before .before .before .before .before .before .before .before .before .before .before .named .given .1,
+      sym (c .before .before .before .before .before .before .before .before .shape-in .ensures) ∙ c .before .before .before .before .before .before .form .given .1,
+      sym (c .before .before .pair-in .ensures) ∙ c .enum-told3 .given .1,
+    )
 
 slice-aggregate-pair-in-3 : tie.Need-slice-aggregate-pair-in-3
 slice-aggregate-pair-in-3 c = search needs
@@ -92,11 +98,13 @@ enum-told-4 c = search needs
 returns-5 : tie.Need-returns-5
 unfolding playOf
 returns-5 c =
-    rw (equals (c .before .before .before .before .before .before .before .before .before .before .before .before .before .before .before .before .before .before .before .before .before .before .count .ensures) (c .before .before .before .before .before .before .before .before .before .before .before .before .before .before .before .before .before .before .before .before .before .if1 .left),
-    sym (c .before .before .before .before .before .before .before .before .before .before .before .before .before .before .before .before .before .before .before .name-in .ensures) ∙ c .before .before .before .before .before .before .before .before .before .before .before .before .before .before .before .before .before .named .given .1,
-    sym (c .before .before .before .before .before .before .before .before .before .before .before .before .before .before .shape-in .ensures) ∙ c .before .before .before .before .before .before .before .before .before .before .before .before .form .given .1,
-    sym (c .before .before .before .before .before .before .before .before .pair-in .ensures) ∙ c .before .before .before .before .before .before .sizes .given .1,
-    sym (c .before .before .pair-in2 .ensures) ∙ c .enum-told4 .given .1)
+    rw (
+      equals (c .before .before .before .before .before .before .before .before .before .before .before .before .before .before .before .before .before .before .before .before .before .before .count .ensures) (c .before .before .before .before .before .before .before .before .before .before .before .before .before .before .before .before .before .before .before .before .before .if1 .left),
+      sym (c .before .before .before .before .before .before .before .before .before .before .before .before .before .before .before .before .before .before .before .name-in .ensures) ∙ c .before .before .before .before .before .before .before .before .before .before .before .before .before .before .before .before .before .named .given .1,
+      sym (c .before .before .before .before .before .before .before .before .before .before .before .before .before .before .shape-in .ensures) ∙ c .before .before .before .before .before .before .before .before .before .before .before .before .form .given .1,
+      sym (c .before .before .before .before .before .before .before .before .pair-in .ensures) ∙ c .before .before .before .before .before .before .sizes .given .1,
+      sym (c .before .before .pair-in2 .ensures) ∙ c .enum-told4 .given .1,
+    )
 
 slice-aggregate-pair-in-5 : tie.Need-slice-aggregate-pair-in-5
 slice-aggregate-pair-in-5 c = search needs
@@ -116,12 +124,14 @@ enum-told-5 c = search needs
 returns-6 : tie.Need-returns-6
 unfolding playOf
 returns-6 c =
-    rw (equals (c .before .before .before .before .before .before .before .before .before .before .before .before .before .before .before .before .before .before .before .before .before .before .before .before .before .before .before .before .count .ensures) (c .before .before .before .before .before .before .before .before .before .before .before .before .before .before .before .before .before .before .before .before .before .before .before .before .before .before .before .if1 .left),
-    sym (c .before .before .before .before .before .before .before .before .before .before .before .before .before .before .before .before .before .before .before .before .before .before .before .before .before .name-in .ensures) ∙ c .before .before .before .before .before .before .before .before .before .before .before .before .before .before .before .before .before .before .before .before .before .before .before .named .given .1,
-    sym (c .before .before .before .before .before .before .before .before .before .before .before .before .before .before .before .before .before .before .before .before .shape-in .ensures) ∙ c .before .before .before .before .before .before .before .before .before .before .before .before .before .before .before .before .before .before .form .given .1,
-    sym (c .before .before .before .before .before .before .before .before .before .before .before .before .before .before .pair-in .ensures) ∙ c .before .before .before .before .before .before .before .before .before .before .before .before .sizes .given .1,
-    sym (c .before .before .before .before .before .before .before .before .pair-in2 .ensures) ∙ c .before .before .before .before .before .before .rest .given .1,
-    sym (c .before .before .pair-in3 .ensures) ∙ c .enum-told5 .given .1)
+    rw (
+      equals (c .before .before .before .before .before .before .before .before .before .before .before .before .before .before .before .before .before .before .before .before .before .before .before .before .before .before .before .before .count .ensures) (c .before .before .before .before .before .before .before .before .before .before .before .before .before .before .before .before .before .before .before .before .before .before .before .before .before .before .before .if1 .left),
+      sym (c .before .before .before .before .before .before .before .before .before .before .before .before .before .before .before .before .before .before .before .before .before .before .before .before .before .name-in .ensures) ∙ c .before .before .before .before .before .before .before .before .before .before .before .before .before .before .before .before .before .before .before .before .before .before .before .named .given .1,
+      sym (c .before .before .before .before .before .before .before .before .before .before .before .before .before .before .before .before .before .before .before .before .shape-in .ensures) ∙ c .before .before .before .before .before .before .before .before .before .before .before .before .before .before .before .before .before .before .form .given .1,
+      sym (c .before .before .before .before .before .before .before .before .before .before .before .before .before .before .pair-in .ensures) ∙ c .before .before .before .before .before .before .before .before .before .before .before .before .sizes .given .1,
+      sym (c .before .before .before .before .before .before .before .before .pair-in2 .ensures) ∙ c .before .before .before .before .before .before .rest .given .1,
+      sym (c .before .before .pair-in3 .ensures) ∙ c .enum-told5 .given .1,
+    )
 
 slice-aggregate-flag-in : tie.Need-slice-aggregate-flag-in
 slice-aggregate-flag-in c = search needs
@@ -138,13 +148,15 @@ enum-told-6 c = search needs
 returns-7 : tie.Need-returns-7
 unfolding playOf
 returns-7 c =
-    rw (equals (c .before .before .before .before .before .before .before .before .before .before .before .before .before .before .before .before .before .before .before .before .before .before .before .before .before .before .before .before .before .before .before .before .before .count .ensures) (c .before .before .before .before .before .before .before .before .before .before .before .before .before .before .before .before .before .before .before .before .before .before .before .before .before .before .before .before .before .before .before .before .if1 .left),
-    sym (c .before .before .before .before .before .before .before .before .before .before .before .before .before .before .before .before .before .before .before .before .before .before .before .before .before .before .before .before .before .before .name-in .ensures) ∙ c .before .before .before .before .before .before .before .before .before .before .before .before .before .before .before .before .before .before .before .before .before .before .before .before .before .before .before .before .named .given .1,
-    sym (c .before .before .before .before .before .before .before .before .before .before .before .before .before .before .before .before .before .before .before .before .before .before .before .before .before .shape-in .ensures) ∙ c .before .before .before .before .before .before .before .before .before .before .before .before .before .before .before .before .before .before .before .before .before .before .before .form .given .1,
-    sym (c .before .before .before .before .before .before .before .before .before .before .before .before .before .before .before .before .before .before .before .pair-in .ensures) ∙ c .before .before .before .before .before .before .before .before .before .before .before .before .before .before .before .before .before .sizes .given .1,
-    sym (c .before .before .before .before .before .before .before .before .before .before .before .before .before .pair-in2 .ensures) ∙ c .before .before .before .before .before .before .before .before .before .before .before .rest .given .1,
-    sym (c .before .before .before .before .before .before .before .pair-in3 .ensures) ∙ c .before .before .before .before .before .own .given .1,
-    sym (c .before .before .flag-in .ensures) ∙ c .enum-told6 .given .1)
+    rw (
+      equals (c .before .before .before .before .before .before .before .before .before .before .before .before .before .before .before .before .before .before .before .before .before .before .before .before .before .before .before .before .before .before .before .before .before .count .ensures) (c .before .before .before .before .before .before .before .before .before .before .before .before .before .before .before .before .before .before .before .before .before .before .before .before .before .before .before .before .before .before .before .before .if1 .left),
+      sym (c .before .before .before .before .before .before .before .before .before .before .before .before .before .before .before .before .before .before .before .before .before .before .before .before .before .before .before .before .before .before .name-in .ensures) ∙ c .before .before .before .before .before .before .before .before .before .before .before .before .before .before .before .before .before .before .before .before .before .before .before .before .before .before .before .before .named .given .1,
+      sym (c .before .before .before .before .before .before .before .before .before .before .before .before .before .before .before .before .before .before .before .before .before .before .before .before .before .shape-in .ensures) ∙ c .before .before .before .before .before .before .before .before .before .before .before .before .before .before .before .before .before .before .before .before .before .before .before .form .given .1,
+      sym (c .before .before .before .before .before .before .before .before .before .before .before .before .before .before .before .before .before .before .before .pair-in .ensures) ∙ c .before .before .before .before .before .before .before .before .before .before .before .before .before .before .before .before .before .sizes .given .1,
+      sym (c .before .before .before .before .before .before .before .before .before .before .before .before .before .pair-in2 .ensures) ∙ c .before .before .before .before .before .before .before .before .before .before .before .rest .given .1,
+      sym (c .before .before .before .before .before .before .before .pair-in3 .ensures) ∙ c .before .before .before .before .before .own .given .1,
+      sym (c .before .before .flag-in .ensures) ∙ c .enum-told6 .given .1,
+    )
 
 slice-aggregate-pair-in-7 : tie.Need-slice-aggregate-pair-in-7
 slice-aggregate-pair-in-7 c = search needs
@@ -164,26 +176,30 @@ enum-told-7 c = search needs
 returns-8 : tie.Need-returns-8
 unfolding playOf
 returns-8 c =
-    rw (equals (c .before .before .before .before .before .before .before .before .before .before .before .before .before .before .before .before .before .before .before .before .before .before .before .before .before .before .before .before .before .before .before .before .before .before .before .before .before .before .before .count .ensures) (c .before .before .before .before .before .before .before .before .before .before .before .before .before .before .before .before .before .before .before .before .before .before .before .before .before .before .before .before .before .before .before .before .before .before .before .before .before .before .if1 .left),
-    sym (c .before .before .before .before .before .before .before .before .before .before .before .before .before .before .before .before .before .before .before .before .before .before .before .before .before .before .before .before .before .before .before .before .before .before .before .before .name-in .ensures) ∙ c .before .before .before .before .before .before .before .before .before .before .before .before .before .before .before .before .before .before .before .before .before .before .before .before .before .before .before .before .before .before .before .before .before .before .named .given .1,
-    sym (c .before .before .before .before .before .before .before .before .before .before .before .before .before .before .before .before .before .before .before .before .before .before .before .before .before .before .before .before .before .before .before .shape-in .ensures) ∙ c .before .before .before .before .before .before .before .before .before .before .before .before .before .before .before .before .before .before .before .before .before .before .before .before .before .before .before .before .before .form .given .1,
-    sym (c .before .before .before .before .before .before .before .before .before .before .before .before .before .before .before .before .before .before .before .before .before .before .before .before .before .pair-in .ensures) ∙ c .before .before .before .before .before .before .before .before .before .before .before .before .before .before .before .before .before .before .before .before .before .before .before .sizes .given .1,
-    sym (c .before .before .before .before .before .before .before .before .before .before .before .before .before .before .before .before .before .before .before .pair-in2 .ensures) ∙ c .before .before .before .before .before .before .before .before .before .before .before .before .before .before .before .before .before .rest .given .1,
-    sym (c .before .before .before .before .before .before .before .before .before .before .before .before .before .pair-in3 .ensures) ∙ c .before .before .before .before .before .before .before .before .before .before .before .own .given .1,
-    sym (c .before .before .before .before .before .before .before .before .flag-in .ensures) ∙ c .before .before .before .before .before .before .flex .given .1,
-    sym (c .before .before .pair-in4 .ensures) ∙ c .enum-told7 .given .1)
+    rw (
+      equals (c .before .before .before .before .before .before .before .before .before .before .before .before .before .before .before .before .before .before .before .before .before .before .before .before .before .before .before .before .before .before .before .before .before .before .before .before .before .before .before .count .ensures) (c .before .before .before .before .before .before .before .before .before .before .before .before .before .before .before .before .before .before .before .before .before .before .before .before .before .before .before .before .before .before .before .before .before .before .before .before .before .before .if1 .left),
+      sym (c .before .before .before .before .before .before .before .before .before .before .before .before .before .before .before .before .before .before .before .before .before .before .before .before .before .before .before .before .before .before .before .before .before .before .before .before .name-in .ensures) ∙ c .before .before .before .before .before .before .before .before .before .before .before .before .before .before .before .before .before .before .before .before .before .before .before .before .before .before .before .before .before .before .before .before .before .before .named .given .1,
+      sym (c .before .before .before .before .before .before .before .before .before .before .before .before .before .before .before .before .before .before .before .before .before .before .before .before .before .before .before .before .before .before .before .shape-in .ensures) ∙ c .before .before .before .before .before .before .before .before .before .before .before .before .before .before .before .before .before .before .before .before .before .before .before .before .before .before .before .before .before .form .given .1,
+      sym (c .before .before .before .before .before .before .before .before .before .before .before .before .before .before .before .before .before .before .before .before .before .before .before .before .before .pair-in .ensures) ∙ c .before .before .before .before .before .before .before .before .before .before .before .before .before .before .before .before .before .before .before .before .before .before .before .sizes .given .1,
+      sym (c .before .before .before .before .before .before .before .before .before .before .before .before .before .before .before .before .before .before .before .pair-in2 .ensures) ∙ c .before .before .before .before .before .before .before .before .before .before .before .before .before .before .before .before .before .rest .given .1,
+      sym (c .before .before .before .before .before .before .before .before .before .before .before .before .before .pair-in3 .ensures) ∙ c .before .before .before .before .before .before .before .before .before .before .before .own .given .1,
+      sym (c .before .before .before .before .before .before .before .before .flag-in .ensures) ∙ c .before .before .before .before .before .before .flex .given .1,
+      sym (c .before .before .pair-in4 .ensures) ∙ c .enum-told7 .given .1,
+    )
 
 returns-9 : tie.Need-returns-9
 unfolding playOf
 returns-9 c =
-    rw (equals (c .before .before .before .before .before .before .before .before .before .before .before .before .before .before .before .before .before .before .before .before .before .before .before .before .before .before .before .before .before .before .before .before .before .before .before .before .before .before .before .before .count .ensures) (c .before .before .before .before .before .before .before .before .before .before .before .before .before .before .before .before .before .before .before .before .before .before .before .before .before .before .before .before .before .before .before .before .before .before .before .before .before .before .before .if1 .left),
-    sym (c .before .before .before .before .before .before .before .before .before .before .before .before .before .before .before .before .before .before .before .before .before .before .before .before .before .before .before .before .before .before .before .before .before .before .before .before .before .name-in .ensures) ∙ c .before .before .before .before .before .before .before .before .before .before .before .before .before .before .before .before .before .before .before .before .before .before .before .before .before .before .before .before .before .before .before .before .before .before .before .named .given .1,
-    sym (c .before .before .before .before .before .before .before .before .before .before .before .before .before .before .before .before .before .before .before .before .before .before .before .before .before .before .before .before .before .before .before .before .shape-in .ensures) ∙ c .before .before .before .before .before .before .before .before .before .before .before .before .before .before .before .before .before .before .before .before .before .before .before .before .before .before .before .before .before .before .form .given .1,
-    sym (c .before .before .before .before .before .before .before .before .before .before .before .before .before .before .before .before .before .before .before .before .before .before .before .before .before .before .pair-in .ensures) ∙ c .before .before .before .before .before .before .before .before .before .before .before .before .before .before .before .before .before .before .before .before .before .before .before .before .sizes .given .1,
-    sym (c .before .before .before .before .before .before .before .before .before .before .before .before .before .before .before .before .before .before .before .before .pair-in2 .ensures) ∙ c .before .before .before .before .before .before .before .before .before .before .before .before .before .before .before .before .before .before .rest .given .1,
-    sym (c .before .before .before .before .before .before .before .before .before .before .before .before .before .before .pair-in3 .ensures) ∙ c .before .before .before .before .before .before .before .before .before .before .before .before .own .given .1,
-    sym (c .before .before .before .before .before .before .before .before .before .flag-in .ensures) ∙ c .before .before .before .before .before .before .before .flex .given .1,
-    sym (c .before .before .before .pair-in4 .ensures) ∙ c .before .times .given .1)
+    rw (
+      equals (c .before .before .before .before .before .before .before .before .before .before .before .before .before .before .before .before .before .before .before .before .before .before .before .before .before .before .before .before .before .before .before .before .before .before .before .before .before .before .before .before .count .ensures) (c .before .before .before .before .before .before .before .before .before .before .before .before .before .before .before .before .before .before .before .before .before .before .before .before .before .before .before .before .before .before .before .before .before .before .before .before .before .before .before .if1 .left),
+      sym (c .before .before .before .before .before .before .before .before .before .before .before .before .before .before .before .before .before .before .before .before .before .before .before .before .before .before .before .before .before .before .before .before .before .before .before .before .before .name-in .ensures) ∙ c .before .before .before .before .before .before .before .before .before .before .before .before .before .before .before .before .before .before .before .before .before .before .before .before .before .before .before .before .before .before .before .before .before .before .before .named .given .1,
+      sym (c .before .before .before .before .before .before .before .before .before .before .before .before .before .before .before .before .before .before .before .before .before .before .before .before .before .before .before .before .before .before .before .before .shape-in .ensures) ∙ c .before .before .before .before .before .before .before .before .before .before .before .before .before .before .before .before .before .before .before .before .before .before .before .before .before .before .before .before .before .before .form .given .1,
+      sym (c .before .before .before .before .before .before .before .before .before .before .before .before .before .before .before .before .before .before .before .before .before .before .before .before .before .before .pair-in .ensures) ∙ c .before .before .before .before .before .before .before .before .before .before .before .before .before .before .before .before .before .before .before .before .before .before .before .before .sizes .given .1,
+      sym (c .before .before .before .before .before .before .before .before .before .before .before .before .before .before .before .before .before .before .before .before .pair-in2 .ensures) ∙ c .before .before .before .before .before .before .before .before .before .before .before .before .before .before .before .before .before .before .rest .given .1,
+      sym (c .before .before .before .before .before .before .before .before .before .before .before .before .before .before .pair-in3 .ensures) ∙ c .before .before .before .before .before .before .before .before .before .before .before .before .own .given .1,
+      sym (c .before .before .before .before .before .before .before .before .before .flag-in .ensures) ∙ c .before .before .before .before .before .before .before .flex .given .1,
+      sym (c .before .before .before .pair-in4 .ensures) ∙ c .before .times .given .1,
+    )
 
 pub play-spec : {M : Type 1} → statement M
 play-spec =

@@ -1,5 +1,4 @@
 -- `job::command::set_freq` meets its contract. Assumes nothing.
-use mathlib.Core.Path.{sym, _∙_}
 use borrow.Author.Needs.{needs}
 use Rattle.job.proofs.command.set_freq.Statement.{statement}
 use Rattle.job.proofs.command.set_freq.Tie as tie

@@ -1,5 +1,4 @@
 -- `job::command::shift_freq` meets its contract. Assumes nothing.
-use mathlib.Core.Path.{sym, _∙_}
 use borrow.Author.Needs.{needs}
 use Rattle.job.proofs.command.shift_freq.Statement.{statement}
 use Rattle.job.proofs.command.shift_freq.Tie as tie

@@ -1,5 +1,4 @@
 -- `job::command::shift_phase` meets its contract. Assumes nothing.
-use mathlib.Core.Path.{sym, _∙_}
 use borrow.Author.Needs.{needs}
 use Rattle.job.proofs.command.shift_phase.Statement.{statement}
 use Rattle.job.proofs.command.shift_phase.Tie as tie

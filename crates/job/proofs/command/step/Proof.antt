@@ -43,8 +43,10 @@ set-phase-requires c κs = search needs
 returns-2 : tie.Need-returns-2
 unfolding stepOf
 returns-2 c =
-    rw (sym (c .before .before .before .before .before .before .before .is-word .ensures) ∙ c .before .before .before .before .before .before .if1 .left,
-    sym (c .before .before .before .before .is-word2 .ensures) ∙ c .before .before .before .if2 .taken) (c .set-phase .ensures ∙ ap setPhaseBy (c .before .turn-by2 .ensures))
+    rw (
+      sym (c .before .before .before .before .before .before .before .is-word .ensures) ∙ c .before .before .before .before .before .before .if1 .left,
+      sym (c .before .before .before .before .is-word2 .ensures) ∙ c .before .before .before .if2 .taken,
+    ) (c .set-phase .ensures ∙ ap setPhaseBy (c .before .turn-by2 .ensures))
 
 slice-aggregate-is-word-3 : tie.Need-slice-aggregate-is-word-3
 slice-aggregate-is-word-3 c = search needs
@@ -64,9 +66,11 @@ shift-freq-requires c κs = search needs
 returns-3 : tie.Need-returns-3
 unfolding stepOf
 returns-3 c =
-    rw (sym (c .before .before .before .before .before .before .before .before .before .before .is-word .ensures) ∙ c .before .before .before .before .before .before .before .before .before .if1 .left,
-    sym (c .before .before .before .before .before .before .before .is-word2 .ensures) ∙ c .before .before .before .before .before .before .if2 .left,
-    sym (c .before .before .before .before .is-word3 .ensures) ∙ c .before .before .before .if3 .taken) (c .shift-freq .ensures ∙ ap shiftFreqBy (c .before .turn-by3 .ensures))
+    rw (
+      sym (c .before .before .before .before .before .before .before .before .before .before .is-word .ensures) ∙ c .before .before .before .before .before .before .before .before .before .if1 .left,
+      sym (c .before .before .before .before .before .before .before .is-word2 .ensures) ∙ c .before .before .before .before .before .before .if2 .left,
+      sym (c .before .before .before .before .is-word3 .ensures) ∙ c .before .before .before .if3 .taken,
+    ) (c .shift-freq .ensures ∙ ap shiftFreqBy (c .before .turn-by3 .ensures))
 
 slice-aggregate-is-word-4 : tie.Need-slice-aggregate-is-word-4
 slice-aggregate-is-word-4 c = search needs
@@ -86,10 +90,12 @@ set-freq-requires c κs = search needs
 returns-4 : tie.Need-returns-4
 unfolding stepOf
 returns-4 c =
-    rw (sym (c .before .before .before .before .before .before .before .before .before .before .before .before .before .is-word .ensures) ∙ c .before .before .before .before .before .before .before .before .before .before .before .before .if1 .left,
-    sym (c .before .before .before .before .before .before .before .before .before .before .is-word2 .ensures) ∙ c .before .before .before .before .before .before .before .before .before .if2 .left,
-    sym (c .before .before .before .before .before .before .before .is-word3 .ensures) ∙ c .before .before .before .before .before .before .if3 .left,
-    sym (c .before .before .before .before .is-word4 .ensures) ∙ c .before .before .before .if4 .taken) (c .set-freq .ensures ∙ ap setFreqBy (c .before .turn-by4 .ensures))
+    rw (
+      sym (c .before .before .before .before .before .before .before .before .before .before .before .before .before .is-word .ensures) ∙ c .before .before .before .before .before .before .before .before .before .before .before .before .if1 .left,
+      sym (c .before .before .before .before .before .before .before .before .before .before .is-word2 .ensures) ∙ c .before .before .before .before .before .before .before .before .before .if2 .left,
+      sym (c .before .before .before .before .before .before .before .is-word3 .ensures) ∙ c .before .before .before .before .before .before .if3 .left,
+      sym (c .before .before .before .before .is-word4 .ensures) ∙ c .before .before .before .if4 .taken,
+    ) (c .set-freq .ensures ∙ ap setFreqBy (c .before .turn-by4 .ensures))
 
 list-line-requires : tie.Need-list-line-requires
 list-line-requires c κs = search needs
@@ -97,10 +103,12 @@ list-line-requires c κs = search needs
 returns-5 : tie.Need-returns-5
 unfolding stepOf
 returns-5 c =
-    rw (sym (c .before .before .before .before .before .before .before .before .before .before .before .is-word .ensures) ∙ c .before .before .before .before .before .before .before .before .before .before .if1 .left,
-    sym (c .before .before .before .before .before .before .before .before .is-word2 .ensures) ∙ c .before .before .before .before .before .before .before .if2 .left,
-    sym (c .before .before .before .before .before .is-word3 .ensures) ∙ c .before .before .before .before .if3 .left,
-    sym (c .before .before .is-word4 .ensures) ∙ c .before .if4 .left) (c .list-line .ensures)
+    rw (
+      sym (c .before .before .before .before .before .before .before .before .before .before .before .is-word .ensures) ∙ c .before .before .before .before .before .before .before .before .before .before .if1 .left,
+      sym (c .before .before .before .before .before .before .before .before .is-word2 .ensures) ∙ c .before .before .before .before .before .before .before .if2 .left,
+      sym (c .before .before .before .before .before .is-word3 .ensures) ∙ c .before .before .before .before .if3 .left,
+      sym (c .before .before .is-word4 .ensures) ∙ c .before .if4 .left,
+    ) (c .list-line .ensures)
 
 pub step-spec : {M : Type 1} → statement M
 step-spec =

@@ -29,8 +29,10 @@ enum-told c = search needs
 returns-2 : tie.Need-returns-2
 unfolding swapOf
 returns-2 c =
-    rw (equals (c .before .before .before .before .before .count .ensures) (c .before .before .before .before .if1 .left),
-    sym (c .before .before .name-in .ensures) ∙ c .enum-told .given .1)
+    rw (
+      equals (c .before .before .before .before .before .count .ensures) (c .before .before .before .before .if1 .left),
+      sym (c .before .before .name-in .ensures) ∙ c .enum-told .given .1,
+    )
 
 slice-aggregate-name-in-2 : tie.Need-slice-aggregate-name-in-2
 slice-aggregate-name-in-2 c = search needs
@@ -47,9 +49,11 @@ enum-told-2 c = search needs
 returns-3 : tie.Need-returns-3
 unfolding swapOf
 returns-3 c =
-    rw (equals (c .before .before .before .before .before .before .before .before .before .before .count .ensures) (c .before .before .before .before .before .before .before .before .before .if1 .left),
-    sym (c .before .before .before .before .before .before .before .name-in .ensures) ∙ c .before .before .before .before .before .first .given .1,
-    sym (c .before .before .name-in2 .ensures) ∙ c .enum-told2 .given .1)
+    rw (
+      equals (c .before .before .before .before .before .before .before .before .before .before .count .ensures) (c .before .before .before .before .before .before .before .before .before .if1 .left),
+      sym (c .before .before .before .before .before .before .before .name-in .ensures) ∙ c .before .before .before .before .before .first .given .1,
+      sym (c .before .before .name-in2 .ensures) ∙ c .enum-told2 .given .1,
+    )
 
 slice-aggregate-pair-in : tie.Need-slice-aggregate-pair-in
 slice-aggregate-pair-in c = search needs
@@ -69,18 +73,22 @@ enum-told-3 c = search needs
 returns-4 : tie.Need-returns-4
 unfolding swapOf
 returns-4 c =
-    rw (equals (c .before .before .before .before .before .before .before .before .before .before .before .before .before .before .before .before .count .ensures) (c .before .before .before .before .before .before .before .before .before .before .before .before .before .before .before .if1 .left),
-    sym (c .before .before .before .before .before .before .before .before .before .before .before .before .before .name-in .ensures) ∙ c .before .before .before .before .before .before .before .before .before .before .before .first .given .1,
-    sym (c .before .before .before .before .before .before .before .before .name-in2 .ensures) ∙ c .before .before .before .before .before .before .second .given .1,
-    sym (c .before .before .pair-in .ensures) ∙ c .enum-told3 .given .1)
+    rw (
+      equals (c .before .before .before .before .before .before .before .before .before .before .before .before .before .before .before .before .count .ensures) (c .before .before .before .before .before .before .before .before .before .before .before .before .before .before .before .if1 .left),
+      sym (c .before .before .before .before .before .before .before .before .before .before .before .before .before .name-in .ensures) ∙ c .before .before .before .before .before .before .before .before .before .before .before .first .given .1,
+      sym (c .before .before .before .before .before .before .before .before .name-in2 .ensures) ∙ c .before .before .before .before .before .before .second .given .1,
+      sym (c .before .before .pair-in .ensures) ∙ c .enum-told3 .given .1,
+    )
 
 returns-5 : tie.Need-returns-5
 unfolding swapOf
 returns-5 c =
-    rw (equals (c .before .before .before .before .before .before .before .before .before .before .before .before .before .before .before .before .before .count .ensures) (c .before .before .before .before .before .before .before .before .before .before .before .before .before .before .before .before .if1 .left),
-    sym (c .before .before .before .before .before .before .before .before .before .before .before .before .before .before .name-in .ensures) ∙ c .before .before .before .before .before .before .before .before .before .before .before .before .first .given .1,
-    sym (c .before .before .before .before .before .before .before .before .before .name-in2 .ensures) ∙ c .before .before .before .before .before .before .before .second .given .1,
-    sym (c .before .before .before .pair-in .ensures) ∙ c .before .times .given .1)
+    rw (
+      equals (c .before .before .before .before .before .before .before .before .before .before .before .before .before .before .before .before .before .count .ensures) (c .before .before .before .before .before .before .before .before .before .before .before .before .before .before .before .before .if1 .left),
+      sym (c .before .before .before .before .before .before .before .before .before .before .before .before .before .before .name-in .ensures) ∙ c .before .before .before .before .before .before .before .before .before .before .before .before .first .given .1,
+      sym (c .before .before .before .before .before .before .before .before .before .name-in2 .ensures) ∙ c .before .before .before .before .before .before .before .second .given .1,
+      sym (c .before .before .before .pair-in .ensures) ∙ c .before .times .given .1,
+    )
 
 pub swap-spec : {M : Type 1} → statement M
 swap-spec =

@@ -26,8 +26,10 @@ is-word-requires c κs = search needs
 returns-2 : tie.Need-returns-2
 unfolding actionOf
 returns-2 c =
-    rw (equals (c .before .before .before .before .count .ensures) (c .before .before .before .if1 .left),
-    sym (c .before .is-word .ensures) ∙ c .if2 .taken)
+    rw (
+      equals (c .before .before .before .before .count .ensures) (c .before .before .before .if1 .left),
+      sym (c .before .is-word .ensures) ∙ c .if2 .taken,
+    )
 
 slice-aggregate-is-word-2 : tie.Need-slice-aggregate-is-word-2
 slice-aggregate-is-word-2 c = search needs
@@ -38,9 +40,11 @@ is-word-requires-2 c κs = search needs
 returns-3 : tie.Need-returns-3
 unfolding actionOf
 returns-3 c =
-    rw (equals (c .before .before .before .before .before .before .before .count .ensures) (c .before .before .before .before .before .before .if1 .left),
-    sym (c .before .before .before .before .is-word .ensures) ∙ c .before .before .before .if2 .left,
-    sym (c .before .is-word2 .ensures) ∙ c .if3 .taken)
+    rw (
+      equals (c .before .before .before .before .before .before .before .count .ensures) (c .before .before .before .before .before .before .if1 .left),
+      sym (c .before .before .before .before .is-word .ensures) ∙ c .before .before .before .if2 .left,
+      sym (c .before .is-word2 .ensures) ∙ c .if3 .taken,
+    )
 
 slice-aggregate-is-word-3 : tie.Need-slice-aggregate-is-word-3
 slice-aggregate-is-word-3 c = search needs
@@ -51,10 +55,12 @@ is-word-requires-3 c κs = search needs
 returns-4 : tie.Need-returns-4
 unfolding actionOf
 returns-4 c =
-    rw (equals (c .before .before .before .before .before .before .before .before .before .before .count .ensures) (c .before .before .before .before .before .before .before .before .before .if1 .left),
-    sym (c .before .before .before .before .before .before .before .is-word .ensures) ∙ c .before .before .before .before .before .before .if2 .left,
-    sym (c .before .before .before .before .is-word2 .ensures) ∙ c .before .before .before .if3 .left,
-    sym (c .before .is-word3 .ensures) ∙ c .if4 .taken)
+    rw (
+      equals (c .before .before .before .before .before .before .before .before .before .before .count .ensures) (c .before .before .before .before .before .before .before .before .before .if1 .left),
+      sym (c .before .before .before .before .before .before .before .is-word .ensures) ∙ c .before .before .before .before .before .before .if2 .left,
+      sym (c .before .before .before .before .is-word2 .ensures) ∙ c .before .before .before .if3 .left,
+      sym (c .before .is-word3 .ensures) ∙ c .if4 .taken,
+    )
 
 command-requires-2 : tie.Need-command-requires-2
 command-requires-2 c κs = search needs
@@ -62,10 +68,12 @@ command-requires-2 c κs = search needs
 returns-5 : tie.Need-returns-5
 unfolding actionOf
 returns-5 c =
-    rw (equals (c .before .before .before .before .before .before .before .before .before .before .before .count .ensures) (c .before .before .before .before .before .before .before .before .before .before .if1 .left),
-    sym (c .before .before .before .before .before .before .before .before .is-word .ensures) ∙ c .before .before .before .before .before .before .before .if2 .left,
-    sym (c .before .before .before .before .before .is-word2 .ensures) ∙ c .before .before .before .before .if3 .left,
-    sym (c .before .before .is-word3 .ensures) ∙ c .before .if4 .left) (c .command2 .ensures)
+    rw (
+      equals (c .before .before .before .before .before .before .before .before .before .before .before .count .ensures) (c .before .before .before .before .before .before .before .before .before .before .if1 .left),
+      sym (c .before .before .before .before .before .before .before .before .is-word .ensures) ∙ c .before .before .before .before .before .before .before .if2 .left,
+      sym (c .before .before .before .before .before .is-word2 .ensures) ∙ c .before .before .before .before .if3 .left,
+      sym (c .before .before .is-word3 .ensures) ∙ c .before .if4 .left,
+    ) (c .command2 .ensures)
 
 pub action-spec : {M : Type 1} → statement M
 action-spec =

@@ -29,8 +29,10 @@ enum-told c = search needs
 returns-2 : tie.Need-returns-2
 unfolding channelOf
 returns-2 c =
-    rw (equals (c .before .before .before .before .before .count .ensures) (c .before .before .before .before .if1 .left),
-    sym (c .before .before .name-in .ensures) ∙ c .enum-told .given .1)
+    rw (
+      equals (c .before .before .before .before .before .count .ensures) (c .before .before .before .before .if1 .left),
+      sym (c .before .before .name-in .ensures) ∙ c .enum-told .given .1,
+    )
 
 slice-aggregate-pair-in : tie.Need-slice-aggregate-pair-in
 slice-aggregate-pair-in c = search needs
@@ -50,9 +52,11 @@ enum-told-2 c = search needs
 returns-3 : tie.Need-returns-3
 unfolding channelOf
 returns-3 c =
-    rw (equals (c .before .before .before .before .before .before .before .before .before .before .before .count .ensures) (c .before .before .before .before .before .before .before .before .before .before .if1 .left),
-    sym (c .before .before .before .before .before .before .before .before .name-in .ensures) ∙ c .before .before .before .before .before .before .named .given .1,
-    sym (c .before .before .pair-in .ensures) ∙ c .enum-told2 .given .1)
+    rw (
+      equals (c .before .before .before .before .before .before .before .before .before .before .before .count .ensures) (c .before .before .before .before .before .before .before .before .before .before .if1 .left),
+      sym (c .before .before .before .before .before .before .before .before .name-in .ensures) ∙ c .before .before .before .before .before .before .named .given .1,
+      sym (c .before .before .pair-in .ensures) ∙ c .enum-told2 .given .1,
+    )
 
 slice-aggregate-number-in : tie.Need-slice-aggregate-number-in
 slice-aggregate-number-in c = search needs
@@ -69,18 +73,22 @@ enum-told-3 c = search needs
 returns-4 : tie.Need-returns-4
 unfolding channelOf
 returns-4 c =
-    rw (equals (c .before .before .before .before .before .before .before .before .before .before .before .before .before .before .before .before .count .ensures) (c .before .before .before .before .before .before .before .before .before .before .before .before .before .before .before .if1 .left),
-    sym (c .before .before .before .before .before .before .before .before .before .before .before .before .before .name-in .ensures) ∙ c .before .before .before .before .before .before .before .before .before .before .before .named .given .1,
-    sym (c .before .before .before .before .before .before .before .pair-in .ensures) ∙ c .before .before .before .before .before .frequencies .given .1,
-    sym (c .before .before .number-in .ensures) ∙ c .enum-told3 .given .1)
+    rw (
+      equals (c .before .before .before .before .before .before .before .before .before .before .before .before .before .before .before .before .count .ensures) (c .before .before .before .before .before .before .before .before .before .before .before .before .before .before .before .if1 .left),
+      sym (c .before .before .before .before .before .before .before .before .before .before .before .before .before .name-in .ensures) ∙ c .before .before .before .before .before .before .before .before .before .before .before .named .given .1,
+      sym (c .before .before .before .before .before .before .before .pair-in .ensures) ∙ c .before .before .before .before .before .frequencies .given .1,
+      sym (c .before .before .number-in .ensures) ∙ c .enum-told3 .given .1,
+    )
 
 returns-5 : tie.Need-returns-5
 unfolding channelOf
 returns-5 c =
-    rw (equals (c .before .before .before .before .before .before .before .before .before .before .before .before .before .before .before .before .before .count .ensures) (c .before .before .before .before .before .before .before .before .before .before .before .before .before .before .before .before .if1 .left),
-    sym (c .before .before .before .before .before .before .before .before .before .before .before .before .before .before .name-in .ensures) ∙ c .before .before .before .before .before .before .before .before .before .before .before .before .named .given .1,
-    sym (c .before .before .before .before .before .before .before .before .pair-in .ensures) ∙ c .before .before .before .before .before .before .frequencies .given .1,
-    sym (c .before .before .before .number-in .ensures) ∙ c .before .turns .given .1)
+    rw (
+      equals (c .before .before .before .before .before .before .before .before .before .before .before .before .before .before .before .before .before .count .ensures) (c .before .before .before .before .before .before .before .before .before .before .before .before .before .before .before .before .if1 .left),
+      sym (c .before .before .before .before .before .before .before .before .before .before .before .before .before .before .name-in .ensures) ∙ c .before .before .before .before .before .before .before .before .before .before .before .before .named .given .1,
+      sym (c .before .before .before .before .before .before .before .before .pair-in .ensures) ∙ c .before .before .before .before .before .before .frequencies .given .1,
+      sym (c .before .before .before .number-in .ensures) ∙ c .before .turns .given .1,
+    )
 
 pub channel-spec : {M : Type 1} → statement M
 channel-spec =

@@ -29,8 +29,10 @@ enum-told c = search needs
 returns-2 : tie.Need-returns-2
 unfolding rowsOf
 returns-2 c =
-    rw (equals (c .before .before .before .before .before .count .ensures) (c .before .before .before .before .if1 .left),
-    sym (c .before .before .whole-in .ensures) ∙ c .enum-told .given .1)
+    rw (
+      equals (c .before .before .before .before .before .count .ensures) (c .before .before .before .before .if1 .left),
+      sym (c .before .before .whole-in .ensures) ∙ c .enum-told .given .1,
+    )
 
 slice-aggregate-whole-in-2 : tie.Need-slice-aggregate-whole-in-2
 slice-aggregate-whole-in-2 c = search needs
@@ -47,16 +49,20 @@ enum-told-2 c = search needs
 returns-3 : tie.Need-returns-3
 unfolding rowsOf
 returns-3 c =
-    rw (equals (c .before .before .before .before .before .before .before .before .before .before .count .ensures) (c .before .before .before .before .before .before .before .before .before .if1 .left),
-    sym (c .before .before .before .before .before .before .before .whole-in .ensures) ∙ c .before .before .before .before .before .many .given .1,
-    sym (c .before .before .whole-in2 .ensures) ∙ c .enum-told2 .given .1)
+    rw (
+      equals (c .before .before .before .before .before .before .before .before .before .before .count .ensures) (c .before .before .before .before .before .before .before .before .before .if1 .left),
+      sym (c .before .before .before .before .before .before .before .whole-in .ensures) ∙ c .before .before .before .before .before .many .given .1,
+      sym (c .before .before .whole-in2 .ensures) ∙ c .enum-told2 .given .1,
+    )
 
 returns-4 : tie.Need-returns-4
 unfolding rowsOf
 returns-4 c =
-    rw (equals (c .before .before .before .before .before .before .before .before .before .before .before .count .ensures) (c .before .before .before .before .before .before .before .before .before .before .if1 .left),
-    sym (c .before .before .before .before .before .before .before .before .whole-in .ensures) ∙ c .before .before .before .before .before .before .many .given .1,
-    sym (c .before .before .before .whole-in2 .ensures) ∙ c .before .long .given .1)
+    rw (
+      equals (c .before .before .before .before .before .before .before .before .before .before .before .count .ensures) (c .before .before .before .before .before .before .before .before .before .before .if1 .left),
+      sym (c .before .before .before .before .before .before .before .before .whole-in .ensures) ∙ c .before .before .before .before .before .before .many .given .1,
+      sym (c .before .before .before .whole-in2 .ensures) ∙ c .before .long .given .1,
+    )
 
 pub rows-spec : {M : Type 1} → statement M
 rows-spec =

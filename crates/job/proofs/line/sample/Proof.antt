@@ -33,8 +33,10 @@ enum-told c = search needs
 returns-2 : tie.Need-returns-2
 unfolding sampleOf
 returns-2 c =
-    rw (equals (c .before .before .before .before .before .count .ensures) (c .before .before .before .before .if1 .left),
-    sym (c .before .before .name-in .ensures) ∙ c .enum-told .given .1)
+    rw (
+      equals (c .before .before .before .before .before .count .ensures) (c .before .before .before .before .if1 .left),
+      sym (c .before .before .name-in .ensures) ∙ c .enum-told .given .1,
+    )
 
 slice-aggregate-pair-in : tie.Need-slice-aggregate-pair-in
 slice-aggregate-pair-in c = search needs
@@ -54,9 +56,11 @@ enum-told-2 c = search needs
 returns-3 : tie.Need-returns-3
 unfolding sampleOf
 returns-3 c =
-    rw (equals (c .before .before .before .before .before .before .before .before .before .before .before .count .ensures) (c .before .before .before .before .before .before .before .before .before .before .if1 .left),
-    sym (c .before .before .before .before .before .before .before .before .name-in .ensures) ∙ c .before .before .before .before .before .before .named .given .1,
-    sym (c .before .before .pair-in .ensures) ∙ c .enum-told2 .given .1)
+    rw (
+      equals (c .before .before .before .before .before .before .before .before .before .before .before .count .ensures) (c .before .before .before .before .before .before .before .before .before .before .if1 .left),
+      sym (c .before .before .before .before .before .before .before .before .name-in .ensures) ∙ c .before .before .before .before .before .before .named .given .1,
+      sym (c .before .before .pair-in .ensures) ∙ c .enum-told2 .given .1,
+    )
 
 slice-aggregate-level-in : tie.Need-slice-aggregate-level-in
 slice-aggregate-level-in c = search needs
@@ -73,18 +77,22 @@ enum-told-3 c = search needs
 returns-4 : tie.Need-returns-4
 unfolding sampleOf
 returns-4 c =
-    rw (equals (c .before .before .before .before .before .before .before .before .before .before .before .before .before .before .before .before .count .ensures) (c .before .before .before .before .before .before .before .before .before .before .before .before .before .before .before .if1 .left),
-    sym (c .before .before .before .before .before .before .before .before .before .before .before .before .before .name-in .ensures) ∙ c .before .before .before .before .before .before .before .before .before .before .before .named .given .1,
-    sym (c .before .before .before .before .before .before .before .pair-in .ensures) ∙ c .before .before .before .before .before .clock .given .1,
-    sym (c .before .before .level-in .ensures) ∙ c .enum-told3 .given .1)
+    rw (
+      equals (c .before .before .before .before .before .before .before .before .before .before .before .before .before .before .before .before .count .ensures) (c .before .before .before .before .before .before .before .before .before .before .before .before .before .before .before .if1 .left),
+      sym (c .before .before .before .before .before .before .before .before .before .before .before .before .before .name-in .ensures) ∙ c .before .before .before .before .before .before .before .before .before .before .before .named .given .1,
+      sym (c .before .before .before .before .before .before .before .pair-in .ensures) ∙ c .before .before .before .before .before .clock .given .1,
+      sym (c .before .before .level-in .ensures) ∙ c .enum-told3 .given .1,
+    )
 
 returns-5 : tie.Need-returns-5
 unfolding sampleOf
 returns-5 c =
-    rw (equals (c .before .before .before .before .before .before .before .before .before .before .before .before .before .before .before .before .before .count .ensures) (c .before .before .before .before .before .before .before .before .before .before .before .before .before .before .before .before .if1 .left),
-    sym (c .before .before .before .before .before .before .before .before .before .before .before .before .before .before .name-in .ensures) ∙ c .before .before .before .before .before .before .before .before .before .before .before .before .named .given .1,
-    sym (c .before .before .before .before .before .before .before .before .pair-in .ensures) ∙ c .before .before .before .before .before .before .clock .given .1,
-    sym (c .before .before .before .level-in .ensures) ∙ c .before .aligned .given .1)
+    rw (
+      equals (c .before .before .before .before .before .before .before .before .before .before .before .before .before .before .before .before .before .count .ensures) (c .before .before .before .before .before .before .before .before .before .before .before .before .before .before .before .before .if1 .left),
+      sym (c .before .before .before .before .before .before .before .before .before .before .before .before .before .before .name-in .ensures) ∙ c .before .before .before .before .before .before .before .before .before .before .before .before .named .given .1,
+      sym (c .before .before .before .before .before .before .before .before .pair-in .ensures) ∙ c .before .before .before .before .before .before .clock .given .1,
+      sym (c .before .before .before .level-in .ensures) ∙ c .before .aligned .given .1,
+    )
     (ap (λ (z : ℤ). Sample (record {
       channel = c .before .before .before .before .before .before .before .before .before .before .before .before .named .given .0 .0;
       rate = record { 0 = c .before .before .before .before .before .before .clock .given .0 .0 };

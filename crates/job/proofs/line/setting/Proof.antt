@@ -31,8 +31,10 @@ channel-requires c κs = search needs
 returns-2 : tie.Need-returns-2
 unfolding settingOf
 returns-2 c =
-    rw (sym (c .before .before .before .before .before .is-word .ensures) ∙ c .before .before .before .before .if1 .left,
-    sym (c .before .before .is-word2 .ensures) ∙ c .before .if2 .taken) (c .channel .ensures)
+    rw (
+      sym (c .before .before .before .before .before .is-word .ensures) ∙ c .before .before .before .before .if1 .left,
+      sym (c .before .before .is-word2 .ensures) ∙ c .before .if2 .taken,
+    ) (c .channel .ensures)
 
 slice-aggregate-is-word-3 : tie.Need-slice-aggregate-is-word-3
 slice-aggregate-is-word-3 c = search needs
@@ -46,9 +48,11 @@ shape-requires c κs = search needs
 returns-3 : tie.Need-returns-3
 unfolding settingOf
 returns-3 c =
-    rw (sym (c .before .before .before .before .before .before .before .before .is-word .ensures) ∙ c .before .before .before .before .before .before .before .if1 .left,
-    sym (c .before .before .before .before .before .is-word2 .ensures) ∙ c .before .before .before .before .if2 .left,
-    sym (c .before .before .is-word3 .ensures) ∙ c .before .if3 .taken) (c .shape .ensures)
+    rw (
+      sym (c .before .before .before .before .before .before .before .before .is-word .ensures) ∙ c .before .before .before .before .before .before .before .if1 .left,
+      sym (c .before .before .before .before .before .is-word2 .ensures) ∙ c .before .before .before .before .if2 .left,
+      sym (c .before .before .is-word3 .ensures) ∙ c .before .if3 .taken,
+    ) (c .shape .ensures)
 
 slice-aggregate-is-word-4 : tie.Need-slice-aggregate-is-word-4
 slice-aggregate-is-word-4 c = search needs
@@ -62,10 +66,12 @@ rows-requires c κs = search needs
 returns-4 : tie.Need-returns-4
 unfolding settingOf
 returns-4 c =
-    rw (sym (c .before .before .before .before .before .before .before .before .before .before .before .is-word .ensures) ∙ c .before .before .before .before .before .before .before .before .before .before .if1 .left,
-    sym (c .before .before .before .before .before .before .before .before .is-word2 .ensures) ∙ c .before .before .before .before .before .before .before .if2 .left,
-    sym (c .before .before .before .before .before .is-word3 .ensures) ∙ c .before .before .before .before .if3 .left,
-    sym (c .before .before .is-word4 .ensures) ∙ c .before .if4 .taken) (c .rows .ensures)
+    rw (
+      sym (c .before .before .before .before .before .before .before .before .before .before .before .is-word .ensures) ∙ c .before .before .before .before .before .before .before .before .before .before .if1 .left,
+      sym (c .before .before .before .before .before .before .before .before .is-word2 .ensures) ∙ c .before .before .before .before .before .before .before .if2 .left,
+      sym (c .before .before .before .before .before .is-word3 .ensures) ∙ c .before .before .before .before .if3 .left,
+      sym (c .before .before .is-word4 .ensures) ∙ c .before .if4 .taken,
+    ) (c .rows .ensures)
 
 slice-aggregate-is-word-5 : tie.Need-slice-aggregate-is-word-5
 slice-aggregate-is-word-5 c = search needs
@@ -79,11 +85,13 @@ sample-requires c κs = search needs
 returns-5 : tie.Need-returns-5
 unfolding settingOf
 returns-5 c =
-    rw (sym (c .before .before .before .before .before .before .before .before .before .before .before .before .before .before .is-word .ensures) ∙ c .before .before .before .before .before .before .before .before .before .before .before .before .before .if1 .left,
-    sym (c .before .before .before .before .before .before .before .before .before .before .before .is-word2 .ensures) ∙ c .before .before .before .before .before .before .before .before .before .before .if2 .left,
-    sym (c .before .before .before .before .before .before .before .before .is-word3 .ensures) ∙ c .before .before .before .before .before .before .before .if3 .left,
-    sym (c .before .before .before .before .before .is-word4 .ensures) ∙ c .before .before .before .before .if4 .left,
-    sym (c .before .before .is-word5 .ensures) ∙ c .before .if5 .taken) (c .sample .ensures)
+    rw (
+      sym (c .before .before .before .before .before .before .before .before .before .before .before .before .before .before .is-word .ensures) ∙ c .before .before .before .before .before .before .before .before .before .before .before .before .before .if1 .left,
+      sym (c .before .before .before .before .before .before .before .before .before .before .before .is-word2 .ensures) ∙ c .before .before .before .before .before .before .before .before .before .before .if2 .left,
+      sym (c .before .before .before .before .before .before .before .before .is-word3 .ensures) ∙ c .before .before .before .before .before .before .before .if3 .left,
+      sym (c .before .before .before .before .before .is-word4 .ensures) ∙ c .before .before .before .before .if4 .left,
+      sym (c .before .before .is-word5 .ensures) ∙ c .before .if5 .taken,
+    ) (c .sample .ensures)
 
 action-requires : tie.Need-action-requires
 action-requires c κs = search needs
@@ -91,11 +99,13 @@ action-requires c κs = search needs
 returns-6 : tie.Need-returns-6
 unfolding settingOf
 returns-6 c =
-    rw (sym (c .before .before .before .before .before .before .before .before .before .before .before .before .before .before .is-word .ensures) ∙ c .before .before .before .before .before .before .before .before .before .before .before .before .before .if1 .left,
-    sym (c .before .before .before .before .before .before .before .before .before .before .before .is-word2 .ensures) ∙ c .before .before .before .before .before .before .before .before .before .before .if2 .left,
-    sym (c .before .before .before .before .before .before .before .before .is-word3 .ensures) ∙ c .before .before .before .before .before .before .before .if3 .left,
-    sym (c .before .before .before .before .before .is-word4 .ensures) ∙ c .before .before .before .before .if4 .left,
-    sym (c .before .before .is-word5 .ensures) ∙ c .before .if5 .left) (c .action .ensures)
+    rw (
+      sym (c .before .before .before .before .before .before .before .before .before .before .before .before .before .before .is-word .ensures) ∙ c .before .before .before .before .before .before .before .before .before .before .before .before .before .if1 .left,
+      sym (c .before .before .before .before .before .before .before .before .before .before .before .is-word2 .ensures) ∙ c .before .before .before .before .before .before .before .before .before .before .if2 .left,
+      sym (c .before .before .before .before .before .before .before .before .is-word3 .ensures) ∙ c .before .before .before .before .before .before .before .if3 .left,
+      sym (c .before .before .before .before .before .is-word4 .ensures) ∙ c .before .before .before .before .if4 .left,
+      sym (c .before .before .is-word5 .ensures) ∙ c .before .if5 .left,
+    ) (c .action .ensures)
 
 pub setting-spec : {M : Type 1} → statement M
 setting-spec =

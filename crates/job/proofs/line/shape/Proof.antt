@@ -24,8 +24,10 @@ is-word-requires c κs = search needs
 returns-2 : tie.Need-returns-2
 unfolding shapeOf
 returns-2 c =
-    rw (equals (c .before .before .before .before .count .ensures) (c .before .before .before .if1 .left),
-    taken _ _ (c .before .is-word .ensures) (c .if2 .taken))
+    rw (
+      equals (c .before .before .before .before .count .ensures) (c .before .before .before .if1 .left),
+      taken _ _ (c .before .is-word .ensures) (c .if2 .taken),
+    )
 
 slice-aggregate-name-in : tie.Need-slice-aggregate-name-in
 slice-aggregate-name-in c = search needs
@@ -42,16 +44,20 @@ enum-told c = search needs
 returns-3 : tie.Need-returns-3
 unfolding shapeOf
 returns-3 c =
-    rw (equals (c .before .before .before .before .before .before .before .before .before .count .ensures) (c .before .before .before .before .before .before .before .before .if1 .left),
-    passed _ _ (c .before .before .before .before .before .before .is-word .ensures) (c .before .before .before .before .before .if2 .left),
-    sym (c .before .before .before .name-in .ensures) ∙ c .before .named .given .1)
+    rw (
+      equals (c .before .before .before .before .before .before .before .before .before .count .ensures) (c .before .before .before .before .before .before .before .before .if1 .left),
+      passed _ _ (c .before .before .before .before .before .before .is-word .ensures) (c .before .before .before .before .before .if2 .left),
+      sym (c .before .before .before .name-in .ensures) ∙ c .before .named .given .1,
+    )
 
 returns-4 : tie.Need-returns-4
 unfolding shapeOf
 returns-4 c =
-    rw (equals (c .before .before .before .before .before .before .before .before .count .ensures) (c .before .before .before .before .before .before .before .if1 .left),
-    passed _ _ (c .before .before .before .before .before .is-word .ensures) (c .before .before .before .before .if2 .left),
-    sym (c .before .before .name-in .ensures) ∙ c .enum-told .given .1)
+    rw (
+      equals (c .before .before .before .before .before .before .before .before .count .ensures) (c .before .before .before .before .before .before .before .if1 .left),
+      passed _ _ (c .before .before .before .before .before .is-word .ensures) (c .before .before .before .before .if2 .left),
+      sym (c .before .before .name-in .ensures) ∙ c .enum-told .given .1,
+    )
 
 pub shape-spec : {M : Type 1} → statement M
 shape-spec =

@@ -32,8 +32,10 @@ enum-told c = search needs
 returns-2 : tie.Need-returns-2
 unfolding tablesOf
 returns-2 c =
-    rw (equals (c .before .before .before .before .before .before .count .ensures) (c .before .before .before .before .before .if1 .left),
-    sym (c .before .before .pair-in .ensures) ∙ c .enum-told .given .1)
+    rw (
+      equals (c .before .before .before .before .before .before .count .ensures) (c .before .before .before .before .before .if1 .left),
+      sym (c .before .before .pair-in .ensures) ∙ c .enum-told .given .1,
+    )
 
 slice-aggregate-flag-in : tie.Need-slice-aggregate-flag-in
 slice-aggregate-flag-in c = search needs
@@ -50,16 +52,20 @@ enum-told-2 c = search needs
 returns-3 : tie.Need-returns-3
 unfolding tablesOf
 returns-3 c =
-    rw (equals (c .before .before .before .before .before .before .before .before .before .before .before .count .ensures) (c .before .before .before .before .before .before .before .before .before .before .if1 .left),
-    sym (c .before .before .before .before .before .before .before .pair-in .ensures) ∙ c .before .before .before .before .before .tolerances .given .1,
-    sym (c .before .before .flag-in .ensures) ∙ c .enum-told2 .given .1)
+    rw (
+      equals (c .before .before .before .before .before .before .before .before .before .before .before .count .ensures) (c .before .before .before .before .before .before .before .before .before .before .if1 .left),
+      sym (c .before .before .before .before .before .before .before .pair-in .ensures) ∙ c .before .before .before .before .before .tolerances .given .1,
+      sym (c .before .before .flag-in .ensures) ∙ c .enum-told2 .given .1,
+    )
 
 returns-4 : tie.Need-returns-4
 unfolding tablesOf
 returns-4 c =
-    rw (equals (c .before .before .before .before .before .before .before .before .before .before .before .before .count .ensures) (c .before .before .before .before .before .before .before .before .before .before .before .if1 .left),
-    sym (c .before .before .before .before .before .before .before .before .pair-in .ensures) ∙ c .before .before .before .before .before .before .tolerances .given .1,
-    sym (c .before .before .before .flag-in .ensures) ∙ c .before .oversize .given .1)
+    rw (
+      equals (c .before .before .before .before .before .before .before .before .before .before .before .before .count .ensures) (c .before .before .before .before .before .before .before .before .before .before .before .if1 .left),
+      sym (c .before .before .before .before .before .before .before .before .pair-in .ensures) ∙ c .before .before .before .before .before .before .tolerances .given .1,
+      sym (c .before .before .before .flag-in .ensures) ∙ c .before .oversize .given .1,
+    )
 
 pub tables-spec : {M : Type 1} → statement M
 tables-spec =

@@ -29,8 +29,10 @@ enum-told c = search needs
 returns-2 : tie.Need-returns-2
 unfolding turnOf
 returns-2 c =
-    rw (equals (c .before .before .before .before .before .count .ensures) (c .before .before .before .before .if1 .left),
-    sym (c .before .before .name-in .ensures) ∙ c .enum-told .given .1)
+    rw (
+      equals (c .before .before .before .before .before .count .ensures) (c .before .before .before .before .if1 .left),
+      sym (c .before .before .name-in .ensures) ∙ c .enum-told .given .1,
+    )
 
 number-in-requires : tie.Need-number-in-requires
 number-in-requires c κs = search needs
@@ -44,9 +46,11 @@ enum-told-2 c = search needs
 returns-3 : tie.Need-returns-3
 unfolding turnOf
 returns-3 c =
-    rw (equals (c .before .before .before .before .before .before .before .before .before .count .ensures) (c .before .before .before .before .before .before .before .before .if1 .left),
-    sym (c .before .before .before .before .before .before .name-in .ensures) ∙ c .before .before .before .before .named .given .1,
-    sym (c .before .before .number-in .ensures) ∙ c .enum-told2 .given .1)
+    rw (
+      equals (c .before .before .before .before .before .before .before .before .before .count .ensures) (c .before .before .before .before .before .before .before .before .if1 .left),
+      sym (c .before .before .before .before .before .before .name-in .ensures) ∙ c .before .before .before .before .named .given .1,
+      sym (c .before .before .number-in .ensures) ∙ c .enum-told2 .given .1,
+    )
 
 slice-aggregate-pair-in : tie.Need-slice-aggregate-pair-in
 slice-aggregate-pair-in c = search needs
@@ -66,18 +70,22 @@ enum-told-3 c = search needs
 returns-4 : tie.Need-returns-4
 unfolding turnOf
 returns-4 c =
-    rw (equals (c .before .before .before .before .before .before .before .before .before .before .before .before .before .before .before .count .ensures) (c .before .before .before .before .before .before .before .before .before .before .before .before .before .before .if1 .left),
-    sym (c .before .before .before .before .before .before .before .before .before .before .before .before .name-in .ensures) ∙ c .before .before .before .before .before .before .before .before .before .before .named .given .1,
-    sym (c .before .before .before .before .before .before .before .before .number-in .ensures) ∙ c .before .before .before .before .before .before .number .given .1,
-    sym (c .before .before .pair-in .ensures) ∙ c .enum-told3 .given .1)
+    rw (
+      equals (c .before .before .before .before .before .before .before .before .before .before .before .before .before .before .before .count .ensures) (c .before .before .before .before .before .before .before .before .before .before .before .before .before .before .if1 .left),
+      sym (c .before .before .before .before .before .before .before .before .before .before .before .before .name-in .ensures) ∙ c .before .before .before .before .before .before .before .before .before .before .named .given .1,
+      sym (c .before .before .before .before .before .before .before .before .number-in .ensures) ∙ c .before .before .before .before .before .before .number .given .1,
+      sym (c .before .before .pair-in .ensures) ∙ c .enum-told3 .given .1,
+    )
 
 returns-5 : tie.Need-returns-5
 unfolding turnOf
 returns-5 c =
-    rw (equals (c .before .before .before .before .before .before .before .before .before .before .before .before .before .before .before .before .count .ensures) (c .before .before .before .before .before .before .before .before .before .before .before .before .before .before .before .if1 .left),
-    sym (c .before .before .before .before .before .before .before .before .before .before .before .before .before .name-in .ensures) ∙ c .before .before .before .before .before .before .before .before .before .before .before .named .given .1,
-    sym (c .before .before .before .before .before .before .before .before .before .number-in .ensures) ∙ c .before .before .before .before .before .before .before .number .given .1,
-    sym (c .before .before .before .pair-in .ensures) ∙ c .before .times .given .1)
+    rw (
+      equals (c .before .before .before .before .before .before .before .before .before .before .before .before .before .before .before .before .count .ensures) (c .before .before .before .before .before .before .before .before .before .before .before .before .before .before .before .if1 .left),
+      sym (c .before .before .before .before .before .before .before .before .before .before .before .before .before .name-in .ensures) ∙ c .before .before .before .before .before .before .before .before .before .before .before .named .given .1,
+      sym (c .before .before .before .before .before .before .before .before .before .number-in .ensures) ∙ c .before .before .before .before .before .before .before .number .given .1,
+      sym (c .before .before .before .pair-in .ensures) ∙ c .before .times .given .1,
+    )
 
 pub turn-by-spec : {M : Type 1} → statement M
 turn-by-spec =

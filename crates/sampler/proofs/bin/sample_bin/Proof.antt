@@ -1,12 +1,8 @@
 -- `sampler::bin::sample_bin` meets its contract. Assumes nothing.
 use Rattle.sampler.proofs.Binned.{left, todo, Going}
-use Rattle.sampler.specs.Sampled.{rowed, ranPulses}
-use Rattle.merge.specs.Sum.{together, keptFrom}
-use borrow.Author.Needs.{needs}
+use Rattle.sampler.specs.Sampled.{rowed}
 use lib.ListN.{length}
-use Prim.Native.Nat.{ℕ, _+_, _-_, _≤_}
-use mathlib.Core.Path.{_≡_, refl, sym, ap, _∙_}
-use native.Mathlib.Omega.{arith}
+use Prim.Native.Nat.{_-_}
 use Rattle.sampler.proofs.bin.sample_bin.Statement.{statement}
 use Rattle.sampler.proofs.bin.sample_bin.Tie as tie
 

@@ -14,7 +14,7 @@ use borrow.Author.Needs.{needs}
 use lib.ListN.{length, take, getD}
 use mathlib.Core.Bool.{true, false}
 use Prim.Native.Nat.{ℕ, _-_, _≤_, _<_}
-use mathlib.Core.Path.{_≡_, refl, sym, ap, _∙_}
+use mathlib.Core.Path.{_≡_, sym, ap, _∙_}
 use native.Mathlib.Omega.{arith}
 use Rattle.sampler.proofs.bins.appeared.Statement.{statement}
 use Rattle.sampler.proofs.bins.appeared.Tie as tie

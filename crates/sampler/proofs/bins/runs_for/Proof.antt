@@ -14,8 +14,8 @@ use Rattle.sampler.specs.Runs.{Within}
 use Rattle.merge.specs.Taking.{partsIn}
 use borrow.Author.Needs.{needs}
 use lib.ListN.{length, take, drop, getD}
-use mathlib.Core.List.{List, _++_}
-use Prim.Native.Nat.{ℕ, _+_, _-_, _≤_, _<_}
+use mathlib.Core.List.{_++_}
+use Prim.Native.Nat.{_+_, _-_, _≤_}
 use mathlib.Core.Path.{_≡_, refl, sym, ap, _∙_}
 use native.Mathlib.Omega.{arith}
 use Rattle.sampler.proofs.bins.runs_for.Statement.{statement}
@@ -89,11 +89,12 @@ loop-again c =
     let p = getD (partsIn (s .args .t2)) (at .k) (none s) in
     let e = getD (s .args .t3 .ends) (at .k) 0 in
     let one = parts-at (s .args .t2) (places s) (factors s) (s .pre .2) (at .k) (none s) (omega arith) in
-    let made : c .run-for .result ≡ runFor (s .args .marks .now) (targetOf (rowsOf (s .args .t) (s .args .bins .now) (p .place)) (s .args .row)) (at .begin) e (p .factor) = rw (one, c .run-for .ensures, c .before .before .place-in .ensures) refl in
-    (omega arith,
-    length-set (at .runs) (at .k) (c .run-for .result) ∙ at .inv .1,
-    within-set (at .runs) (at .k) (c .run-for .result) (rw made (s .pre .3 .each (at .k))) (at .inv .2),
-    ap (λ (r : Run). take (at .k + 1) (set (at .runs) (at .k) r) ++ runsForFrom (s .args .t) (s .args .bins .now) (s .args .marks .now) (s .args .row) e (drop (at .k + 1) (partsIn (s .args .t2))) (drop (at .k + 1) (s .args .t3 .ends))) made ∙ start-more (s .args .t) (s .args .bins .now) (s .args .marks .now) (s .args .row) (partsIn (s .args .t2)) (s .args .t3 .ends) (at .runs) (at .begin) (at .k) (none s) (omega (arith, many s)) (omega (arith, ended s, s .pre .2)) (omega (arith, at .inv .1, s .pre .2)) ∙ at .inv .3)
+    let made : c .run-for .result ≡ runFor (s .args .marks .now) (targetOf (rowsOf (s .args .t) (s .args .bins .now) (p .place)) (s .args .row)) (at .begin) e (p .factor) = rw (one, c .run-for .ensures, c .before .before .place-in .ensures) refl in (
+      omega arith,
+      length-set (at .runs) (at .k) (c .run-for .result) ∙ at .inv .1,
+      within-set (at .runs) (at .k) (c .run-for .result) (rw made (s .pre .3 .each (at .k))) (at .inv .2),
+      ap (λ (r : Run). take (at .k + 1) (set (at .runs) (at .k) r) ++ runsForFrom (s .args .t) (s .args .bins .now) (s .args .marks .now) (s .args .row) e (drop (at .k + 1) (partsIn (s .args .t2))) (drop (at .k + 1) (s .args .t3 .ends))) made ∙ start-more (s .args .t) (s .args .bins .now) (s .args .marks .now) (s .args .row) (partsIn (s .args .t2)) (s .args .t3 .ends) (at .runs) (at .begin) (at .k) (none s) (omega (arith, many s)) (omega (arith, ended s, s .pre .2)) (omega (arith, at .inv .1, s .pre .2)) ∙ at .inv .3,
+    )
 
 returns : tie.Need-returns Inv-loop μ-loop
 returns c =

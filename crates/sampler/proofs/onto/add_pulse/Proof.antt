@@ -4,7 +4,7 @@ use Rattle.sampler.specs.Sampled.{rowed, addedTo}
 use Rattle.placing.proofs.Accepted.{curved-held}
 use Rattle.placing.specs.declared.Judged.{Judged}
 use lib.ListN.{length}
-use mathlib.Core.Path.{_≡_, refl, sym, ap, _∙_}
+use mathlib.Core.Path.{sym, ap, _∙_}
 use borrow.Author.Needs.{needs}
 use Rattle.sampler.proofs.onto.add_pulse.Statement.{statement}
 use Rattle.sampler.proofs.onto.add_pulse.Tie as tie

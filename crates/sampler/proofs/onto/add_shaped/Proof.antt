@@ -4,10 +4,8 @@ use Rattle.sampler.proofs.Holdings.{after-length, holds-after}
 use Rattle.sampler.specs.Sampled.{partsAt, withPoints}
 use Rattle.shape.specs.Envelope.{scratchAfter}
 use lib.ListN.{length}
-use lib.Ieee.{Float}
-use Prim.Native.Nat.{ℕ, _-_, _≤_}
-use mathlib.Core.List.{List}
-use mathlib.Core.Path.{_≡_, refl, sym, ap, _∙_}
+use Prim.Native.Nat.{_-_, _≤_}
+use mathlib.Core.Path.{sym, ap, _∙_}
 use native.Mathlib.Omega.{arith}
 use borrow.Author.Needs.{needs}
 use Rattle.sampler.proofs.onto.add_shaped.Statement.{statement}
@@ -47,9 +45,10 @@ returns c =
     let room = length (a .i .now) - a .c .start in
     let less : room ≤ length (a .scratch .now) = omega (arith, s .pre .2) in
     let held = c .before .before .before .before .before .before .before .before .before .before .before .hold .ensures in
-    let long = ap length held ∙ after-length (a .s) (a .b) (a .c .offset) room (a .scratch .now) less in
-    (shaped-rows (a .rows) (a .c) (a .i .now) (a .q .now) _ _ _ (omega (arith, long, s .pre .0, s .pre .2)) (c .before .before .before .before .add-envelope .ensures .0) (c .before .before .before .before .add-envelope .ensures .1) ∙ ap (withPoints (a .rows) (a .c) (a .i .now) (a .q .now)) held,
-    λ _ room'. ap (scratchAfter (partsAt (a .s) (a .b) (a .c .offset) room')) held ∙ holds-after (a .s) (a .b) (a .c .offset) room (a .scratch .now) less (a .c .points) (s .pre .1) room' ∙ sym held)
+    let long = ap length held ∙ after-length (a .s) (a .b) (a .c .offset) room (a .scratch .now) less in (
+      shaped-rows (a .rows) (a .c) (a .i .now) (a .q .now) _ _ _ (omega (arith, long, s .pre .0, s .pre .2)) (c .before .before .before .before .add-envelope .ensures .0) (c .before .before .before .before .add-envelope .ensures .1) ∙ ap (withPoints (a .rows) (a .c) (a .i .now) (a .q .now)) held,
+      λ _ room'. ap (scratchAfter (partsAt (a .s) (a .b) (a .c .offset) room')) held ∙ holds-after (a .s) (a .b) (a .c .offset) room (a .scratch .now) less (a .c .points) (s .pre .1) room' ∙ sym held,
+    )
 
 pub add-shaped-spec : {M : Type 1} → statement M
 add-shaped-spec =

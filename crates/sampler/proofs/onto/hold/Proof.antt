@@ -3,7 +3,7 @@ use Rattle.sampler.specs.Sampled.{partsAt}
 use Rattle.shape.proofs.Filling.{limit-same}
 use Rattle.shape.specs.Envelope.{scratchAfter}
 use lib.Ieee.{Float}
-use mathlib.Core.Path.{_≡_, sym, ap, _∙_}
+use mathlib.Core.Path.{sym, ap, _∙_}
 use borrow.Author.Needs.{needs}
 use Rattle.sampler.proofs.onto.hold.Statement.{statement}
 use Rattle.sampler.proofs.onto.hold.Tie as tie

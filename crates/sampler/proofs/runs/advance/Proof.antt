@@ -2,7 +2,7 @@
 use Rattle.sampler.proofs.Spans.{advanced-here, advanced-later, advanced-over}
 use Rattle.sampler.specs.Runs.{advanced}
 use borrow.Author.Tests.{eq-eqb, ne-eqb}
-use mathlib.Core.Path.{_≡_, refl, sym, _∙_}
+use mathlib.Core.Path.{_≡_, sym, _∙_}
 use Prim.Native.Nat.{_-_}
 use native.Mathlib.Omega.{arith}
 use borrow.Author.Needs.{needs}

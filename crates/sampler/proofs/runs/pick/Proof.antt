@@ -8,7 +8,7 @@ use Rattle.sampler.proofs.Sizes.{eight-runs}
 use Rattle.sampler.specs.Runs.{pickedFrom}
 use borrow.Author.Needs.{needs}
 use lib.ListN.{take, drop}
-use mathlib.Core.Path.{_≡_, refl, sym, _∙_}
+use mathlib.Core.Path.{_≡_, sym, _∙_}
 use Prim.Native.Nat.{_≤_, _<_}
 use native.Mathlib.Omega.{arith}
 use Rattle.sampler.proofs.runs.pick.Statement.{statement}
@@ -50,10 +50,11 @@ loop-again c =
     let run = getD (s .args .t1 .runs) k noRun in
     let here : k + 1 ≡ at .k = omega arith in
     let more = picked-more (s .args .work .now) (s .args .marks .now) (s .args .t1 .count) (s .args .t1 .runs) k (omega arith) (omega (arith, whole, s .pre .2)) in
-    let is : c .better .result ≡ better (s .args .work .now) k (advancedBy (s .args .marks .now) run) (run .end) (at .best) = rw (c .better .ensures, c .before .advance .ensures) in
-    (omega arith,
-    rw is (better-within (s .args .work .now) k (advancedBy (s .args .marks .now) run) (run .end) 8192 (at .best) (at .inv .1) (s .pre .3 .each k)),
-    is ∙ ap (better (s .args .work .now) k (advancedBy (s .args .marks .now) run) (run .end)) (at .inv .2 ∙ ap (λ (n : ℕ). pickedFrom (s .args .work .now) (s .args .marks .now) n (drop n (take (s .args .t1 .count) (s .args .t1 .runs)))) (sym here)) ∙ more)
+    let is : c .better .result ≡ better (s .args .work .now) k (advancedBy (s .args .marks .now) run) (run .end) (at .best) = rw (c .better .ensures, c .before .advance .ensures) in (
+      omega arith,
+      rw is (better-within (s .args .work .now) k (advancedBy (s .args .marks .now) run) (run .end) 8192 (at .best) (at .inv .1) (s .pre .3 .each k)),
+      is ∙ ap (better (s .args .work .now) k (advancedBy (s .args .marks .now) run) (run .end)) (at .inv .2 ∙ ap (λ (n : ℕ). pickedFrom (s .args .work .now) (s .args .marks .now) n (drop n (take (s .args .t1 .count) (s .args .t1 .runs)))) (sym here)) ∙ more,
+    )
 
 returns : tie.Need-returns Inv-loop μ-loop
 returns c =
