@@ -46,19 +46,19 @@ module _ (line : List ℕ) (at left p : ℕ) (within : at ≤ length line) (plac
   here : p ≡ placeOf 32 (drop at line)
   here = rw (rest-part line at) at place
 
-  first : take (at + p - at) (drop at line) ≡ firstWord (drop at line)
+  pub first : take (at + p - at) (drop at line) ≡ firstWord (drop at line)
   first = let same : at + p - at ≡ p = omega arith in rw (same, here)
 
   size : length (drop at line) ≡ length line - at
   size = length-drop at line
 
-  last : at + p ≡ length line → wordsOf (drop at line) ≡ firstWord (drop at line) ∷ []
+  pub last : at + p ≡ length line → wordsOf (drop at line) ≡ firstWord (drop at line) ∷ []
   last e =
       let all : placeOf 32 (drop at line) ≡ length (drop at line) = omega (arith, here, size) in
       let most : length (drop at line) ≤ placeOf 32 (drop at line) = omega arith in
       rw (words-one (drop at line) all, take-all (placeOf 32 (drop at line)) (drop at line) most)
 
-  more : (at + p ≡ length line → ⊥) → wordsOf (drop at line) ≡ firstWord (drop at line) ∷ wordsOf (drop (at + p + 1) line)
+  pub more : (at + p ≡ length line → ⊥) → wordsOf (drop at line) ≡ firstWord (drop at line) ∷ wordsOf (drop (at + p + 1) line)
   more n =
       let short : placeOf 32 (drop at line) < length (drop at line) = omega (arith, here, size, place-within 32 (drop at line)) in
       let behind : drop (suc (placeOf 32 (drop at line))) (drop at line) ≡ drop (at + p + 1) line =
