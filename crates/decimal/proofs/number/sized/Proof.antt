@@ -1,0 +1,161 @@
+-- `decimal::number::sized` meets its contract. Assumes nothing.
+use Prim.Native.Nat.{ℕ, suc, _+_, _-_}
+use mathlib.Core.Path.{_≡_, sym, _∙_}
+use mathlib.Core.List.{List}
+use native.Mathlib.Omega.{arith}
+use native.Mathlib.Numerals.{add-one}
+use lib.ListN.{length, take, drop}
+use Rattle.decimal.specs.declared.number.Power.{Power}
+use Rattle.decimal.specs.Number.{powerOf}
+use Rattle.decimal.proofs.Cutting.{reach, front}
+use Rattle.decimal.proofs.Places.{rest-part}
+use Rattle.decimal.proofs.Reading.{significand-small, power-small, size-broken, size-alone, size-powered}
+use borrow.Author.Needs.{needs}
+use Rattle.decimal.proofs.number.sized.Statement.{statement}
+use Rattle.decimal.proofs.number.sized.Tie as tie
+
+powered : (s : List ℕ) (p : ℕ) {r : Power} → powerOf (take (length s - (p + 1)) (drop (p + 1) s)) ≡ r → powerOf (drop (suc p) s) ≡ r
+powered s p h = rw (rest-part s (p + 1), add-one p) at h
+
+place-requires : tie.Need-place-requires
+place-requires c κs = search needs
+
+slice-aggregate-significand-of : tie.Need-slice-aggregate-significand-of
+slice-aggregate-significand-of c = front 101 (c .before .before .before .args .text .now) (c .before .place .result) (c .before .place .ensures)
+
+significand-of-requires : tie.Need-significand-of-requires
+significand-of-requires c κs = search needs
+
+enum-known-whole : tie.Need-enum-known-whole
+enum-known-whole c = search needs
+
+enum-told : tie.Need-enum-told
+enum-told c = search needs
+
+returns : tie.Need-returns
+returns c =
+    let s = c .before .before .before .before .before .before .args .text .now in
+    let p = c .before .before .before .before .place .result in
+    let e = c .before .before .before .before .place .ensures in
+    sym (size-broken (c .before .before .before .before .before .before .args .minus) s p e (sym (c .before .before .significand-of .ensures) ∙ c .enum-told .given .1))
+
+scaled-requires : tie.Need-scaled-requires
+scaled-requires c κs =
+    let s = c .before .before .before .before .before .before .before .before .args .text .now in
+    let p = c .before .before .before .before .before .before .place .result in
+    let e = c .before .before .before .before .before .before .place .ensures in
+    significand-small (take p s) (c .before .before .whole .given .0 .0) (c .before .before .whole .given .0 .1 .0) (sym (c .before .before .before .before .significand-of .ensures) ∙ c .before .before .whole .given .1) .0
+
+returns-2 : tie.Need-returns-2
+returns-2 c =
+    let s = c .before .before .before .before .before .before .before .before .before .args .text .now in
+    let p = c .before .before .before .before .before .before .before .place .result in
+    let e = c .before .before .before .before .before .before .before .place .ensures in
+    rw (size-alone (c .before .before .before .before .before .before .before .before .before .args .minus) s p e (c .before .if1 .taken), sym (c .before .before .before .before .before .significand-of .ensures) ∙ c .before .before .before .whole .given .1) (c .scaled .ensures)
+
+add-power-of : tie.Need-add-power-of
+add-power-of c =
+    let s = c .before .before .before .before .before .before .before .before .args .text .now in
+    let p = c .before .before .before .before .before .before .place .result in
+    let e = c .before .before .before .before .before .before .place .ensures in
+    omega (arith, reach 101 s p e)
+
+sub-power-of : tie.Need-sub-power-of
+sub-power-of c =
+    let s = c .before .before .before .before .before .before .before .before .args .text .now in
+    let p = c .before .before .before .before .before .before .place .result in
+    let e = c .before .before .before .before .before .before .place .ensures in
+    omega (arith, reach 101 s p e)
+
+part-power-of-start : tie.Need-part-power-of-start
+part-power-of-start c =
+    let s = c .before .before .before .before .before .before .before .before .args .text .now in
+    let p = c .before .before .before .before .before .before .place .result in
+    let e = c .before .before .before .before .before .before .place .ensures in
+    omega (arith, reach 101 s p e)
+
+part-power-of-end : tie.Need-part-power-of-end
+part-power-of-end c = search needs
+
+power-of-requires : tie.Need-power-of-requires
+power-of-requires c κs = search needs
+
+enum-known-shift : tie.Need-enum-known-shift
+enum-known-shift c = search needs
+
+scaled-requires-2 : tie.Need-scaled-requires-2
+scaled-requires-2 c κs =
+    let s = c .before .before .before .before .before .before .before .before .before .before .before .before .before .args .text .now in
+    let p = c .before .before .before .before .before .before .before .before .before .before .before .place .result in
+    let e = c .before .before .before .before .before .before .before .before .before .before .before .place .ensures in
+    significand-small (take p s) (c .before .before .before .before .before .before .before .whole .given .0 .0) (c .before .before .before .before .before .before .before .whole .given .0 .1 .0) (sym (c .before .before .before .before .before .before .before .before .before .significand-of .ensures) ∙ c .before .before .before .before .before .before .before .whole .given .1) .0
+
+enum-known-shift-2 : tie.Need-enum-known-shift-2
+enum-known-shift-2 c = search needs
+
+add-scaled : tie.Need-add-scaled
+add-scaled c =
+    let s = c .before .before .before .before .before .before .before .before .before .before .before .before .before .args .text .now in
+    let p = c .before .before .before .before .before .before .before .before .before .before .before .place .result in
+    let e = c .before .before .before .before .before .before .before .before .before .before .before .place .ensures in
+    let few = significand-small (take p s) (c .before .before .before .before .before .before .before .whole .given .0 .0) (c .before .before .before .before .before .before .before .whole .given .0 .1 .0) (sym (c .before .before .before .before .before .before .before .before .before .significand-of .ensures) ∙ c .before .before .before .before .before .before .before .whole .given .1) in
+    let small = power-small _ (c .before .shift2 .given .0 .0) (sym (c .before .before .before .power-of .ensures) ∙ c .before .shift2 .given .1) in
+    omega (arith, few .1)
+
+scaled-requires-3 : tie.Need-scaled-requires-3
+scaled-requires-3 c κs =
+    let s = c .before .before .before .before .before .before .before .before .before .before .before .before .before .args .text .now in
+    let p = c .before .before .before .before .before .before .before .before .before .before .before .place .result in
+    let e = c .before .before .before .before .before .before .before .before .before .before .before .place .ensures in
+    significand-small (take p s) (c .before .before .before .before .before .before .before .whole .given .0 .0) (c .before .before .before .before .before .before .before .whole .given .0 .1 .0) (sym (c .before .before .before .before .before .before .before .before .before .significand-of .ensures) ∙ c .before .before .before .before .before .before .before .whole .given .1) .0
+
+enum-told-2 : tie.Need-enum-told-2
+enum-told-2 c = search needs
+
+returns-3 : tie.Need-returns-3
+returns-3 c =
+    let s = c .before .before .before .before .before .before .before .before .before .before .before .before .before .before .args .text .now in
+    let p = c .before .before .before .before .before .before .before .before .before .before .before .before .place .result in
+    let e = c .before .before .before .before .before .before .before .before .before .before .before .before .place .ensures in
+    rw (size-powered (c .before .before .before .before .before .before .before .before .before .before .before .before .before .before .args .minus) s p e (c .before .before .before .before .before .before .if1 .left), sym (c .before .before .before .before .before .before .before .before .before .before .significand-of .ensures) ∙ c .before .before .before .before .before .before .before .before .whole .given .1, powered s p (sym (c .before .before .before .before .power-of .ensures) ∙ c .before .before .shift .given .1)) (c .scaled2 .ensures)
+
+returns-4 : tie.Need-returns-4
+returns-4 c =
+    let s = c .before .before .before .before .before .before .before .before .before .before .before .before .before .before .args .text .now in
+    let p = c .before .before .before .before .before .before .before .before .before .before .before .before .place .result in
+    let e = c .before .before .before .before .before .before .before .before .before .before .before .before .place .ensures in
+    rw (size-powered (c .before .before .before .before .before .before .before .before .before .before .before .before .before .before .args .minus) s p e (c .before .before .before .before .before .before .if1 .left), sym (c .before .before .before .before .before .before .before .before .before .before .significand-of .ensures) ∙ c .before .before .before .before .before .before .before .before .whole .given .1, powered s p (sym (c .before .before .before .before .power-of .ensures) ∙ c .before .before .shift2 .given .1)) (c .scaled3 .ensures)
+
+returns-5 : tie.Need-returns-5
+returns-5 c =
+    let s = c .before .before .before .before .before .before .before .before .before .before .before .before .args .text .now in
+    let p = c .before .before .before .before .before .before .before .before .before .before .place .result in
+    let e = c .before .before .before .before .before .before .before .before .before .before .place .ensures in
+    rw (size-powered (c .before .before .before .before .before .before .before .before .before .before .before .before .args .minus) s p e (c .before .before .before .before .if1 .left), sym (c .before .before .before .before .before .before .before .before .significand-of .ensures) ∙ c .before .before .before .before .before .before .whole .given .1, powered s p (sym (c .before .before .power-of .ensures) ∙ c .enum-told2 .given .1))
+
+pub sized-spec : {M : Type 1} → statement M
+sized-spec =
+    tie.close
+    (tie.spec
+    place-requires
+    slice-aggregate-significand-of
+    significand-of-requires
+    enum-known-whole
+    enum-told
+    returns
+    scaled-requires
+    returns-2
+    add-power-of
+    sub-power-of
+    part-power-of-start
+    part-power-of-end
+    power-of-requires
+    enum-known-shift
+    scaled-requires-2
+    enum-known-shift-2
+    add-scaled
+    scaled-requires-3
+    enum-told-2
+    returns-3
+    returns-4
+    returns-5)

@@ -1,0 +1,20 @@
+-- `job::command::shift_phase` meets its contract. Assumes nothing.
+use borrow.Author.Needs.{needs}
+use Rattle.job.proofs.command.shift_phase.Statement.{statement}
+use Rattle.job.proofs.command.shift_phase.Tie as tie
+
+enum-known-t : tie.Need-enum-known-t
+enum-known-t c = search needs
+
+enum-told : tie.Need-enum-told
+enum-told c = search needs
+
+returns : tie.Need-returns
+returns c =
+    rw (c .before .t .given .1)
+
+returns-2 : tie.Need-returns-2
+returns-2 c = search needs
+
+pub shift-phase-spec : {M : Type 1} → statement M
+shift-phase-spec = tie.close (tie.spec enum-known-t enum-told returns returns-2)

@@ -1,0 +1,139 @@
+-- `job::list::list_line` meets its contract. Assumes nothing.
+use mathlib.Core.Path.{sym, ap, _∙_}
+use Rattle.job.specs.List.{iirBy, firBy, listOf}
+use borrow.Author.Needs.{needs}
+use Rattle.job.proofs.list.list_line.Statement.{statement}
+use Rattle.job.proofs.list.list_line.Tie as tie
+
+slice-aggregate-is-word : tie.Need-slice-aggregate-is-word
+slice-aggregate-is-word c = search needs
+
+is-word-requires : tie.Need-is-word-requires
+is-word-requires c κs = search needs
+
+iq-requires : tie.Need-iq-requires
+iq-requires c κs = search needs
+
+returns : tie.Need-returns
+unfolding listOf
+returns c =
+    rw (sym (c .before .before .is-word .ensures) ∙ c .before .if1 .taken) (c .iq .ensures)
+
+slice-aggregate-is-word-2 : tie.Need-slice-aggregate-is-word-2
+slice-aggregate-is-word-2 c = search needs
+
+is-word-requires-2 : tie.Need-is-word-requires-2
+is-word-requires-2 c κs = search needs
+
+offset-requires : tie.Need-offset-requires
+offset-requires c κs = search needs
+
+returns-2 : tie.Need-returns-2
+unfolding listOf
+returns-2 c =
+    rw (
+      sym (c .before .before .before .before .before .is-word .ensures) ∙ c .before .before .before .before .if1 .left,
+      sym (c .before .before .is-word2 .ensures) ∙ c .before .if2 .taken,
+    ) (c .offset .ensures)
+
+slice-aggregate-is-word-3 : tie.Need-slice-aggregate-is-word-3
+slice-aggregate-is-word-3 c = search needs
+
+is-word-requires-3 : tie.Need-is-word-requires-3
+is-word-requires-3 c κs = search needs
+
+counted-requires : tie.Need-counted-requires
+counted-requires c κs = search needs
+
+iir-requires : tie.Need-iir-requires
+iir-requires c κs = search needs
+
+returns-3 : tie.Need-returns-3
+unfolding listOf
+returns-3 c =
+    rw (
+      sym (c .before .before .before .before .before .before .before .before .before .is-word .ensures) ∙ c .before .before .before .before .before .before .before .before .if1 .left,
+      sym (c .before .before .before .before .before .before .is-word2 .ensures) ∙ c .before .before .before .before .before .if2 .left,
+      sym (c .before .before .before .is-word3 .ensures) ∙ c .before .before .if3 .taken,
+    ) (c .iir .ensures ∙ ap iirBy (c .before .counted .ensures))
+
+slice-aggregate-is-word-4 : tie.Need-slice-aggregate-is-word-4
+slice-aggregate-is-word-4 c = search needs
+
+is-word-requires-4 : tie.Need-is-word-requires-4
+is-word-requires-4 c κs = search needs
+
+counted-requires-2 : tie.Need-counted-requires-2
+counted-requires-2 c κs = search needs
+
+fir-requires : tie.Need-fir-requires
+fir-requires c κs = search needs
+
+returns-4 : tie.Need-returns-4
+unfolding listOf
+returns-4 c =
+    rw (
+      sym (c .before .before .before .before .before .before .before .before .before .before .before .before .is-word .ensures) ∙ c .before .before .before .before .before .before .before .before .before .before .before .if1 .left,
+      sym (c .before .before .before .before .before .before .before .before .before .is-word2 .ensures) ∙ c .before .before .before .before .before .before .before .before .if2 .left,
+      sym (c .before .before .before .before .before .before .is-word3 .ensures) ∙ c .before .before .before .before .before .if3 .left,
+      sym (c .before .before .before .is-word4 .ensures) ∙ c .before .before .if4 .taken,
+    ) (c .fir .ensures ∙ ap firBy (c .before .counted2 .ensures))
+
+slice-aggregate-is-word-5 : tie.Need-slice-aggregate-is-word-5
+slice-aggregate-is-word-5 c = search needs
+
+is-word-requires-5 : tie.Need-is-word-requires-5
+is-word-requires-5 c κs = search needs
+
+crosstalk-requires : tie.Need-crosstalk-requires
+crosstalk-requires c κs = search needs
+
+returns-5 : tie.Need-returns-5
+unfolding listOf
+returns-5 c =
+    rw (
+      sym (c .before .before .before .before .before .before .before .before .before .before .before .before .before .before .is-word .ensures) ∙ c .before .before .before .before .before .before .before .before .before .before .before .before .before .if1 .left,
+      sym (c .before .before .before .before .before .before .before .before .before .before .before .is-word2 .ensures) ∙ c .before .before .before .before .before .before .before .before .before .before .if2 .left,
+      sym (c .before .before .before .before .before .before .before .before .is-word3 .ensures) ∙ c .before .before .before .before .before .before .before .if3 .left,
+      sym (c .before .before .before .before .before .is-word4 .ensures) ∙ c .before .before .before .before .if4 .left,
+      sym (c .before .before .is-word5 .ensures) ∙ c .before .if5 .taken,
+    ) (c .crosstalk .ensures)
+
+returns-6 : tie.Need-returns-6
+unfolding listOf
+returns-6 c =
+    rw (
+      sym (c .before .before .before .before .before .before .before .before .before .before .before .before .before .is-word .ensures) ∙ c .before .before .before .before .before .before .before .before .before .before .before .before .if1 .left,
+      sym (c .before .before .before .before .before .before .before .before .before .before .is-word2 .ensures) ∙ c .before .before .before .before .before .before .before .before .before .if2 .left,
+      sym (c .before .before .before .before .before .before .before .is-word3 .ensures) ∙ c .before .before .before .before .before .before .if3 .left,
+      sym (c .before .before .before .before .is-word4 .ensures) ∙ c .before .before .before .if4 .left,
+      sym (c .before .is-word5 .ensures) ∙ c .if5 .left,
+    )
+
+pub list-line-spec : {M : Type 1} → statement M
+list-line-spec =
+    tie.close
+    (tie.spec
+    slice-aggregate-is-word
+    is-word-requires
+    iq-requires
+    returns
+    slice-aggregate-is-word-2
+    is-word-requires-2
+    offset-requires
+    returns-2
+    slice-aggregate-is-word-3
+    is-word-requires-3
+    counted-requires
+    iir-requires
+    returns-3
+    slice-aggregate-is-word-4
+    is-word-requires-4
+    counted-requires-2
+    fir-requires
+    returns-4
+    slice-aggregate-is-word-5
+    is-word-requires-5
+    crosstalk-requires
+    returns-5
+    returns-6)

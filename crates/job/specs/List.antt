@@ -1,0 +1,80 @@
+-- The lines that are lists of names and numbers: "numbers as many as the count says". Definitions only.
+use Prim.Native.Nat.{ℕ, _+_, _-_, _*_}
+use mathlib.Core.Bool.{Bool, true, false, _&&_, not, cond}
+use mathlib.Core.List.{List, [], _∷_}
+use lib.Dec.{eqb, ltb}
+use lib.ListN.{length, drop}
+use Rattle.decimal.specs.Number.{numberOf}
+use Rattle.decimal.specs.declared.digits.Digits.{Digits}
+use Rattle.decimal.specs.declared.digits.Digits.the-variants as digits
+use Rattle.decimal.specs.declared.number.Number.{Number}
+use Rattle.decimal.specs.declared.number.Number.the-variants as number
+use Rattle.fields.specs.Value.{wholeField}
+use Rattle.fields.specs.Words.{isWord}
+use Rattle.job.specs.declared.line.Line.{Line}
+use Rattle.job.specs.declared.line.Line.the-variants.{Syntax, Crosstalk, Iq, Offset, Iir, Fir}
+use Rattle.job.specs.Given as given
+use Rattle.job.specs.Given.{word}
+use Rattle.job.specs.Keys.{crosstalkWord, iqWord, offsetWord, iirWord, firWord}
+
+-- ---- words that are numbers
+
+abbrev pub isNumber : Number → Bool
+isNumber (number.Double x) = true
+isNumber number.Bad = false
+
+unfoldable pub allNumbers : List (List ℕ) → Bool
+allNumbers [] = true
+allNumbers (w ∷ ws) = isNumber (numberOf w) && allNumbers ws
+
+-- from word k on
+unfoldable pub numbersFrom : ℕ → List (List ℕ) → Bool
+numbersFrom k words = allNumbers (drop k words)
+
+-- whether a word with so many left to pass over is to be a number and is none
+unfoldable pub stopsAt : ℕ → List ℕ → Bool
+stopsAt left w = cond (ltb 0 left) false (not (isNumber (numberOf w)))
+
+abbrev pub lessOf : ℕ → ℕ
+lessOf n = n - 1
+
+-- ---- the lines
+
+-- `iq N N N N`
+unfoldable pub iqOf : List (List ℕ) → Line
+iqOf words = cond (eqb (length words) 5) (cond (numbersFrom 1 words) Iq Syntax) Syntax
+
+-- `offset N..`
+unfoldable pub offsetOf : List (List ℕ) → Line
+offsetOf words = cond (numbersFrom 1 words) (Offset (length words - 1)) Syntax
+
+-- `WORD COUNT N..`: the count, if so many numbers stand behind it
+unfoldable pub countedOf : List (List ℕ) → Digits
+countedOf words =
+    cond (ltb (length words) 2) digits.Bad
+    (given.whole digits.Bad (wholeField [] (word words 1)) (λ n.
+    cond (eqb (length words - 2) n) (cond (numbersFrom 2 words) (digits.Value n) digits.Bad) digits.Bad))
+
+abbrev pub iirBy : Digits → Line
+iirBy (digits.Value n) = Iir n
+iirBy digits.Bad = Syntax
+
+abbrev pub firBy : Digits → Line
+firBy (digits.Value n) = Fir n
+firBy digits.Bad = Syntax
+
+-- `crosstalk N NAME.. FACTOR..`: N names, which may be any words, and N * N factors
+unfoldable pub crosstalkOf : List (List ℕ) → Line
+crosstalkOf words =
+    given.whole Syntax (wholeField [] (word words 1)) (λ n.
+    cond (ltb 511 n) Syntax
+    (cond (eqb (length words) (n * n + n + 2)) (cond (numbersFrom (n + 2) words) (Crosstalk n) Syntax) Syntax))
+
+unfoldable pub listOf : List (List ℕ) → Line
+listOf words =
+    cond (isWord iqWord (word words 0)) (iqOf words)
+    (cond (isWord offsetWord (word words 0)) (offsetOf words)
+    (cond (isWord iirWord (word words 0)) (iirBy (countedOf words))
+    (cond (isWord firWord (word words 0)) (firBy (countedOf words))
+    (cond (isWord crosstalkWord (word words 0)) (crosstalkOf words)
+    Syntax))))

@@ -1,0 +1,157 @@
+// The lines that are lists: names and numbers as many as a count says. A caller takes them from the line's words by `fields`.
+ghost use mathlib.Core.Path.{_≡_};
+ghost use Rattle.fields.specs.Words.{wordsOf};
+ghost use Rattle.job.specs.List.{listOf, iqOf, offsetOf, countedOf, iirBy, firBy, crosstalkOf, numbersFrom, stopsAt, lessOf};
+use super::line::Line;
+use decimal::digits::Digits;
+use decimal::digits::place;
+use decimal::number::Number;
+use fields::value::whole_in;
+use fields::words::count;
+use fields::words::is_word;
+
+pub(crate) fn list_line(line: &[u8]) -> Line
+    ensures { λ r. ⌜ r ≡ listOf (wordsOf (now (line .entry))) ⌝ }
+{
+    if is_word(line, 0, b"iq") {
+        return iq(line);
+    }
+    if is_word(line, 0, b"offset") {
+        return offset(line);
+    }
+    if is_word(line, 0, b"iir") {
+        return iir(counted(line));
+    }
+    if is_word(line, 0, b"fir") {
+        return fir(counted(line));
+    }
+    if is_word(line, 0, b"crosstalk") {
+        return crosstalk(line);
+    }
+    Line::Syntax
+}
+
+// `iq N N N N`.
+fn iq(line: &[u8]) -> Line
+    ensures { λ r. ⌜ r ≡ iqOf (wordsOf (now (line .entry))) ⌝ }
+{
+    if count(line) != 5 {
+        return Line::Syntax;
+    }
+    if !all_numbers(line, 1) {
+        return Line::Syntax;
+    }
+    Line::Iq
+}
+
+// `offset N..`.
+fn offset(line: &[u8]) -> Line
+    ensures { λ r. ⌜ r ≡ offsetOf (wordsOf (now (line .entry))) ⌝ }
+{
+    if !all_numbers(line, 1) {
+        return Line::Syntax;
+    }
+    Line::Offset(count(line) - 1)
+}
+
+fn iir(count: Digits) -> Line
+    ensures { λ r. ⌜ r ≡ iirBy count ⌝ }
+{
+    match count {
+        Digits::Value(n) => Line::Iir(n),
+        Digits::Bad => Line::Syntax,
+    }
+}
+
+fn fir(count: Digits) -> Line
+    ensures { λ r. ⌜ r ≡ firBy count ⌝ }
+{
+    match count {
+        Digits::Value(n) => Line::Fir(n),
+        Digits::Bad => Line::Syntax,
+    }
+}
+
+// `WORD COUNT N..`: the count, if so many numbers stand behind it.
+fn counted(line: &[u8]) -> Digits
+    ensures { λ r. ⌜ r ≡ countedOf (wordsOf (now (line .entry))) ⌝ }
+{
+    if count(line) < 2 {
+        return Digits::Bad;
+    }
+    let said = whole_in(line, 1, b"");
+    let Digits::Value(n) = said else {
+        return Digits::Bad;
+    };
+    if (count(line) - 2) as u64 != n {
+        return Digits::Bad;
+    }
+    if !all_numbers(line, 2) {
+        return Digits::Bad;
+    }
+    Digits::Value(n)
+}
+
+// `crosstalk N NAME.. FACTOR..`. More than 511 names have more factors than a job has bytes.
+fn crosstalk(line: &[u8]) -> Line
+    ensures { λ r. ⌜ r ≡ crosstalkOf (wordsOf (now (line .entry))) ⌝ }
+{
+    let said = whole_in(line, 1, b"");
+    let Digits::Value(n) = said else {
+        return Line::Syntax;
+    };
+    if 511 < n {
+        return Line::Syntax;
+    }
+    let names = n as usize;
+    if count(line) != names * names + names + 2 {
+        return Line::Syntax;
+    }
+    if !all_numbers(line, names + 2) {
+        return Line::Syntax;
+    }
+    Line::Crosstalk(n)
+}
+
+// Whether every word from word k on is a number.
+pub fn all_numbers(line: &[u8], k: usize) -> bool
+    ensures { λ r. ⌜ r ≡ numbersFrom k (wordsOf (now (line .entry))) ⌝ }
+{
+    let mut at: usize = 0;
+    let mut left = k;
+    while at <= line.len() {
+        let end = at + place(&line[at..], b' ');
+        if stops(left, &line[at..end]) {
+            return false;
+        }
+        if end == line.len() {
+            return true;
+        }
+        at = end + 1;
+        left = less(left);
+    }
+    true
+}
+
+// Whether a word is to be a number, since none is left to pass over, and is none.
+fn stops(left: usize, word: &[u8]) -> bool
+    ensures { λ r. ⌜ r ≡ stopsAt left (now (word .entry)) ⌝ }
+{
+    if 0 < left {
+        return false;
+    }
+    let number = decimal::number::read(word);
+    match number {
+        Number::Double(_) => false,
+        Number::Bad => true,
+    }
+}
+
+fn less(n: usize) -> usize
+    ensures { λ r. ⌜ r ≡ lessOf n ⌝ }
+{
+    if n < 1 {
+        return 0;
+    }
+    n - 1
+}
