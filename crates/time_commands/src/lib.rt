@@ -1,5 +1,7 @@
 // The command call to be timed: `compare/bench` lends the words and the numbers of 1,024 commands and asks for so many runs.
+ghost use mathlib.Core.Path.{_≡_};
 ghost use Prim.Native.Nat.{_<_};
+ghost use lib.ListN.{length};
 use commands::command::Arranged;
 use commands::command::Command;
 use commands::command::Play;
@@ -24,7 +26,10 @@ pub extern "C" fn skierralu_time_commands(
     numbers: &[f64],
     count: usize,
     rounds: usize,
-) -> usize {
+) -> usize
+    ensures { λ r. ⌜ ((length (now (words .entry)) ≡ 9216 → ⊥) → r ≡ 0) ⌝ }
+    ensures { λ r. ⌜ (rounds ≡ 0 → r ≡ 0) ⌝ }
+{
     if words.len() != 9216 {
         return 0;
     }
