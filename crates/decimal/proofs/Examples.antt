@@ -30,6 +30,7 @@ unfolding numberOf decimalOf sizeOf significandOf parted placeOf digitsFrom isFi
 are-read = refl
 
 -- ``, `1e23`, `1e`, `.`, `12345678901234567e1`
-pub are-not : map numberOf (([]) ∷ (49 ∷ 101 ∷ 50 ∷ 51 ∷ []) ∷ (49 ∷ 101 ∷ []) ∷ (46 ∷ []) ∷ (49 ∷ 50 ∷ 51 ∷ 52 ∷ 53 ∷ 54 ∷ 55 ∷ 56 ∷ 57 ∷ 48 ∷ 49 ∷ 50 ∷ 51 ∷ 52 ∷ 53 ∷ 54 ∷ 55 ∷ 101 ∷ 49 ∷ []) ∷ []) ≡ Bad ∷ Bad ∷ Bad ∷ Bad ∷ Bad ∷ []
+pub are-not : map numberOf (([]) ∷ (49 ∷ 101 ∷ 50 ∷ 51 ∷ []) ∷ (49 ∷ 101 ∷ []) ∷ (46 ∷ []) ∷
+    (49 ∷ 50 ∷ 51 ∷ 52 ∷ 53 ∷ 54 ∷ 55 ∷ 56 ∷ 57 ∷ 48 ∷ 49 ∷ 50 ∷ 51 ∷ 52 ∷ 53 ∷ 54 ∷ 55 ∷ 101 ∷ 49 ∷ []) ∷ []) ≡ Bad ∷ Bad ∷ Bad ∷ Bad ∷ Bad ∷ []
 unfolding numberOf decimalOf sizeOf significandOf parted placeOf digitsFrom isFigure powerOf digitsOf scaledBy ofBits round wordAt room field allDigits number digitValue
 are-not = refl

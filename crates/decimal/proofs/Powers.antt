@@ -4,7 +4,8 @@ use Prim.Native.Nat.{ℕ, zero, suc, _+_, _-_, _*_, _^_, _≤_, _<_}
 use mathlib.Core.Path.{_≡_, refl, sym, ap, _∙_}
 use mathlib.Core.Bool.{Bool, true, false}
 use native.Mathlib.Omega.{arith}
-use native.Mathlib.Nat.{lt-of-lt-of-le, lt-of-le-of-lt, mul-assoc, mul-comm, mul-one, mul-pos, mul-mul-mul-comm, mul-left-comm, one-mul, one-le-pow, lt-irrefl, zero-mul, zero-lt-suc, pow-le-pow-right, pow-succ'}
+use native.Mathlib.Nat.{lt-of-lt-of-le, lt-of-le-of-lt, mul-assoc, mul-comm, mul-one, mul-pos, mul-mul-mul-comm}
+use native.Mathlib.Nat.{mul-left-comm, one-mul, one-le-pow, lt-irrefl, zero-mul, zero-lt-suc, pow-le-pow-right, pow-succ'}
 use borrow.Author.Tests.{ne-eqb}
 use lib.Dec.{lit<, lit≤}
 use lib.Pow.{pow-add, pow-mono, shl-lt}

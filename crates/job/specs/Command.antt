@@ -15,7 +15,8 @@ use Rattle.job.specs.declared.turn.Turn.{Turn}
 use Rattle.job.specs.declared.turn.Turn.the-variants.{By, Bad}
 use Rattle.job.specs.Given as given
 use Rattle.job.specs.Given.{word}
-use Rattle.job.specs.Keys.{playWord, shiftPhaseWord, setPhaseWord, shiftFreqWord, setFreqWord, swapPhaseWord, barrierWord, chKey, shapeKey, ampKey, widthKey, plateauKey, dragKey, freqKey, phaseKey, flexKey, startKey, spanKey, aKey, bKey}
+use Rattle.job.specs.Keys.{playWord, shiftPhaseWord, setPhaseWord, shiftFreqWord, setFreqWord, swapPhaseWord, barrierWord, chKey, shapeKey, ampKey}
+use Rattle.job.specs.Keys.{widthKey, plateauKey, dragKey, freqKey, phaseKey, flexKey, startKey, spanKey, aKey, bKey}
 use Rattle.job.specs.List.{listOf}
 use Rattle.job.specs.Turn.{turnOf}
 

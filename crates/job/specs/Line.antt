@@ -12,7 +12,8 @@ use Rattle.job.specs.declared.line.Line.the-variants.{Nothing, Syntax, T
 use Rattle.job.specs.Command.{commandOf}
 use Rattle.job.specs.Given as given
 use Rattle.job.specs.Given.{word}
-use Rattle.job.specs.Keys.{tablesWord, channelWord, shapeWord, hannWord, runWord, statesWord, rowsWord, sampleWord, printWord, ampTolKey, timeTolKey, oversizeKey, baseKey, deltaKey, phaseKey, rateKey, delayKey, levelKey}
+use Rattle.job.specs.Keys.{tablesWord, channelWord, shapeWord, hannWord, runWord, statesWord, rowsWord, sampleWord, printWord}
+use Rattle.job.specs.Keys.{ampTolKey, timeTolKey, oversizeKey, baseKey, deltaKey, phaseKey, rateKey, delayKey, levelKey}
 
 -- `tables amp_tol=N time_tol=N oversize=0|1`
 unfoldable pub tablesOf : List (List ℕ) → Line

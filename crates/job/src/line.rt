@@ -32,7 +32,7 @@ pub struct Sampling {
     pub level: i32,
 }
 
-// The numbers of `Iq`, `Offset`, `Iir` and `Fir`, and the names and numbers of `Crosstalk`, are read from the line by `list`.
+// Lists are told by their counts; a caller takes their names and numbers from the line.
 pub enum Line {
     // An empty line, or one that begins with `#`.
     Nothing,

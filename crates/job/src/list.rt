@@ -1,4 +1,4 @@
-// The lines that are lists: names and numbers as many as a count says. A caller takes them from the line's words by `fields`.
+// The lines that are lists: names and numbers as many as a count says. A caller takes the names by `fields` and the numbers by `numbers`.
 ghost use mathlib.Core.Path.{_≡_};
 ghost use Rattle.fields.specs.Words.{wordsOf};
 ghost use Rattle.job.specs.List.{listOf, iqOf, offsetOf, countedOf, iirBy, firBy, crosstalkOf, numbersFrom, stopsAt, lessOf};

@@ -88,7 +88,8 @@ laid-next all out₀ out n x rest h laid =
       within = simp length-set (omega arith);
       same = simp length-set (laid .same);
       whole = rw (take-suc-set out n x h) (append-snoc (take n out) x rest ∙ laid .whole);
-      tail = drop-set-lt (suc n) out n x under ∙ sym (drop-drop 1 n out ∙ ap (λ (k : ℕ). drop k out) (add-one n)) ∙ ap (drop 1) (laid .tail) ∙ (drop-drop 1 n out₀ ∙ ap (λ (k : ℕ). drop k out₀) (add-one n));
+      tail = drop-set-lt (suc n) out n x under ∙ sym (drop-drop 1 n out ∙ ap (λ (k : ℕ). drop k out) (add-one n)) ∙ ap (drop 1)
+          (laid .tail) ∙ (drop-drop 1 n out₀ ∙ ap (λ (k : ℕ). drop k out₀) (add-one n));
     })
 
 module _ (line : List ℕ) (k : ℕ) (out₀ out : List Float) (n : ℕ) where

@@ -1,4 +1,4 @@
--- `numbers::begin` meets its contract. Assumes nothing.
+-- `numbers::begin` meets its contract. The invariant: the numbers from here on, with `left` words passed over, are those from word k on. Assumes nothing.
 use Prim.Native.Nat.{_-_, _≤_}
 use mathlib.Core.Path.{_≡_, refl}
 use native.Mathlib.Omega.{arith}
@@ -61,10 +61,15 @@ loop-less c = omega arith
 
 loop-again : tie.Need-loop-again Inv-loop μ-loop
 loop-again c =
-    let line = c .before .before .before .before .before .before .args .line .now in
-    let at = c .before .before .before .before .loop in
-    let p = c .before .place .result in
-    (omega (arith, end-within line (at .at) (at .left) p (at .inv .0) (c .before .place .ensures)), begun-on line (at .at) (at .left) p (at .inv .0) (c .before .place .ensures) (c .before .before .before .before .before .before .args .k) (omega arith) (at .inv .1) (c .if1 .left))
+    let c4 = c .before .before .before .before in
+    let c6 = c4 .before .before in
+    let line = c6 .args .line .now in
+    let at = c4 .loop in
+    let p = c .before .place .result in (
+      omega (arith, end-within line (at .at) (at .left) p (at .inv .0) (c .before .place .ensures)),
+      begun-on line (at .at) (at .left) p
+          (at .inv .0) (c .before .place .ensures) (c6 .args .k) (omega arith) (at .inv .1) (c .if1 .left),
+    )
 
 returns-2 : tie.Need-returns-2 Inv-loop μ-loop
 returns-2 c =

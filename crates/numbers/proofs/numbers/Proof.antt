@@ -1,4 +1,4 @@
--- `numbers::numbers` meets its contract. Assumes nothing.
+-- `numbers::numbers` meets its contract. The invariant: the numbers laid and those from here on make up all, and the rest of the buffer is as it came. Assumes nothing.
 use Prim.Native.Nat.{_+_, _-_, _≤_}
 use mathlib.Core.Path.{_≡_, sym, _∙_}
 use native.Mathlib.Omega.{arith}
@@ -24,7 +24,9 @@ begin-requires : tie.Need-begin-requires Inv-loop μ-loop
 begin-requires c κs = search needs
 
 loop-holds : tie.Need-loop-holds Inv-loop μ-loop
-loop-holds c = (c .begin .ensures .within, rw (c .begin .ensures .is) (laid-none (listed (c .before .before .before .args .line .now) (c .before .before .before .args .k)) (c .before .before .before .args .out .now)))
+loop-holds c =
+    let c3 = c .before .before .before in
+    (c .begin .ensures .within, rw (c .begin .ensures .is) (laid-none (listed (c3 .args .line .now) (c3 .args .k)) (c3 .args .out .now)))
 
 sub-place : tie.Need-sub-place Inv-loop μ-loop
 sub-place c = search needs
@@ -76,11 +78,15 @@ same-length c = search needs
 
 returns : tie.Need-returns Inv-loop μ-loop
 returns c =
-    let line = c .before .before .before .before .before .before .before .before .before .before .before .args .line .now in
-    let at = c .before .before .before .before .before .before .before .loop in
-    let p = c .before .before .before .before .place .result in
-    let none = number-none line (at .at) 0 p (at .inv .0) (c .before .before .before .before .place .ensures) (sym (c .before .before .read .ensures) ∙ c .enum-told .given .1) in
-    stored-all (c .before .before .before .before .before .before .before .before .before .before .before .args .line .now) (c .before .before .before .before .before .before .before .before .before .before .before .args .k) (c .before .before .before .before .before .before .before .before .before .before .before .args .out .now) (at .out) (at .n) (rw none at (at .inv .1))
+    let c2 = c .before .before in
+    let c4 = c2 .before .before in
+    let c7 = c4 .before .before .before in
+    let c11 = c7 .before .before .before .before in
+    let line = c11 .args .line .now in
+    let at = c7 .loop in
+    let p = c4 .place .result in
+    let none = number-none line (at .at) 0 p (at .inv .0) (c4 .place .ensures) (sym (c2 .read .ensures) ∙ c .enum-told .given .1) in
+    stored-all (c11 .args .line .now) (c11 .args .k) (c11 .args .out .now) (at .out) (at .n) (rw none at (at .inv .1))
 
 mul-out : tie.Need-mul-out Inv-loop μ-loop
 mul-out c = search needs
@@ -96,14 +102,19 @@ same-length-2 c = search needs
 
 returns-2 : tie.Need-returns-2 Inv-loop μ-loop
 returns-2 c =
-    let line = c .before .before .before .before .before .before .before .before .before .before .before .before .before .args .line .now in
-    let at = c .before .before .before .before .before .before .before .before .before .loop in
-    let p = c .before .before .before .before .before .before .place .result in
-    let x = c .before .before .number .given .0 .0 in
-    let is : numberOf (take (at .at + p - at .at) (drop (at .at) line)) ≡ Double x = sym (c .before .before .before .before .read .ensures) ∙ c .before .before .number .given .1 in
-    let one = number-last line (at .at) 0 p (at .inv .0) (c .before .before .before .before .before .before .place .ensures) x is (c .if1 .taken) in
-    stored-all (c .before .before .before .before .before .before .before .before .before .before .before .before .before .args .line .now) (c .before .before .before .before .before .before .before .before .before .before .before .before .before .args .k) (c .before .before .before .before .before .before .before .before .before .before .before .before .before .args .out .now) (set (at .out) (at .n) x) (at .n + 1)
-    (laid-next (listed line (c .before .before .before .before .before .before .before .before .before .before .before .before .before .args .k)) (c .before .before .before .before .before .before .before .before .before .before .before .before .before .args .out .now) (at .out) (at .n) x [] (omega arith) (rw one at (at .inv .1)))
+    let c2 = c .before .before in
+    let c4 = c2 .before .before in
+    let c6 = c4 .before .before in
+    let c9 = c6 .before .before .before in
+    let c13 = c9 .before .before .before .before in
+    let line = c13 .args .line .now in
+    let at = c9 .loop in
+    let p = c6 .place .result in
+    let x = c2 .number .given .0 .0 in
+    let is : numberOf (take (at .at + p - at .at) (drop (at .at) line)) ≡ Double x = sym (c4 .read .ensures) ∙ c2 .number .given .1 in
+    let one = number-last line (at .at) 0 p (at .inv .0) (c6 .place .ensures) x is (c .if1 .taken) in
+    stored-all (c13 .args .line .now) (c13 .args .k) (c13 .args .out .now) (set (at .out) (at .n) x) (at .n + 1)
+    (laid-next (listed line (c13 .args .k)) (c13 .args .out .now) (at .out) (at .n) x [] (omega arith) (rw one at (at .inv .1)))
 
 add-at : tie.Need-add-at Inv-loop μ-loop
 add-at c =
@@ -117,14 +128,19 @@ loop-less c = simp length-set (omega arith)
 
 loop-again : tie.Need-loop-again Inv-loop μ-loop
 loop-again c =
-    let line = c .before .before .before .before .before .before .before .before .before .before .before .before .before .args .line .now in
-    let at = c .before .before .before .before .before .before .before .before .before .loop in
-    let p = c .before .before .before .before .before .before .place .result in
-    let x = c .before .before .number .given .0 .0 in
-    let is : numberOf (take (at .at + p - at .at) (drop (at .at) line)) ≡ Double x = sym (c .before .before .before .before .read .ensures) ∙ c .before .before .number .given .1 in
-    let next = number-more line (at .at) 0 p (at .inv .0) (c .before .before .before .before .before .before .place .ensures) x is (c .if1 .left) in (
-      omega (arith, end-within line (at .at) 0 p (at .inv .0) (c .before .before .before .before .before .before .place .ensures)),
-      laid-next (listed line (c .before .before .before .before .before .before .before .before .before .before .before .before .before .args .k)) (c .before .before .before .before .before .before .before .before .before .before .before .before .before .args .out .now) (at .out) (at .n) x (numbersOf (wordsOf (drop (at .at + p + 1) line))) (omega arith) (rw next at (at .inv .1)),
+    let c2 = c .before .before in
+    let c4 = c2 .before .before in
+    let c6 = c4 .before .before in
+    let c9 = c6 .before .before .before in
+    let c13 = c9 .before .before .before .before in
+    let line = c13 .args .line .now in
+    let at = c9 .loop in
+    let p = c6 .place .result in
+    let x = c2 .number .given .0 .0 in
+    let is : numberOf (take (at .at + p - at .at) (drop (at .at) line)) ≡ Double x = sym (c4 .read .ensures) ∙ c2 .number .given .1 in
+    let next = number-more line (at .at) 0 p (at .inv .0) (c6 .place .ensures) x is (c .if1 .left) in (
+      omega (arith, end-within line (at .at) 0 p (at .inv .0) (c6 .place .ensures)),
+      laid-next (listed line (c13 .args .k)) (c13 .args .out .now) (at .out) (at .n) x (numbersOf (wordsOf (drop (at .at + p + 1) line))) (omega arith) (rw next at (at .inv .1)),
     )
 
 same-length-3 : tie.Need-same-length-3 Inv-loop μ-loop
@@ -132,8 +148,9 @@ same-length-3 c = search needs
 
 returns-3 : tie.Need-returns-3 Inv-loop μ-loop
 returns-3 c =
+    let c5 = c .before .before .before .before .before in
     let at = c .before .loop in
-    stored-full (c .before .before .before .before .before .args .line .now) (c .before .before .before .before .before .args .k) (c .before .before .before .before .before .args .out .now) (at .out) (at .n) (numbersOf (wordsOf (drop (at .at) (c .before .before .before .before .before .args .line .now)))) (omega arith) (at .inv .1)
+    stored-full (c5 .args .line .now) (c5 .args .k) (c5 .args .out .now) (at .out) (at .n) (numbersOf (wordsOf (drop (at .at) (c5 .args .line .now)))) (omega arith) (at .inv .1)
 
 pub numbers-spec : {M : Type 1} → statement M
 numbers-spec =

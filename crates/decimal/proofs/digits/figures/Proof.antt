@@ -1,4 +1,4 @@
--- `decimal::digits::figures` meets its contract. Assumes nothing.
+-- `decimal::digits::figures` meets its contract. The count decides; else the figures are followed from 0. Assumes nothing.
 use mathlib.Core.Path.{sym, _∙_}
 use native.Mathlib.Omega.{arith}
 use Rattle.decimal.proofs.Reading.{digits-none, digits-many, digits-are, few}

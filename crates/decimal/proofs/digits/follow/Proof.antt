@@ -1,4 +1,4 @@
--- `decimal::digits::follow` meets its contract. Assumes nothing.
+-- `decimal::digits::follow` meets its contract. The invariant: what is read from here on is what was to be read, and there is room for the figures left. Assumes nothing.
 use Prim.Native.Nat.{suc, _+_, _-_, _*_, _^_, _≤_}
 use mathlib.Core.Path.{_≡_, refl, sym, _∙_}
 use native.Mathlib.Omega.{arith}

@@ -1,4 +1,4 @@
--- `decimal::digits::place` meets its contract. Assumes nothing.
+-- `decimal::digits::place` meets its contract. The invariant: from here the byte stands where it stands from the start. Assumes nothing.
 use Prim.Native.Nat.{suc, _+_, _-_}
 use mathlib.Core.Path.{_≡_}
 use native.Mathlib.Omega.{arith}

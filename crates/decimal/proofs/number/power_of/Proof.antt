@@ -1,4 +1,4 @@
--- `decimal::number::power_of` meets its contract. Assumes nothing.
+-- `decimal::number::power_of` meets its contract. By the first byte. Assumes nothing.
 use mathlib.Core.Path.{sym}
 use native.Mathlib.Omega.{arith}
 use Rattle.decimal.proofs.Places.{rest-part}

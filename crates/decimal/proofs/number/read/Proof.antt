@@ -1,4 +1,4 @@
--- `decimal::number::read` meets its contract. Assumes nothing.
+-- `decimal::number::read` meets its contract. By the length, and then by what `hex` read. Assumes nothing.
 use mathlib.Core.Path.{sym, ap, _∙_}
 use borrow.Author.Tests.{eq-eqb, ne-eqb}
 use lib.ListN.{length}
@@ -35,8 +35,12 @@ decimal-requires-2 c κs = search needs
 returns-2 : tie.Need-returns-2
 unfolding numberOf
 returns-2 c =
-    let word = c .before .before .before .before .before .before .before .args .word .now in
-    rw (eq-eqb (length word) 16 (c .before .before .before .before .before .if1 .left), sym (c .before .before .before .before .read .ensures) ∙ c .before .before .bits .given .1) (ap Double (c .float-of .ensures))
+    let c2 = c .before .before in
+    let c4 = c2 .before .before in
+    let c5 = c4 .before in
+    let c7 = c5 .before .before in
+    let word = c7 .args .word .now in
+    rw (eq-eqb (length word) 16 (c5 .if1 .left), sym (c4 .read .ensures) ∙ c2 .bits .given .1) (ap Double (c .float-of .ensures))
 
 returns-3 : tie.Need-returns-3
 unfolding numberOf

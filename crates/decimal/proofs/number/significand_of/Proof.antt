@@ -1,4 +1,4 @@
--- `decimal::number::significand_of` meets its contract. Assumes nothing.
+-- `decimal::number::significand_of` meets its contract. The digits before the point, and from their number on those behind it. Assumes nothing.
 use mathlib.Core.Path.{sym, _∙_}
 use native.Mathlib.Omega.{arith}
 use Rattle.decimal.proofs.Cutting.{reach, front, cut-none, cut-many, room-first, room-second, cut-front, cut-back, cut-whole}
@@ -37,7 +37,10 @@ returns-2 c =
     sym (cut-many s p q e f (omega arith))
 
 slice-aggregate-follow : tie.Need-slice-aggregate-follow
-slice-aggregate-follow c = front 46 (c .before .before .before .before .before .before .args .text .now) (c .before .before .before .before .place .result) (c .before .before .before .before .place .ensures)
+slice-aggregate-follow c =
+    let c4 = c .before .before .before .before in
+    let c6 = c4 .before .before in
+    front 46 (c6 .args .text .now) (c4 .place .result) (c4 .place .ensures)
 
 follow-requires : tie.Need-follow-requires
 follow-requires c κs =
@@ -89,24 +92,37 @@ enum-told-2 c = search needs
 
 returns-4 : tie.Need-returns-4
 returns-4 c =
-    let s = c .before .before .before .before .before .before .before .before .before .before .before .before .before .before .args .text .now in
-    let p = c .before .before .before .before .before .before .before .before .before .before .before .before .place .result in
-    let q = c .before .before .before .before .before .before .before .before .before .before .before .behind .result in
-    let e = c .before .before .before .before .before .before .before .before .before .before .before .before .place .ensures in
-    let f = c .before .before .before .before .before .before .before .before .before .before .before .behind .ensures in
-    sym (cut-back s p q e f (omega arith) (omega arith) (c .before .before .before .before .before .whole .given .0 .0) (sym (c .before .before .before .before .before .before .before .follow .ensures) ∙ c .before .before .before .before .before .whole .given .1) (sym (c .before .before .follow2 .ensures) ∙ c .enum-told2 .given .1))
+    let c2 = c .before .before in
+    let c5 = c2 .before .before .before in
+    let c7 = c5 .before .before in
+    let c11 = c7 .before .before .before .before in
+    let c12 = c11 .before in
+    let c14 = c12 .before .before in
+    let s = c14 .args .text .now in
+    let p = c12 .place .result in
+    let q = c11 .behind .result in
+    let e = c12 .place .ensures in
+    let f = c11 .behind .ensures in
+    sym (cut-back s p q e f (omega arith) (omega arith) (c5 .whole .given .0 .0) (sym (c7 .follow .ensures) ∙ c5 .whole .given .1) (sym (c2 .follow2 .ensures) ∙ c .enum-told2 .given .1))
 
 sub-t9 : tie.Need-sub-t9
 sub-t9 c = search needs
 
 returns-5 : tie.Need-returns-5
 returns-5 c =
-    let s = c .before .before .before .before .before .before .before .before .before .before .before .before .before .before .before .args .text .now in
-    let p = c .before .before .before .before .before .before .before .before .before .before .before .before .before .place .result in
-    let q = c .before .before .before .before .before .before .before .before .before .before .before .before .behind .result in
-    let e = c .before .before .before .before .before .before .before .before .before .before .before .before .before .place .ensures in
-    let f = c .before .before .before .before .before .before .before .before .before .before .before .before .behind .ensures in
-    sym (cut-whole s p q e f (omega arith) (omega arith) (c .before .before .before .before .before .before .whole .given .0 .0) (sym (c .before .before .before .before .before .before .before .before .follow .ensures) ∙ c .before .before .before .before .before .before .whole .given .1) (c .before .all .given .0 .0) (sym (c .before .before .before .follow2 .ensures) ∙ c .before .all .given .1))
+    let c3 = c .before .before .before in
+    let c6 = c3 .before .before .before in
+    let c8 = c6 .before .before in
+    let c12 = c8 .before .before .before .before in
+    let c13 = c12 .before in
+    let c15 = c13 .before .before in
+    let s = c15 .args .text .now in
+    let p = c13 .place .result in
+    let q = c12 .behind .result in
+    let e = c13 .place .ensures in
+    let f = c12 .behind .ensures in
+    sym (cut-whole s p q e f (omega arith) (omega arith) (c6 .whole .given .0 .0) (sym (c8 .follow .ensures) ∙ c6 .whole .given .1)
+    (c .before .all .given .0 .0) (sym (c3 .follow2 .ensures) ∙ c .before .all .given .1))
 
 pub significand-of-spec : {M : Type 1} → statement M
 significand-of-spec =

@@ -1,4 +1,4 @@
--- `decimal::number::sized` meets its contract. Assumes nothing.
+-- `decimal::number::sized` meets its contract. The two sides of the `e`, by what each was read as. Assumes nothing.
 use Prim.Native.Nat.{ℕ, suc, _+_, _-_}
 use mathlib.Core.Path.{_≡_, sym, _∙_}
 use mathlib.Core.List.{List}
@@ -41,17 +41,25 @@ returns c =
 
 scaled-requires : tie.Need-scaled-requires
 scaled-requires c κs =
-    let s = c .before .before .before .before .before .before .before .before .args .text .now in
-    let p = c .before .before .before .before .before .before .place .result in
-    let e = c .before .before .before .before .before .before .place .ensures in
-    significand-small (take p s) (c .before .before .whole .given .0 .0) (c .before .before .whole .given .0 .1 .0) (sym (c .before .before .before .before .significand-of .ensures) ∙ c .before .before .whole .given .1) .0
+    let c2 = c .before .before in
+    let c4 = c2 .before .before in
+    let c6 = c4 .before .before in
+    let c8 = c6 .before .before in
+    let s = c8 .args .text .now in
+    let p = c6 .place .result in
+    let e = c6 .place .ensures in
+    significand-small (take p s) (c2 .whole .given .0 .0) (c2 .whole .given .0 .1 .0) (sym (c4 .significand-of .ensures) ∙ c2 .whole .given .1) .0
 
 returns-2 : tie.Need-returns-2
 returns-2 c =
-    let s = c .before .before .before .before .before .before .before .before .before .args .text .now in
-    let p = c .before .before .before .before .before .before .before .place .result in
-    let e = c .before .before .before .before .before .before .before .place .ensures in
-    rw (size-alone (c .before .before .before .before .before .before .before .before .before .args .minus) s p e (c .before .if1 .taken), sym (c .before .before .before .before .before .significand-of .ensures) ∙ c .before .before .before .whole .given .1) (c .scaled .ensures)
+    let c3 = c .before .before .before in
+    let c5 = c3 .before .before in
+    let c7 = c5 .before .before in
+    let c9 = c7 .before .before in
+    let s = c9 .args .text .now in
+    let p = c7 .place .result in
+    let e = c7 .place .ensures in
+    rw (size-alone (c9 .args .minus) s p e (c .before .if1 .taken), sym (c5 .significand-of .ensures) ∙ c3 .whole .given .1) (c .scaled .ensures)
 
 add-power-of : tie.Need-add-power-of
 add-power-of c =
@@ -85,53 +93,96 @@ enum-known-shift c = search needs
 
 scaled-requires-2 : tie.Need-scaled-requires-2
 scaled-requires-2 c κs =
-    let s = c .before .before .before .before .before .before .before .before .before .before .before .before .before .args .text .now in
-    let p = c .before .before .before .before .before .before .before .before .before .before .before .place .result in
-    let e = c .before .before .before .before .before .before .before .before .before .before .before .place .ensures in
-    significand-small (take p s) (c .before .before .before .before .before .before .before .whole .given .0 .0) (c .before .before .before .before .before .before .before .whole .given .0 .1 .0) (sym (c .before .before .before .before .before .before .before .before .before .significand-of .ensures) ∙ c .before .before .before .before .before .before .before .whole .given .1) .0
+    let c7 = c .before .before .before .before .before .before .before in
+    let c9 = c7 .before .before in
+    let c11 = c9 .before .before in
+    let c13 = c11 .before .before in
+    let s = c13 .args .text .now in
+    let p = c11 .place .result in
+    let e = c11 .place .ensures in
+    significand-small (take p s) (c7 .whole .given .0 .0) (c7 .whole .given .0 .1 .0) (sym (c9 .significand-of .ensures) ∙ c7 .whole .given .1) .0
 
 enum-known-shift-2 : tie.Need-enum-known-shift-2
 enum-known-shift-2 c = search needs
 
 add-scaled : tie.Need-add-scaled
 add-scaled c =
-    let s = c .before .before .before .before .before .before .before .before .before .before .before .before .before .args .text .now in
-    let p = c .before .before .before .before .before .before .before .before .before .before .before .place .result in
-    let e = c .before .before .before .before .before .before .before .before .before .before .before .place .ensures in
-    let few = significand-small (take p s) (c .before .before .before .before .before .before .before .whole .given .0 .0) (c .before .before .before .before .before .before .before .whole .given .0 .1 .0) (sym (c .before .before .before .before .before .before .before .before .before .significand-of .ensures) ∙ c .before .before .before .before .before .before .before .whole .given .1) in
-    let small = power-small _ (c .before .shift2 .given .0 .0) (sym (c .before .before .before .power-of .ensures) ∙ c .before .shift2 .given .1) in
+    let c3 = c .before .before .before in
+    let c7 = c3 .before .before .before .before in
+    let c9 = c7 .before .before in
+    let c11 = c9 .before .before in
+    let c13 = c11 .before .before in
+    let s = c13 .args .text .now in
+    let p = c11 .place .result in
+    let e = c11 .place .ensures in
+    let few = significand-small (take p s) (c7 .whole .given .0 .0) (c7 .whole .given .0 .1 .0) (sym (c9 .significand-of .ensures) ∙ c7 .whole .given .1) in
+    let small = power-small _ (c .before .shift2 .given .0 .0) (sym (c3 .power-of .ensures) ∙ c .before .shift2 .given .1) in
     omega (arith, few .1)
 
 scaled-requires-3 : tie.Need-scaled-requires-3
 scaled-requires-3 c κs =
-    let s = c .before .before .before .before .before .before .before .before .before .before .before .before .before .args .text .now in
-    let p = c .before .before .before .before .before .before .before .before .before .before .before .place .result in
-    let e = c .before .before .before .before .before .before .before .before .before .before .before .place .ensures in
-    significand-small (take p s) (c .before .before .before .before .before .before .before .whole .given .0 .0) (c .before .before .before .before .before .before .before .whole .given .0 .1 .0) (sym (c .before .before .before .before .before .before .before .before .before .significand-of .ensures) ∙ c .before .before .before .before .before .before .before .whole .given .1) .0
+    let c7 = c .before .before .before .before .before .before .before in
+    let c9 = c7 .before .before in
+    let c11 = c9 .before .before in
+    let c13 = c11 .before .before in
+    let s = c13 .args .text .now in
+    let p = c11 .place .result in
+    let e = c11 .place .ensures in
+    significand-small (take p s) (c7 .whole .given .0 .0) (c7 .whole .given .0 .1 .0) (sym (c9 .significand-of .ensures) ∙ c7 .whole .given .1) .0
 
 enum-told-2 : tie.Need-enum-told-2
 enum-told-2 c = search needs
 
 returns-3 : tie.Need-returns-3
 returns-3 c =
-    let s = c .before .before .before .before .before .before .before .before .before .before .before .before .before .before .args .text .now in
-    let p = c .before .before .before .before .before .before .before .before .before .before .before .before .place .result in
-    let e = c .before .before .before .before .before .before .before .before .before .before .before .before .place .ensures in
-    rw (size-powered (c .before .before .before .before .before .before .before .before .before .before .before .before .before .before .args .minus) s p e (c .before .before .before .before .before .before .if1 .left), sym (c .before .before .before .before .before .before .before .before .before .before .significand-of .ensures) ∙ c .before .before .before .before .before .before .before .before .whole .given .1, powered s p (sym (c .before .before .before .before .power-of .ensures) ∙ c .before .before .shift .given .1)) (c .scaled2 .ensures)
+    let c2 = c .before .before in
+    let c4 = c2 .before .before in
+    let c6 = c4 .before .before in
+    let c8 = c6 .before .before in
+    let c10 = c8 .before .before in
+    let c12 = c10 .before .before in
+    let c14 = c12 .before .before in
+    let s = c14 .args .text .now in
+    let p = c12 .place .result in
+    let e = c12 .place .ensures in
+    rw (
+      size-powered (c14 .args .minus) s p e (c6 .if1 .left),
+      sym (c10 .significand-of .ensures) ∙ c8 .whole .given .1,
+      powered s p (sym
+          (c4 .power-of .ensures) ∙ c2 .shift .given .1),
+    ) (c .scaled2 .ensures)
 
 returns-4 : tie.Need-returns-4
 returns-4 c =
-    let s = c .before .before .before .before .before .before .before .before .before .before .before .before .before .before .args .text .now in
-    let p = c .before .before .before .before .before .before .before .before .before .before .before .before .place .result in
-    let e = c .before .before .before .before .before .before .before .before .before .before .before .before .place .ensures in
-    rw (size-powered (c .before .before .before .before .before .before .before .before .before .before .before .before .before .before .args .minus) s p e (c .before .before .before .before .before .before .if1 .left), sym (c .before .before .before .before .before .before .before .before .before .before .significand-of .ensures) ∙ c .before .before .before .before .before .before .before .before .whole .given .1, powered s p (sym (c .before .before .before .before .power-of .ensures) ∙ c .before .before .shift2 .given .1)) (c .scaled3 .ensures)
+    let c2 = c .before .before in
+    let c4 = c2 .before .before in
+    let c6 = c4 .before .before in
+    let c8 = c6 .before .before in
+    let c10 = c8 .before .before in
+    let c12 = c10 .before .before in
+    let c14 = c12 .before .before in
+    let s = c14 .args .text .now in
+    let p = c12 .place .result in
+    let e = c12 .place .ensures in
+    rw (
+      size-powered (c14 .args .minus) s p e (c6 .if1 .left),
+      sym (c10 .significand-of .ensures) ∙ c8 .whole .given .1,
+      powered s p (sym
+          (c4 .power-of .ensures) ∙ c2 .shift2 .given .1),
+    ) (c .scaled3 .ensures)
 
 returns-5 : tie.Need-returns-5
 returns-5 c =
-    let s = c .before .before .before .before .before .before .before .before .before .before .before .before .args .text .now in
-    let p = c .before .before .before .before .before .before .before .before .before .before .place .result in
-    let e = c .before .before .before .before .before .before .before .before .before .before .place .ensures in
-    rw (size-powered (c .before .before .before .before .before .before .before .before .before .before .before .before .args .minus) s p e (c .before .before .before .before .if1 .left), sym (c .before .before .before .before .before .before .before .before .significand-of .ensures) ∙ c .before .before .before .before .before .before .whole .given .1, powered s p (sym (c .before .before .power-of .ensures) ∙ c .enum-told2 .given .1))
+    let c2 = c .before .before in
+    let c4 = c2 .before .before in
+    let c6 = c4 .before .before in
+    let c8 = c6 .before .before in
+    let c10 = c8 .before .before in
+    let c12 = c10 .before .before in
+    let s = c12 .args .text .now in
+    let p = c10 .place .result in
+    let e = c10 .place .ensures in
+    rw (size-powered (c12 .args .minus) s p e (c4 .if1 .left), sym (c8 .significand-of .ensures) ∙ c6 .whole .given .1, powered s p (sym (c2 .power-of .ensures) ∙ c .enum-told2 .given .1))
 
 pub sized-spec : {M : Type 1} → statement M
 sized-spec =

@@ -1,4 +1,4 @@
--- `decimal::print::pattern` meets its contract. Assumes nothing.
+-- `decimal::print::pattern` meets its contract. A NaN differs from itself; of any other double the bits may be taken. Assumes nothing.
 use mathlib.Core.Path.{sym, subst}
 use lib.Dec.{T}
 use lib.Ieee.{toBits}

@@ -1,4 +1,4 @@
--- `decimal::scale::scaled` meets its contract. Assumes nothing.
+-- `decimal::scale::scaled` meets its contract. One product or one quotient of two doubles that are exact. Assumes nothing.
 use Prim.Native.Nat.{_-_}
 use mathlib.Core.Path.{ap}
 use borrow.Author.Tests.{le-leb, lt-leb}

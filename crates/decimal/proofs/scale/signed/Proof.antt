@@ -1,4 +1,4 @@
--- `decimal::scale::signed` meets its contract. Assumes nothing.
+-- `decimal::scale::signed` meets its contract. A whole number below 10 ^ 15 is a double, and its opposite too. Assumes nothing.
 use Prim.Native.Nat.{_^_}
 use mathlib.Core.Bool.{false}
 use native.Mathlib.Nat.{le-of-lt, lt-of-lt-of-le}

@@ -1,4 +1,4 @@
--- `decimal::scale::ten_to` meets its contract. Assumes nothing.
+-- `decimal::scale::ten_to` meets its contract. The invariant: p is 10 ^ i exactly, since 5 ^ 22 is below 2 ^ 53. Assumes nothing.
 use Prim.Native.Nat.{_-_, _^_, _≤_}
 use mathlib.Core.Bool.{false}
 use mathlib.Core.Path.{_≡_}

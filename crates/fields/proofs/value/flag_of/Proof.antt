@@ -1,4 +1,4 @@
--- `fields::value::flag_of` meets its contract. Assumes nothing.
+-- `fields::value::flag_of` meets its contract. By the length, and then by the byte. Assumes nothing.
 use mathlib.Core.Path.{sym}
 use borrow.Author.Tests.{eq-eqb, ne-eqb}
 use Rattle.fields.proofs.Values.{flag-long, flag-one}

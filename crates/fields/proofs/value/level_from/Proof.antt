@@ -1,4 +1,4 @@
--- `fields::value::level_from` meets its contract. Assumes nothing.
+-- `fields::value::level_from` meets its contract. Nine digits fit an i32 on either side of 0. Assumes nothing.
 use mathlib.Core.Path.{sym, _∙_}
 use native.Mathlib.Omega.{arith}
 use Rattle.fields.proofs.Values.{level-fits, minus-fits, minus-is, plus-is, level-long, level-broken}
@@ -22,13 +22,19 @@ sub-t10 : tie.Need-sub-t10
 sub-t10 c = minus-fits _ (c .before .before .size .given .0 .0) (omega arith) (sym (c .before .before .before .before .figures .ensures) ∙ c .before .before .size .given .1)
 
 returns-2 : tie.Need-returns-2
-returns-2 c = rw (c .if2 .taken) (minus-is _ (c .before .before .size .given .0 .0) (omega arith) (sym (c .before .before .before .before .figures .ensures) ∙ c .before .before .size .given .1))
+returns-2 c =
+    let c2 = c .before .before in
+    let c4 = c2 .before .before in
+    rw (c .if2 .taken) (minus-is _ (c2 .size .given .0 .0) (omega arith) (sym (c4 .figures .ensures) ∙ c2 .size .given .1))
 
 enum-told : tie.Need-enum-told
 enum-told c = search needs
 
 returns-3 : tie.Need-returns-3
-returns-3 c = rw (c .if2 .left) (plus-is _ (c .before .before .size .given .0 .0) (omega arith) (sym (c .before .before .before .before .figures .ensures) ∙ c .before .before .size .given .1))
+returns-3 c =
+    let c2 = c .before .before in
+    let c4 = c2 .before .before in
+    rw (c .if2 .left) (plus-is _ (c2 .size .given .0 .0) (omega arith) (sym (c4 .figures .ensures) ∙ c2 .size .given .1))
 
 returns-4 : tie.Need-returns-4
 returns-4 c = sym (level-broken _ _ (omega arith) (sym (c .before .before .figures .ensures) ∙ c .enum-told .given .1))

@@ -1,4 +1,4 @@
--- `fields::value::name_of` meets its contract. Assumes nothing.
+-- `fields::value::name_of` meets its contract. By what `from_bytes` answers. Assumes nothing.
 use mathlib.Core.Path.{sym, _∙_}
 use Rattle.fields.specs.Value.{nameOf}
 use borrow.Author.Needs.{needs}

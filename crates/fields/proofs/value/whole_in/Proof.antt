@@ -1,4 +1,4 @@
--- `fields::value::whole_in` meets its contract. Assumes nothing.
+-- `fields::value::whole_in` meets its contract. By whether the value was found. Assumes nothing.
 use native.Mathlib.Omega.{arith}
 use Rattle.fields.proofs.Values.{found-none, found-value, found-inside}
 use Rattle.fields.specs.Value.{wholeField}
@@ -13,13 +13,34 @@ enum-known-value : tie.Need-enum-known-value
 enum-known-value c = search needs
 
 sub-figures : tie.Need-sub-figures
-sub-figures c = omega (arith, found-inside (c .before .before .before .before .before .before .args .line .now) (c .before .before .before .before .before .before .args .k) (c .before .before .before .before .before .before .args .key .now) (c .before .before .before .value-at .result) (c .before .before .before .value-at .ensures) (c .before .value .given .0 .0) (c .before .value .given .0 .1 .0) (c .before .value .given .1))
+sub-figures c =
+    let c3 = c .before .before .before in
+    let c6 = c3 .before .before .before in
+    omega (
+      arith,
+      found-inside (c6 .args .line .now) (c6 .args .k) (c6 .args .key .now) (c3 .value-at .result) (c3 .value-at .ensures)
+          (c .before .value .given .0 .0) (c .before .value .given .0 .1 .0) (c .before .value .given .1),
+    )
 
 part-figures-start : tie.Need-part-figures-start
-part-figures-start c = omega (arith, found-inside (c .before .before .before .before .before .before .args .line .now) (c .before .before .before .before .before .before .args .k) (c .before .before .before .before .before .before .args .key .now) (c .before .before .before .value-at .result) (c .before .before .before .value-at .ensures) (c .before .value .given .0 .0) (c .before .value .given .0 .1 .0) (c .before .value .given .1))
+part-figures-start c =
+    let c3 = c .before .before .before in
+    let c6 = c3 .before .before .before in
+    omega (
+      arith,
+      found-inside (c6 .args .line .now) (c6 .args .k) (c6 .args .key .now) (c3 .value-at .result) (c3 .value-at .ensures)
+          (c .before .value .given .0 .0) (c .before .value .given .0 .1 .0) (c .before .value .given .1),
+    )
 
 part-figures-end : tie.Need-part-figures-end
-part-figures-end c = omega (arith, found-inside (c .before .before .before .before .before .before .args .line .now) (c .before .before .before .before .before .before .args .k) (c .before .before .before .before .before .before .args .key .now) (c .before .before .before .value-at .result) (c .before .before .before .value-at .ensures) (c .before .value .given .0 .0) (c .before .value .given .0 .1 .0) (c .before .value .given .1))
+part-figures-end c =
+    let c3 = c .before .before .before in
+    let c6 = c3 .before .before .before in
+    omega (
+      arith,
+      found-inside (c6 .args .line .now) (c6 .args .k) (c6 .args .key .now) (c3 .value-at .result) (c3 .value-at .ensures)
+          (c .before .value .given .0 .0) (c .before .value .given .0 .1 .0) (c .before .value .given .1),
+    )
 
 figures-requires : tie.Need-figures-requires
 figures-requires c κs = search needs
@@ -29,11 +50,19 @@ enum-told c = search needs
 
 returns : tie.Need-returns
 unfolding wholeField
-returns c = rw (found-value (c .before .before .before .before .before .before .before .before .args .line .now) (c .before .before .before .before .before .before .before .before .args .k) (c .before .before .before .before .before .before .before .before .args .key .now) (c .before .before .before .before .before .value-at .result) (c .before .before .before .before .before .value-at .ensures) (c .before .before .before .value .given .0 .0) (c .before .before .before .value .given .0 .1 .0) (c .before .before .before .value .given .1)) (c .figures .ensures)
+returns c =
+    let c3 = c .before .before .before in
+    let c5 = c3 .before .before in
+    let c8 = c5 .before .before .before in
+    rw (found-value (c8 .args .line .now) (c8 .args .k) (c8 .args .key .now) (c5 .value-at .result) (c5 .value-at .ensures)
+    (c3 .value .given .0 .0) (c3 .value .given .0 .1 .0) (c3 .value .given .1)) (c .figures .ensures)
 
 returns-2 : tie.Need-returns-2
 unfolding wholeField
-returns-2 c = rw (found-none (c .before .before .before .before .before .args .line .now) (c .before .before .before .before .before .args .k) (c .before .before .before .before .before .args .key .now) (c .before .before .value-at .result) (c .before .before .value-at .ensures) (c .enum-told .given .1))
+returns-2 c =
+    let c2 = c .before .before in
+    let c5 = c2 .before .before .before in
+    rw (found-none (c5 .args .line .now) (c5 .args .k) (c5 .args .key .now) (c2 .value-at .result) (c2 .value-at .ensures) (c .enum-told .given .1))
 
 pub whole-in-spec : {M : Type 1} → statement M
 whole-in-spec =

@@ -1,4 +1,4 @@
--- `fields::words::blank` meets its contract. Assumes nothing.
+-- `fields::words::blank` meets its contract. By whether the byte is a blank. Assumes nothing.
 use borrow.Author.Tests.{eq-eqb, ne-eqb}
 use Rattle.fields.proofs.words.blank.Statement.{statement}
 use Rattle.fields.proofs.words.blank.Tie as tie

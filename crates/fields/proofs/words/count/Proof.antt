@@ -1,4 +1,4 @@
--- `fields::words::count` meets its contract. Assumes nothing.
+-- `fields::words::count` meets its contract. The invariant: the blanks so far and the words from here on make up the words of the line. Assumes nothing.
 use Prim.Native.Nat.{suc, _+_, _-_, _≤_}
 use mathlib.Core.Path.{_≡_}
 use native.Mathlib.Omega.{arith}

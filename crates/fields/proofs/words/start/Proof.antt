@@ -1,4 +1,4 @@
--- `fields::words::start` meets its contract. Assumes nothing.
+-- `fields::words::start` meets its contract. The invariant: the word that is `left` words on from here is word k. Assumes nothing.
 use Prim.Native.Nat.{_-_, _≤_}
 use mathlib.Core.Path.{_≡_, refl, sym, _∙_}
 use mathlib.Core.List.{[]}
@@ -47,10 +47,12 @@ returns c =
 
 add-at : tie.Need-add-at Inv-loop μ-loop
 add-at c =
-    let line = c .before .before .before .before .before .before .args .line .now in
-    let at = c .before .before .before .before .loop in
+    let c4 = c .before .before .before .before in
+    let c6 = c4 .before .before in
+    let line = c6 .args .line .now in
+    let at = c4 .loop in
     let p = c .before .place .result in
-    omega (arith, turn-goes line (c .before .before .before .before .before .before .args .k) (at .at) (at .left) p (at .inv .0) (c .before .place .ensures) (omega arith) (at .inv .1) (c .if1 .left) .0)
+    omega (arith, turn-goes line (c6 .args .k) (at .at) (at .left) p (at .inv .0) (c .before .place .ensures) (omega arith) (at .inv .1) (c .if1 .left) .0)
 
 sub-left : tie.Need-sub-left Inv-loop μ-loop
 sub-left c = search needs

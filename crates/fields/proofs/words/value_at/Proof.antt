@@ -1,4 +1,4 @@
--- `fields::words::value_at` meets its contract. Assumes nothing.
+-- `fields::words::value_at` meets its contract. The word that begins there, parted at the key. Assumes nothing.
 use native.Mathlib.Omega.{arith}
 use Rattle.fields.proofs.Splitting.{reaches, found-none, found-at}
 use borrow.Author.Needs.{needs}
@@ -45,20 +45,26 @@ starts-requires c κs = search needs
 
 returns : tie.Need-returns
 returns c =
-    let line = c .before .before .before .before .before .before .before .before .args .line .now in
-    let from = c .before .before .before .before .before .start .result in
-    let p = c .before .before .before .place .result in
-    found-none line (c .before .before .before .before .before .before .before .before .args .k) from p (c .before .before .before .before .before .start .ensures) (c .before .before .before .place .ensures) (c .before .before .before .before .before .before .before .before .args .key .now) (c .before .starts .result) (c .before .starts .ensures) (c .if1 .taken)
+    let c3 = c .before .before .before in
+    let c5 = c3 .before .before in
+    let c8 = c5 .before .before .before in
+    let line = c8 .args .line .now in
+    let from = c5 .start .result in
+    let p = c3 .place .result in
+    found-none line (c8 .args .k) from p (c5 .start .ensures) (c3 .place .ensures) (c8 .args .key .now) (c .before .starts .result) (c .before .starts .ensures) (c .if1 .taken)
 
 add-t6 : tie.Need-add-t6
 add-t6 c = search needs
 
 returns-2 : tie.Need-returns-2
 returns-2 c =
-    let line = c .before .before .before .before .before .before .before .before .args .line .now in
-    let from = c .before .before .before .before .before .start .result in
-    let p = c .before .before .before .place .result in
-    found-at line (c .before .before .before .before .before .before .before .before .args .k) from p (c .before .before .before .before .before .start .ensures) (c .before .before .before .place .ensures) (c .before .before .before .before .before .before .before .before .args .key .now) (c .before .starts .result) (c .before .starts .ensures) (c .if1 .left)
+    let c3 = c .before .before .before in
+    let c5 = c3 .before .before in
+    let c8 = c5 .before .before .before in
+    let line = c8 .args .line .now in
+    let from = c5 .start .result in
+    let p = c3 .place .result in
+    found-at line (c8 .args .k) from p (c5 .start .ensures) (c3 .place .ensures) (c8 .args .key .now) (c .before .starts .result) (c .before .starts .ensures) (c .if1 .left)
 
 pub value-at-spec : {M : Type 1} → statement M
 value-at-spec =

@@ -1,4 +1,4 @@
--- `job::command::barrier` meets its contract. Assumes nothing.
+-- `job::command::barrier` meets its contract. Field by field: each answer of a call picks the case of the definition. Assumes nothing.
 use mathlib.Core.Path.{sym, _∙_}
 use Rattle.job.specs.Command.{barrierOf}
 use Rattle.job.proofs.Counting.{differs, equals}

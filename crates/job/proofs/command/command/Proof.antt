@@ -1,4 +1,4 @@
--- `job::command::command` meets its contract. Assumes nothing.
+-- `job::command::command` meets its contract. By the first word. Assumes nothing.
 use mathlib.Core.Path.{sym, _∙_}
 use Rattle.job.specs.Command.{commandOf}
 use borrow.Author.Needs.{needs}

@@ -1,4 +1,4 @@
--- `job::command::play` meets its contract. Assumes nothing.
+-- `job::command::play` meets its contract. Field by field: each answer of a call picks the case of the definition. Assumes nothing.
 use mathlib.Core.Path.{sym, _∙_}
 use Rattle.job.specs.Command.{playOf}
 use Rattle.job.proofs.Counting.{differs, equals}
@@ -49,10 +49,15 @@ enum-told-2 c = search needs
 returns-3 : tie.Need-returns-3
 unfolding playOf
 returns-3 c =
+    let c2 = c .before .before in
+    let c5 = c2 .before .before .before in
+    let c7 = c5 .before .before in
+    let c9 = c7 .before .before in
+    let c10 = c9 .before in
     rw (
-      equals (c .before .before .before .before .before .before .before .before .before .before .count .ensures) (c .before .before .before .before .before .before .before .before .before .if1 .left),
-      sym (c .before .before .before .before .before .before .before .name-in .ensures) ∙ c .before .before .before .before .before .named .given .1,
-      sym (c .before .before .shape-in .ensures) ∙ c .enum-told2 .given .1,
+      equals (c10 .count .ensures) (c9 .if1 .left),
+      sym (c7 .name-in .ensures) ∙ c5 .named .given .1,
+      sym (c2 .shape-in .ensures) ∙ c .enum-told2 .given .1,
     )
 
 slice-aggregate-pair-in : tie.Need-slice-aggregate-pair-in
@@ -73,11 +78,18 @@ enum-told-3 c = search needs
 returns-4 : tie.Need-returns-4
 unfolding playOf
 returns-4 c =
+    let c2 = c .before .before in
+    let c6 = c2 .before .before .before .before in
+    let c8 = c6 .before .before in
+    let c11 = c8 .before .before .before in
+    let c13 = c11 .before .before in
+    let c15 = c13 .before .before in
+    let c16 = c15 .before in
     rw (
-      equals (c .before .before .before .before .before .before .before .before .before .before .before .before .before .before .before .before .count .ensures) (c .before .before .before .before .before .before .before .before .before .before .before .before .before .before .before .if1 .left),
-      sym (c .before .before .before .before .before .before .before .before .before .before .before .before .before .name-in .ensures) ∙ c .before .before .before .before .before .before .before .before .before .before .before .named .given .1,
-      sym (c .before .before .before .before .before .before .before .before .shape-in .ensures) ∙ c .before .before .before .before .before .before .form .given .1,
-      sym (c .before .before .pair-in .ensures) ∙ c .enum-told3 .given .1,
+      equals (c16 .count .ensures) (c15 .if1 .left),
+      sym (c13 .name-in .ensures) ∙ c11 .named .given .1,
+      sym (c8 .shape-in .ensures) ∙ c6 .form .given .1,
+      sym (c2 .pair-in .ensures) ∙ c .enum-told3 .given .1,
     )
 
 slice-aggregate-pair-in-3 : tie.Need-slice-aggregate-pair-in-3
@@ -98,12 +110,21 @@ enum-told-4 c = search needs
 returns-5 : tie.Need-returns-5
 unfolding playOf
 returns-5 c =
+    let c2 = c .before .before in
+    let c6 = c2 .before .before .before .before in
+    let c8 = c6 .before .before in
+    let c12 = c8 .before .before .before .before in
+    let c14 = c12 .before .before in
+    let c17 = c14 .before .before .before in
+    let c19 = c17 .before .before in
+    let c21 = c19 .before .before in
+    let c22 = c21 .before in
     rw (
-      equals (c .before .before .before .before .before .before .before .before .before .before .before .before .before .before .before .before .before .before .before .before .before .before .count .ensures) (c .before .before .before .before .before .before .before .before .before .before .before .before .before .before .before .before .before .before .before .before .before .if1 .left),
-      sym (c .before .before .before .before .before .before .before .before .before .before .before .before .before .before .before .before .before .before .before .name-in .ensures) ∙ c .before .before .before .before .before .before .before .before .before .before .before .before .before .before .before .before .before .named .given .1,
-      sym (c .before .before .before .before .before .before .before .before .before .before .before .before .before .before .shape-in .ensures) ∙ c .before .before .before .before .before .before .before .before .before .before .before .before .form .given .1,
-      sym (c .before .before .before .before .before .before .before .before .pair-in .ensures) ∙ c .before .before .before .before .before .before .sizes .given .1,
-      sym (c .before .before .pair-in2 .ensures) ∙ c .enum-told4 .given .1,
+      equals (c22 .count .ensures) (c21 .if1 .left),
+      sym (c19 .name-in .ensures) ∙ c17 .named .given .1,
+      sym (c14 .shape-in .ensures) ∙ c12 .form .given .1,
+      sym (c8 .pair-in .ensures) ∙ c6 .sizes .given .1,
+      sym (c2 .pair-in2 .ensures) ∙ c .enum-told4 .given .1,
     )
 
 slice-aggregate-pair-in-5 : tie.Need-slice-aggregate-pair-in-5
@@ -124,13 +145,24 @@ enum-told-5 c = search needs
 returns-6 : tie.Need-returns-6
 unfolding playOf
 returns-6 c =
+    let c2 = c .before .before in
+    let c6 = c2 .before .before .before .before in
+    let c8 = c6 .before .before in
+    let c12 = c8 .before .before .before .before in
+    let c14 = c12 .before .before in
+    let c18 = c14 .before .before .before .before in
+    let c20 = c18 .before .before in
+    let c23 = c20 .before .before .before in
+    let c25 = c23 .before .before in
+    let c27 = c25 .before .before in
+    let c28 = c27 .before in
     rw (
-      equals (c .before .before .before .before .before .before .before .before .before .before .before .before .before .before .before .before .before .before .before .before .before .before .before .before .before .before .before .before .count .ensures) (c .before .before .before .before .before .before .before .before .before .before .before .before .before .before .before .before .before .before .before .before .before .before .before .before .before .before .before .if1 .left),
-      sym (c .before .before .before .before .before .before .before .before .before .before .before .before .before .before .before .before .before .before .before .before .before .before .before .before .before .name-in .ensures) ∙ c .before .before .before .before .before .before .before .before .before .before .before .before .before .before .before .before .before .before .before .before .before .before .before .named .given .1,
-      sym (c .before .before .before .before .before .before .before .before .before .before .before .before .before .before .before .before .before .before .before .before .shape-in .ensures) ∙ c .before .before .before .before .before .before .before .before .before .before .before .before .before .before .before .before .before .before .form .given .1,
-      sym (c .before .before .before .before .before .before .before .before .before .before .before .before .before .before .pair-in .ensures) ∙ c .before .before .before .before .before .before .before .before .before .before .before .before .sizes .given .1,
-      sym (c .before .before .before .before .before .before .before .before .pair-in2 .ensures) ∙ c .before .before .before .before .before .before .rest .given .1,
-      sym (c .before .before .pair-in3 .ensures) ∙ c .enum-told5 .given .1,
+      equals (c28 .count .ensures) (c27 .if1 .left),
+      sym (c25 .name-in .ensures) ∙ c23 .named .given .1,
+      sym (c20 .shape-in .ensures) ∙ c18 .form .given .1,
+      sym (c14 .pair-in .ensures) ∙ c12 .sizes .given .1,
+      sym (c8 .pair-in2 .ensures) ∙ c6 .rest .given .1,
+      sym (c2 .pair-in3 .ensures) ∙ c .enum-told5 .given .1,
     )
 
 slice-aggregate-flag-in : tie.Need-slice-aggregate-flag-in
@@ -148,14 +180,27 @@ enum-told-6 c = search needs
 returns-7 : tie.Need-returns-7
 unfolding playOf
 returns-7 c =
+    let c2 = c .before .before in
+    let c5 = c2 .before .before .before in
+    let c7 = c5 .before .before in
+    let c11 = c7 .before .before .before .before in
+    let c13 = c11 .before .before in
+    let c17 = c13 .before .before .before .before in
+    let c19 = c17 .before .before in
+    let c23 = c19 .before .before .before .before in
+    let c25 = c23 .before .before in
+    let c28 = c25 .before .before .before in
+    let c30 = c28 .before .before in
+    let c32 = c30 .before .before in
+    let c33 = c32 .before in
     rw (
-      equals (c .before .before .before .before .before .before .before .before .before .before .before .before .before .before .before .before .before .before .before .before .before .before .before .before .before .before .before .before .before .before .before .before .before .count .ensures) (c .before .before .before .before .before .before .before .before .before .before .before .before .before .before .before .before .before .before .before .before .before .before .before .before .before .before .before .before .before .before .before .before .if1 .left),
-      sym (c .before .before .before .before .before .before .before .before .before .before .before .before .before .before .before .before .before .before .before .before .before .before .before .before .before .before .before .before .before .before .name-in .ensures) ∙ c .before .before .before .before .before .before .before .before .before .before .before .before .before .before .before .before .before .before .before .before .before .before .before .before .before .before .before .before .named .given .1,
-      sym (c .before .before .before .before .before .before .before .before .before .before .before .before .before .before .before .before .before .before .before .before .before .before .before .before .before .shape-in .ensures) ∙ c .before .before .before .before .before .before .before .before .before .before .before .before .before .before .before .before .before .before .before .before .before .before .before .form .given .1,
-      sym (c .before .before .before .before .before .before .before .before .before .before .before .before .before .before .before .before .before .before .before .pair-in .ensures) ∙ c .before .before .before .before .before .before .before .before .before .before .before .before .before .before .before .before .before .sizes .given .1,
-      sym (c .before .before .before .before .before .before .before .before .before .before .before .before .before .pair-in2 .ensures) ∙ c .before .before .before .before .before .before .before .before .before .before .before .rest .given .1,
-      sym (c .before .before .before .before .before .before .before .pair-in3 .ensures) ∙ c .before .before .before .before .before .own .given .1,
-      sym (c .before .before .flag-in .ensures) ∙ c .enum-told6 .given .1,
+      equals (c33 .count .ensures) (c32 .if1 .left),
+      sym (c30 .name-in .ensures) ∙ c28 .named .given .1,
+      sym (c25 .shape-in .ensures) ∙ c23 .form .given .1,
+      sym (c19 .pair-in .ensures) ∙ c17 .sizes .given .1,
+      sym (c13 .pair-in2 .ensures) ∙ c11 .rest .given .1,
+      sym (c7 .pair-in3 .ensures) ∙ c5 .own .given .1,
+      sym (c2 .flag-in .ensures) ∙ c .enum-told6 .given .1,
     )
 
 slice-aggregate-pair-in-7 : tie.Need-slice-aggregate-pair-in-7
@@ -176,29 +221,59 @@ enum-told-7 c = search needs
 returns-8 : tie.Need-returns-8
 unfolding playOf
 returns-8 c =
+    let c2 = c .before .before in
+    let c6 = c2 .before .before .before .before in
+    let c8 = c6 .before .before in
+    let c11 = c8 .before .before .before in
+    let c13 = c11 .before .before in
+    let c17 = c13 .before .before .before .before in
+    let c19 = c17 .before .before in
+    let c23 = c19 .before .before .before .before in
+    let c25 = c23 .before .before in
+    let c29 = c25 .before .before .before .before in
+    let c31 = c29 .before .before in
+    let c34 = c31 .before .before .before in
+    let c36 = c34 .before .before in
+    let c38 = c36 .before .before in
+    let c39 = c38 .before in
     rw (
-      equals (c .before .before .before .before .before .before .before .before .before .before .before .before .before .before .before .before .before .before .before .before .before .before .before .before .before .before .before .before .before .before .before .before .before .before .before .before .before .before .before .count .ensures) (c .before .before .before .before .before .before .before .before .before .before .before .before .before .before .before .before .before .before .before .before .before .before .before .before .before .before .before .before .before .before .before .before .before .before .before .before .before .before .if1 .left),
-      sym (c .before .before .before .before .before .before .before .before .before .before .before .before .before .before .before .before .before .before .before .before .before .before .before .before .before .before .before .before .before .before .before .before .before .before .before .before .name-in .ensures) ∙ c .before .before .before .before .before .before .before .before .before .before .before .before .before .before .before .before .before .before .before .before .before .before .before .before .before .before .before .before .before .before .before .before .before .before .named .given .1,
-      sym (c .before .before .before .before .before .before .before .before .before .before .before .before .before .before .before .before .before .before .before .before .before .before .before .before .before .before .before .before .before .before .before .shape-in .ensures) ∙ c .before .before .before .before .before .before .before .before .before .before .before .before .before .before .before .before .before .before .before .before .before .before .before .before .before .before .before .before .before .form .given .1,
-      sym (c .before .before .before .before .before .before .before .before .before .before .before .before .before .before .before .before .before .before .before .before .before .before .before .before .before .pair-in .ensures) ∙ c .before .before .before .before .before .before .before .before .before .before .before .before .before .before .before .before .before .before .before .before .before .before .before .sizes .given .1,
-      sym (c .before .before .before .before .before .before .before .before .before .before .before .before .before .before .before .before .before .before .before .pair-in2 .ensures) ∙ c .before .before .before .before .before .before .before .before .before .before .before .before .before .before .before .before .before .rest .given .1,
-      sym (c .before .before .before .before .before .before .before .before .before .before .before .before .before .pair-in3 .ensures) ∙ c .before .before .before .before .before .before .before .before .before .before .before .own .given .1,
-      sym (c .before .before .before .before .before .before .before .before .flag-in .ensures) ∙ c .before .before .before .before .before .before .flex .given .1,
-      sym (c .before .before .pair-in4 .ensures) ∙ c .enum-told7 .given .1,
+      equals (c39 .count .ensures) (c38 .if1 .left),
+      sym (c36 .name-in .ensures) ∙ c34 .named .given .1,
+      sym (c31 .shape-in .ensures) ∙ c29 .form .given .1,
+      sym (c25 .pair-in .ensures) ∙ c23 .sizes .given .1,
+      sym (c19 .pair-in2 .ensures) ∙ c17 .rest .given .1,
+      sym (c13 .pair-in3 .ensures) ∙ c11 .own .given .1,
+      sym (c8 .flag-in .ensures) ∙ c6 .flex .given .1,
+      sym (c2 .pair-in4 .ensures) ∙ c .enum-told7 .given .1,
     )
 
 returns-9 : tie.Need-returns-9
 unfolding playOf
 returns-9 c =
+    let c3 = c .before .before .before in
+    let c7 = c3 .before .before .before .before in
+    let c9 = c7 .before .before in
+    let c12 = c9 .before .before .before in
+    let c14 = c12 .before .before in
+    let c18 = c14 .before .before .before .before in
+    let c20 = c18 .before .before in
+    let c24 = c20 .before .before .before .before in
+    let c26 = c24 .before .before in
+    let c30 = c26 .before .before .before .before in
+    let c32 = c30 .before .before in
+    let c35 = c32 .before .before .before in
+    let c37 = c35 .before .before in
+    let c39 = c37 .before .before in
+    let c40 = c39 .before in
     rw (
-      equals (c .before .before .before .before .before .before .before .before .before .before .before .before .before .before .before .before .before .before .before .before .before .before .before .before .before .before .before .before .before .before .before .before .before .before .before .before .before .before .before .before .count .ensures) (c .before .before .before .before .before .before .before .before .before .before .before .before .before .before .before .before .before .before .before .before .before .before .before .before .before .before .before .before .before .before .before .before .before .before .before .before .before .before .before .if1 .left),
-      sym (c .before .before .before .before .before .before .before .before .before .before .before .before .before .before .before .before .before .before .before .before .before .before .before .before .before .before .before .before .before .before .before .before .before .before .before .before .before .name-in .ensures) ∙ c .before .before .before .before .before .before .before .before .before .before .before .before .before .before .before .before .before .before .before .before .before .before .before .before .before .before .before .before .before .before .before .before .before .before .before .named .given .1,
-      sym (c .before .before .before .before .before .before .before .before .before .before .before .before .before .before .before .before .before .before .before .before .before .before .before .before .before .before .before .before .before .before .before .before .shape-in .ensures) ∙ c .before .before .before .before .before .before .before .before .before .before .before .before .before .before .before .before .before .before .before .before .before .before .before .before .before .before .before .before .before .before .form .given .1,
-      sym (c .before .before .before .before .before .before .before .before .before .before .before .before .before .before .before .before .before .before .before .before .before .before .before .before .before .before .pair-in .ensures) ∙ c .before .before .before .before .before .before .before .before .before .before .before .before .before .before .before .before .before .before .before .before .before .before .before .before .sizes .given .1,
-      sym (c .before .before .before .before .before .before .before .before .before .before .before .before .before .before .before .before .before .before .before .before .pair-in2 .ensures) ∙ c .before .before .before .before .before .before .before .before .before .before .before .before .before .before .before .before .before .before .rest .given .1,
-      sym (c .before .before .before .before .before .before .before .before .before .before .before .before .before .before .pair-in3 .ensures) ∙ c .before .before .before .before .before .before .before .before .before .before .before .before .own .given .1,
-      sym (c .before .before .before .before .before .before .before .before .before .flag-in .ensures) ∙ c .before .before .before .before .before .before .before .flex .given .1,
-      sym (c .before .before .before .pair-in4 .ensures) ∙ c .before .times .given .1,
+      equals (c40 .count .ensures) (c39 .if1 .left),
+      sym (c37 .name-in .ensures) ∙ c35 .named .given .1,
+      sym (c32 .shape-in .ensures) ∙ c30 .form .given .1,
+      sym (c26 .pair-in .ensures) ∙ c24 .sizes .given .1,
+      sym (c20 .pair-in2 .ensures) ∙ c18 .rest .given .1,
+      sym (c14 .pair-in3 .ensures) ∙ c12 .own .given .1,
+      sym (c9 .flag-in .ensures) ∙ c7 .flex .given .1,
+      sym (c3 .pair-in4 .ensures) ∙ c .before .times .given .1,
     )
 
 pub play-spec : {M : Type 1} → statement M

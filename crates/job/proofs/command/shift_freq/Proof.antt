@@ -1,4 +1,4 @@
--- `job::command::shift_freq` meets its contract. Assumes nothing.
+-- `job::command::shift_freq` meets its contract. Field by field: each answer of a call picks the case of the definition. Assumes nothing.
 use borrow.Author.Needs.{needs}
 use Rattle.job.proofs.command.shift_freq.Statement.{statement}
 use Rattle.job.proofs.command.shift_freq.Tie as tie

@@ -1,4 +1,4 @@
--- `job::command::shift_phase` meets its contract. Assumes nothing.
+-- `job::command::shift_phase` meets its contract. Field by field: each answer of a call picks the case of the definition. Assumes nothing.
 use borrow.Author.Needs.{needs}
 use Rattle.job.proofs.command.shift_phase.Statement.{statement}
 use Rattle.job.proofs.command.shift_phase.Tie as tie

@@ -1,4 +1,4 @@
--- `job::command::step` meets its contract. Assumes nothing.
+-- `job::command::step` meets its contract. By the first word. Assumes nothing.
 use mathlib.Core.Path.{sym, ap, _∙_}
 use Rattle.job.specs.Command.{shiftPhaseBy, setPhaseBy, shiftFreqBy, setFreqBy, stepOf}
 use borrow.Author.Needs.{needs}
@@ -66,10 +66,16 @@ shift-freq-requires c κs = search needs
 returns-3 : tie.Need-returns-3
 unfolding stepOf
 returns-3 c =
+    let c3 = c .before .before .before in
+    let c4 = c3 .before in
+    let c6 = c4 .before .before in
+    let c7 = c6 .before in
+    let c9 = c7 .before .before in
+    let c10 = c9 .before in
     rw (
-      sym (c .before .before .before .before .before .before .before .before .before .before .is-word .ensures) ∙ c .before .before .before .before .before .before .before .before .before .if1 .left,
-      sym (c .before .before .before .before .before .before .before .is-word2 .ensures) ∙ c .before .before .before .before .before .before .if2 .left,
-      sym (c .before .before .before .before .is-word3 .ensures) ∙ c .before .before .before .if3 .taken,
+      sym (c10 .is-word .ensures) ∙ c9 .if1 .left,
+      sym (c7 .is-word2 .ensures) ∙ c6 .if2 .left,
+      sym (c4 .is-word3 .ensures) ∙ c3 .if3 .taken,
     ) (c .shift-freq .ensures ∙ ap shiftFreqBy (c .before .turn-by3 .ensures))
 
 slice-aggregate-is-word-4 : tie.Need-slice-aggregate-is-word-4
@@ -90,11 +96,19 @@ set-freq-requires c κs = search needs
 returns-4 : tie.Need-returns-4
 unfolding stepOf
 returns-4 c =
+    let c3 = c .before .before .before in
+    let c4 = c3 .before in
+    let c6 = c4 .before .before in
+    let c7 = c6 .before in
+    let c9 = c7 .before .before in
+    let c10 = c9 .before in
+    let c12 = c10 .before .before in
+    let c13 = c12 .before in
     rw (
-      sym (c .before .before .before .before .before .before .before .before .before .before .before .before .before .is-word .ensures) ∙ c .before .before .before .before .before .before .before .before .before .before .before .before .if1 .left,
-      sym (c .before .before .before .before .before .before .before .before .before .before .is-word2 .ensures) ∙ c .before .before .before .before .before .before .before .before .before .if2 .left,
-      sym (c .before .before .before .before .before .before .before .is-word3 .ensures) ∙ c .before .before .before .before .before .before .if3 .left,
-      sym (c .before .before .before .before .is-word4 .ensures) ∙ c .before .before .before .if4 .taken,
+      sym (c13 .is-word .ensures) ∙ c12 .if1 .left,
+      sym (c10 .is-word2 .ensures) ∙ c9 .if2 .left,
+      sym (c7 .is-word3 .ensures) ∙ c6 .if3 .left,
+      sym (c4 .is-word4 .ensures) ∙ c3 .if4 .taken,
     ) (c .set-freq .ensures ∙ ap setFreqBy (c .before .turn-by4 .ensures))
 
 list-line-requires : tie.Need-list-line-requires
@@ -103,11 +117,18 @@ list-line-requires c κs = search needs
 returns-5 : tie.Need-returns-5
 unfolding stepOf
 returns-5 c =
+    let c2 = c .before .before in
+    let c4 = c2 .before .before in
+    let c5 = c4 .before in
+    let c7 = c5 .before .before in
+    let c8 = c7 .before in
+    let c10 = c8 .before .before in
+    let c11 = c10 .before in
     rw (
-      sym (c .before .before .before .before .before .before .before .before .before .before .before .is-word .ensures) ∙ c .before .before .before .before .before .before .before .before .before .before .if1 .left,
-      sym (c .before .before .before .before .before .before .before .before .is-word2 .ensures) ∙ c .before .before .before .before .before .before .before .if2 .left,
-      sym (c .before .before .before .before .before .is-word3 .ensures) ∙ c .before .before .before .before .if3 .left,
-      sym (c .before .before .is-word4 .ensures) ∙ c .before .if4 .left,
+      sym (c11 .is-word .ensures) ∙ c10 .if1 .left,
+      sym (c8 .is-word2 .ensures) ∙ c7 .if2 .left,
+      sym (c5 .is-word3 .ensures) ∙ c4 .if3 .left,
+      sym (c2 .is-word4 .ensures) ∙ c .before .if4 .left,
     ) (c .list-line .ensures)
 
 pub step-spec : {M : Type 1} → statement M

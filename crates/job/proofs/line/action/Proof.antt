@@ -1,4 +1,4 @@
--- `job::line::action` meets its contract. Assumes nothing.
+-- `job::line::action` meets its contract. By the first word. Assumes nothing.
 use mathlib.Core.Path.{sym, _∙_}
 use Rattle.job.specs.Line.{actionOf}
 use Rattle.job.proofs.Counting.{differs, equals}
@@ -55,10 +55,16 @@ is-word-requires-3 c κs = search needs
 returns-4 : tie.Need-returns-4
 unfolding actionOf
 returns-4 c =
+    let c3 = c .before .before .before in
+    let c4 = c3 .before in
+    let c6 = c4 .before .before in
+    let c7 = c6 .before in
+    let c9 = c7 .before .before in
+    let c10 = c9 .before in
     rw (
-      equals (c .before .before .before .before .before .before .before .before .before .before .count .ensures) (c .before .before .before .before .before .before .before .before .before .if1 .left),
-      sym (c .before .before .before .before .before .before .before .is-word .ensures) ∙ c .before .before .before .before .before .before .if2 .left,
-      sym (c .before .before .before .before .is-word2 .ensures) ∙ c .before .before .before .if3 .left,
+      equals (c10 .count .ensures) (c9 .if1 .left),
+      sym (c7 .is-word .ensures) ∙ c6 .if2 .left,
+      sym (c4 .is-word2 .ensures) ∙ c3 .if3 .left,
       sym (c .before .is-word3 .ensures) ∙ c .if4 .taken,
     )
 
@@ -68,11 +74,18 @@ command-requires-2 c κs = search needs
 returns-5 : tie.Need-returns-5
 unfolding actionOf
 returns-5 c =
+    let c2 = c .before .before in
+    let c4 = c2 .before .before in
+    let c5 = c4 .before in
+    let c7 = c5 .before .before in
+    let c8 = c7 .before in
+    let c10 = c8 .before .before in
+    let c11 = c10 .before in
     rw (
-      equals (c .before .before .before .before .before .before .before .before .before .before .before .count .ensures) (c .before .before .before .before .before .before .before .before .before .before .if1 .left),
-      sym (c .before .before .before .before .before .before .before .before .is-word .ensures) ∙ c .before .before .before .before .before .before .before .if2 .left,
-      sym (c .before .before .before .before .before .is-word2 .ensures) ∙ c .before .before .before .before .if3 .left,
-      sym (c .before .before .is-word3 .ensures) ∙ c .before .if4 .left,
+      equals (c11 .count .ensures) (c10 .if1 .left),
+      sym (c8 .is-word .ensures) ∙ c7 .if2 .left,
+      sym (c5 .is-word2 .ensures) ∙ c4 .if3 .left,
+      sym (c2 .is-word3 .ensures) ∙ c .before .if4 .left,
     ) (c .command2 .ensures)
 
 pub action-spec : {M : Type 1} → statement M

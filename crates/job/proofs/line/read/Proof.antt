@@ -1,4 +1,4 @@
--- `job::line::read` meets its contract. Assumes nothing.
+-- `job::line::read` meets its contract. By the first byte. Assumes nothing.
 use native.Mathlib.Omega.{arith}
 use Rattle.job.proofs.Reading.{nothing-in, remark, says}
 use mathlib.Core.Path.{sym}

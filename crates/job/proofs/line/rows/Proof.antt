@@ -1,4 +1,4 @@
--- `job::line::rows` meets its contract. Assumes nothing.
+-- `job::line::rows` meets its contract. Field by field: each answer of a call picks the case of the definition. Assumes nothing.
 use mathlib.Core.Path.{sym, _∙_}
 use Rattle.job.specs.Line.{rowsOf}
 use Rattle.job.proofs.Counting.{differs, equals}
@@ -49,19 +49,29 @@ enum-told-2 c = search needs
 returns-3 : tie.Need-returns-3
 unfolding rowsOf
 returns-3 c =
+    let c2 = c .before .before in
+    let c5 = c2 .before .before .before in
+    let c7 = c5 .before .before in
+    let c9 = c7 .before .before in
+    let c10 = c9 .before in
     rw (
-      equals (c .before .before .before .before .before .before .before .before .before .before .count .ensures) (c .before .before .before .before .before .before .before .before .before .if1 .left),
-      sym (c .before .before .before .before .before .before .before .whole-in .ensures) ∙ c .before .before .before .before .before .many .given .1,
-      sym (c .before .before .whole-in2 .ensures) ∙ c .enum-told2 .given .1,
+      equals (c10 .count .ensures) (c9 .if1 .left),
+      sym (c7 .whole-in .ensures) ∙ c5 .many .given .1,
+      sym (c2 .whole-in2 .ensures) ∙ c .enum-told2 .given .1,
     )
 
 returns-4 : tie.Need-returns-4
 unfolding rowsOf
 returns-4 c =
+    let c3 = c .before .before .before in
+    let c6 = c3 .before .before .before in
+    let c8 = c6 .before .before in
+    let c10 = c8 .before .before in
+    let c11 = c10 .before in
     rw (
-      equals (c .before .before .before .before .before .before .before .before .before .before .before .count .ensures) (c .before .before .before .before .before .before .before .before .before .before .if1 .left),
-      sym (c .before .before .before .before .before .before .before .before .whole-in .ensures) ∙ c .before .before .before .before .before .before .many .given .1,
-      sym (c .before .before .before .whole-in2 .ensures) ∙ c .before .long .given .1,
+      equals (c11 .count .ensures) (c10 .if1 .left),
+      sym (c8 .whole-in .ensures) ∙ c6 .many .given .1,
+      sym (c3 .whole-in2 .ensures) ∙ c .before .long .given .1,
     )
 
 pub rows-spec : {M : Type 1} → statement M

@@ -1,4 +1,4 @@
--- `job::line::sample` meets its contract. Assumes nothing.
+-- `job::line::sample` meets its contract. Field by field: each answer of a call picks the case of the definition. Assumes nothing.
 use mathlib.Core.Path.{sym, ap, _∙_}
 use lib.IntN.{ℤ}
 use mir.Syntax.{w32}
@@ -56,10 +56,15 @@ enum-told-2 c = search needs
 returns-3 : tie.Need-returns-3
 unfolding sampleOf
 returns-3 c =
+    let c2 = c .before .before in
+    let c6 = c2 .before .before .before .before in
+    let c8 = c6 .before .before in
+    let c10 = c8 .before .before in
+    let c11 = c10 .before in
     rw (
-      equals (c .before .before .before .before .before .before .before .before .before .before .before .count .ensures) (c .before .before .before .before .before .before .before .before .before .before .if1 .left),
-      sym (c .before .before .before .before .before .before .before .before .name-in .ensures) ∙ c .before .before .before .before .before .before .named .given .1,
-      sym (c .before .before .pair-in .ensures) ∙ c .enum-told2 .given .1,
+      equals (c11 .count .ensures) (c10 .if1 .left),
+      sym (c8 .name-in .ensures) ∙ c6 .named .given .1,
+      sym (c2 .pair-in .ensures) ∙ c .enum-told2 .given .1,
     )
 
 slice-aggregate-level-in : tie.Need-slice-aggregate-level-in
@@ -77,26 +82,40 @@ enum-told-3 c = search needs
 returns-4 : tie.Need-returns-4
 unfolding sampleOf
 returns-4 c =
+    let c2 = c .before .before in
+    let c5 = c2 .before .before .before in
+    let c7 = c5 .before .before in
+    let c11 = c7 .before .before .before .before in
+    let c13 = c11 .before .before in
+    let c15 = c13 .before .before in
+    let c16 = c15 .before in
     rw (
-      equals (c .before .before .before .before .before .before .before .before .before .before .before .before .before .before .before .before .count .ensures) (c .before .before .before .before .before .before .before .before .before .before .before .before .before .before .before .if1 .left),
-      sym (c .before .before .before .before .before .before .before .before .before .before .before .before .before .name-in .ensures) ∙ c .before .before .before .before .before .before .before .before .before .before .before .named .given .1,
-      sym (c .before .before .before .before .before .before .before .pair-in .ensures) ∙ c .before .before .before .before .before .clock .given .1,
-      sym (c .before .before .level-in .ensures) ∙ c .enum-told3 .given .1,
+      equals (c16 .count .ensures) (c15 .if1 .left),
+      sym (c13 .name-in .ensures) ∙ c11 .named .given .1,
+      sym (c7 .pair-in .ensures) ∙ c5 .clock .given .1,
+      sym (c2 .level-in .ensures) ∙ c .enum-told3 .given .1,
     )
 
 returns-5 : tie.Need-returns-5
 unfolding sampleOf
 returns-5 c =
+    let c3 = c .before .before .before in
+    let c6 = c3 .before .before .before in
+    let c8 = c6 .before .before in
+    let c12 = c8 .before .before .before .before in
+    let c14 = c12 .before .before in
+    let c16 = c14 .before .before in
+    let c17 = c16 .before in
     rw (
-      equals (c .before .before .before .before .before .before .before .before .before .before .before .before .before .before .before .before .before .count .ensures) (c .before .before .before .before .before .before .before .before .before .before .before .before .before .before .before .before .if1 .left),
-      sym (c .before .before .before .before .before .before .before .before .before .before .before .before .before .before .name-in .ensures) ∙ c .before .before .before .before .before .before .before .before .before .before .before .before .named .given .1,
-      sym (c .before .before .before .before .before .before .before .before .pair-in .ensures) ∙ c .before .before .before .before .before .before .clock .given .1,
-      sym (c .before .before .before .level-in .ensures) ∙ c .before .aligned .given .1,
+      equals (c17 .count .ensures) (c16 .if1 .left),
+      sym (c14 .name-in .ensures) ∙ c12 .named .given .1,
+      sym (c8 .pair-in .ensures) ∙ c6 .clock .given .1,
+      sym (c3 .level-in .ensures) ∙ c .before .aligned .given .1,
     )
     (ap (λ (z : ℤ). Sample (record {
-      channel = c .before .before .before .before .before .before .before .before .before .before .before .before .named .given .0 .0;
-      rate = record { 0 = c .before .before .before .before .before .before .clock .given .0 .0 };
-      delay = record { 0 = c .before .before .before .before .before .before .clock .given .0 .1 .0 };
+      channel = c12 .named .given .0 .0;
+      rate = record { 0 = c6 .clock .given .0 .0 };
+      delay = record { 0 = c6 .clock .given .0 .1 .0 };
       level = z;
     })) (toZ-ofZ w32 (c .before .aligned .given .0 .0) (record { sfits = c .known-told3 .given .0 .1 })))
 

@@ -1,4 +1,4 @@
--- `job::line::setting` meets its contract. Assumes nothing.
+-- `job::line::setting` meets its contract. By the first word. Assumes nothing.
 use mathlib.Core.Path.{sym, _∙_}
 use Rattle.job.specs.Line.{settingOf}
 use borrow.Author.Needs.{needs}
@@ -66,11 +66,18 @@ rows-requires c κs = search needs
 returns-4 : tie.Need-returns-4
 unfolding settingOf
 returns-4 c =
+    let c2 = c .before .before in
+    let c4 = c2 .before .before in
+    let c5 = c4 .before in
+    let c7 = c5 .before .before in
+    let c8 = c7 .before in
+    let c10 = c8 .before .before in
+    let c11 = c10 .before in
     rw (
-      sym (c .before .before .before .before .before .before .before .before .before .before .before .is-word .ensures) ∙ c .before .before .before .before .before .before .before .before .before .before .if1 .left,
-      sym (c .before .before .before .before .before .before .before .before .is-word2 .ensures) ∙ c .before .before .before .before .before .before .before .if2 .left,
-      sym (c .before .before .before .before .before .is-word3 .ensures) ∙ c .before .before .before .before .if3 .left,
-      sym (c .before .before .is-word4 .ensures) ∙ c .before .if4 .taken,
+      sym (c11 .is-word .ensures) ∙ c10 .if1 .left,
+      sym (c8 .is-word2 .ensures) ∙ c7 .if2 .left,
+      sym (c5 .is-word3 .ensures) ∙ c4 .if3 .left,
+      sym (c2 .is-word4 .ensures) ∙ c .before .if4 .taken,
     ) (c .rows .ensures)
 
 slice-aggregate-is-word-5 : tie.Need-slice-aggregate-is-word-5
@@ -85,12 +92,21 @@ sample-requires c κs = search needs
 returns-5 : tie.Need-returns-5
 unfolding settingOf
 returns-5 c =
+    let c2 = c .before .before in
+    let c4 = c2 .before .before in
+    let c5 = c4 .before in
+    let c7 = c5 .before .before in
+    let c8 = c7 .before in
+    let c10 = c8 .before .before in
+    let c11 = c10 .before in
+    let c13 = c11 .before .before in
+    let c14 = c13 .before in
     rw (
-      sym (c .before .before .before .before .before .before .before .before .before .before .before .before .before .before .is-word .ensures) ∙ c .before .before .before .before .before .before .before .before .before .before .before .before .before .if1 .left,
-      sym (c .before .before .before .before .before .before .before .before .before .before .before .is-word2 .ensures) ∙ c .before .before .before .before .before .before .before .before .before .before .if2 .left,
-      sym (c .before .before .before .before .before .before .before .before .is-word3 .ensures) ∙ c .before .before .before .before .before .before .before .if3 .left,
-      sym (c .before .before .before .before .before .is-word4 .ensures) ∙ c .before .before .before .before .if4 .left,
-      sym (c .before .before .is-word5 .ensures) ∙ c .before .if5 .taken,
+      sym (c14 .is-word .ensures) ∙ c13 .if1 .left,
+      sym (c11 .is-word2 .ensures) ∙ c10 .if2 .left,
+      sym (c8 .is-word3 .ensures) ∙ c7 .if3 .left,
+      sym (c5 .is-word4 .ensures) ∙ c4 .if4 .left,
+      sym (c2 .is-word5 .ensures) ∙ c .before .if5 .taken,
     ) (c .sample .ensures)
 
 action-requires : tie.Need-action-requires
@@ -99,12 +115,21 @@ action-requires c κs = search needs
 returns-6 : tie.Need-returns-6
 unfolding settingOf
 returns-6 c =
+    let c2 = c .before .before in
+    let c4 = c2 .before .before in
+    let c5 = c4 .before in
+    let c7 = c5 .before .before in
+    let c8 = c7 .before in
+    let c10 = c8 .before .before in
+    let c11 = c10 .before in
+    let c13 = c11 .before .before in
+    let c14 = c13 .before in
     rw (
-      sym (c .before .before .before .before .before .before .before .before .before .before .before .before .before .before .is-word .ensures) ∙ c .before .before .before .before .before .before .before .before .before .before .before .before .before .if1 .left,
-      sym (c .before .before .before .before .before .before .before .before .before .before .before .is-word2 .ensures) ∙ c .before .before .before .before .before .before .before .before .before .before .if2 .left,
-      sym (c .before .before .before .before .before .before .before .before .is-word3 .ensures) ∙ c .before .before .before .before .before .before .before .if3 .left,
-      sym (c .before .before .before .before .before .is-word4 .ensures) ∙ c .before .before .before .before .if4 .left,
-      sym (c .before .before .is-word5 .ensures) ∙ c .before .if5 .left,
+      sym (c14 .is-word .ensures) ∙ c13 .if1 .left,
+      sym (c11 .is-word2 .ensures) ∙ c10 .if2 .left,
+      sym (c8 .is-word3 .ensures) ∙ c7 .if3 .left,
+      sym (c5 .is-word4 .ensures) ∙ c4 .if4 .left,
+      sym (c2 .is-word5 .ensures) ∙ c .before .if5 .left,
     ) (c .action .ensures)
 
 pub setting-spec : {M : Type 1} → statement M

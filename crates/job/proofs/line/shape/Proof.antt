@@ -1,4 +1,4 @@
--- `job::line::shape` meets its contract. Assumes nothing.
+-- `job::line::shape` meets its contract. Field by field: each answer of a call picks the case of the definition. Assumes nothing.
 use mathlib.Core.Path.{sym, _∙_}
 use Rattle.job.specs.Line.{shapeOf}
 use Rattle.job.proofs.Counting.{differs, equals}

@@ -1,4 +1,4 @@
--- `job::line::tables` meets its contract. Assumes nothing.
+-- `job::line::tables` meets its contract. Field by field: each answer of a call picks the case of the definition. Assumes nothing.
 use mathlib.Core.Path.{sym, _∙_}
 use Rattle.job.specs.Line.{tablesOf}
 use Rattle.job.proofs.Counting.{differs, equals}
@@ -52,19 +52,29 @@ enum-told-2 c = search needs
 returns-3 : tie.Need-returns-3
 unfolding tablesOf
 returns-3 c =
+    let c2 = c .before .before in
+    let c5 = c2 .before .before .before in
+    let c7 = c5 .before .before in
+    let c10 = c7 .before .before .before in
+    let c11 = c10 .before in
     rw (
-      equals (c .before .before .before .before .before .before .before .before .before .before .before .count .ensures) (c .before .before .before .before .before .before .before .before .before .before .if1 .left),
-      sym (c .before .before .before .before .before .before .before .pair-in .ensures) ∙ c .before .before .before .before .before .tolerances .given .1,
-      sym (c .before .before .flag-in .ensures) ∙ c .enum-told2 .given .1,
+      equals (c11 .count .ensures) (c10 .if1 .left),
+      sym (c7 .pair-in .ensures) ∙ c5 .tolerances .given .1,
+      sym (c2 .flag-in .ensures) ∙ c .enum-told2 .given .1,
     )
 
 returns-4 : tie.Need-returns-4
 unfolding tablesOf
 returns-4 c =
+    let c3 = c .before .before .before in
+    let c6 = c3 .before .before .before in
+    let c8 = c6 .before .before in
+    let c11 = c8 .before .before .before in
+    let c12 = c11 .before in
     rw (
-      equals (c .before .before .before .before .before .before .before .before .before .before .before .before .count .ensures) (c .before .before .before .before .before .before .before .before .before .before .before .if1 .left),
-      sym (c .before .before .before .before .before .before .before .before .pair-in .ensures) ∙ c .before .before .before .before .before .before .tolerances .given .1,
-      sym (c .before .before .before .flag-in .ensures) ∙ c .before .oversize .given .1,
+      equals (c12 .count .ensures) (c11 .if1 .left),
+      sym (c8 .pair-in .ensures) ∙ c6 .tolerances .given .1,
+      sym (c3 .flag-in .ensures) ∙ c .before .oversize .given .1,
     )
 
 pub tables-spec : {M : Type 1} → statement M

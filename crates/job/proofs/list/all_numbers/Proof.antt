@@ -1,4 +1,4 @@
--- `job::list::all_numbers` meets its contract. Assumes nothing.
+-- `job::list::all_numbers` meets its contract. The invariant: the words from here on, with `left` to pass over, are judged as those from word k on. Assumes nothing.
 use Prim.Native.Nat.{ℕ, _+_, _-_, _≤_, _<_}
 use mathlib.Core.Path.{_≡_, refl, sym, _∙_}
 use native.Mathlib.Omega.{arith}
@@ -71,10 +71,14 @@ returns c =
 
 returns-2 : tie.Need-returns-2 Inv-loop μ-loop
 returns-2 c =
-    let line = c .before .before .before .before .before .before .before .before .before .args .line .now in
-    let at = c .before .before .before .before .before .before .before .loop in
-    let p = c .before .before .before .before .place .result in
-    sym (numbers-last line (at .at) (at .left) p (at .inv .0) (c .before .before .before .before .place .ensures) (sym (c .before .before .stops .ensures) ∙ c .before .if1 .left) (c .if2 .taken)) ∙ at .inv .1
+    let c2 = c .before .before in
+    let c4 = c2 .before .before in
+    let c7 = c4 .before .before .before in
+    let c9 = c7 .before .before in
+    let line = c9 .args .line .now in
+    let at = c7 .loop in
+    let p = c4 .place .result in
+    sym (numbers-last line (at .at) (at .left) p (at .inv .0) (c4 .place .ensures) (sym (c2 .stops .ensures) ∙ c .before .if1 .left) (c .if2 .taken)) ∙ at .inv .1
 
 add-at : tie.Need-add-at Inv-loop μ-loop
 add-at c =
@@ -95,11 +99,16 @@ loop-less c =
 
 loop-again : tie.Need-loop-again Inv-loop μ-loop
 loop-again c =
-    let line = c .before .before .before .before .before .before .before .before .before .before .args .line .now in
-    let at = c .before .before .before .before .before .before .before .before .loop in
-    let p = c .before .before .before .before .before .place .result in
-    let on = numbers-on line (at .at) (at .left) p (at .inv .0) (c .before .before .before .before .before .place .ensures) (sym (c .before .before .before .stops .ensures) ∙ c .before .before .if1 .left) (c .before .if2 .left) in
-    (omega (arith, end-within line (at .at) (at .left) p (at .inv .0) (c .before .before .before .before .before .place .ensures)), rw (c .less .ensures) (on ∙ at .inv .1))
+    let c2 = c .before .before in
+    let c3 = c2 .before in
+    let c5 = c3 .before .before in
+    let c8 = c5 .before .before .before in
+    let c10 = c8 .before .before in
+    let line = c10 .args .line .now in
+    let at = c8 .loop in
+    let p = c5 .place .result in
+    let on = numbers-on line (at .at) (at .left) p (at .inv .0) (c5 .place .ensures) (sym (c3 .stops .ensures) ∙ c2 .if1 .left) (c .before .if2 .left) in
+    (omega (arith, end-within line (at .at) (at .left) p (at .inv .0) (c5 .place .ensures)), rw (c .less .ensures) (on ∙ at .inv .1))
 
 returns-3 : tie.Need-returns-3 Inv-loop μ-loop
 returns-3 c =

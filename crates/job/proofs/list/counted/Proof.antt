@@ -1,4 +1,4 @@
--- `job::list::counted` meets its contract. Assumes nothing.
+-- `job::list::counted` meets its contract. Field by field: each answer of a call picks the case of the definition. Assumes nothing.
 use mathlib.Core.Path.{sym, _∙_}
 use Rattle.job.specs.List.{countedOf}
 use Rattle.job.proofs.Counting.{enough, fewer, rest-differs, rest-equals}
@@ -56,20 +56,32 @@ all-numbers-requires c κs = search needs
 returns-4 : tie.Need-returns-4
 unfolding countedOf
 returns-4 c =
+    let c2 = c .before .before in
+    let c3 = c2 .before in
+    let c5 = c3 .before .before in
+    let c7 = c5 .before .before in
+    let c9 = c7 .before .before in
+    let c10 = c9 .before in
     rw (
-      enough (c .before .before .before .before .before .before .before .before .before .before .count .ensures) (c .before .before .before .before .before .before .before .before .before .if1 .left),
-      sym (c .before .before .before .before .before .before .before .whole-in .ensures) ∙ c .before .before .before .before .before .said .given .1,
-      rest-equals (c .before .before .before .count2 .ensures) (c .before .before .if2 .left),
+      enough (c10 .count .ensures) (c9 .if1 .left),
+      sym (c7 .whole-in .ensures) ∙ c5 .said .given .1,
+      rest-equals (c3 .count2 .ensures) (c2 .if2 .left),
       taken _ _ (c .before .all-numbers .ensures) (c .if3 .taken),
     )
 
 returns-5 : tie.Need-returns-5
 unfolding countedOf
 returns-5 c =
+    let c2 = c .before .before in
+    let c3 = c2 .before in
+    let c5 = c3 .before .before in
+    let c7 = c5 .before .before in
+    let c9 = c7 .before .before in
+    let c10 = c9 .before in
     rw (
-      enough (c .before .before .before .before .before .before .before .before .before .before .count .ensures) (c .before .before .before .before .before .before .before .before .before .if1 .left),
-      sym (c .before .before .before .before .before .before .before .whole-in .ensures) ∙ c .before .before .before .before .before .said .given .1,
-      rest-equals (c .before .before .before .count2 .ensures) (c .before .before .if2 .left),
+      enough (c10 .count .ensures) (c9 .if1 .left),
+      sym (c7 .whole-in .ensures) ∙ c5 .said .given .1,
+      rest-equals (c3 .count2 .ensures) (c2 .if2 .left),
       passed _ _ (c .before .all-numbers .ensures) (c .if3 .left),
     )
 

@@ -1,4 +1,4 @@
--- `job::list::crosstalk` meets its contract. Assumes nothing.
+-- `job::list::crosstalk` meets its contract. The square of at most 511 fits; then field by field. Assumes nothing.
 use native.Mathlib.Omega.{arith}
 use Rattle.job.proofs.Listing.{square}
 use mathlib.Core.Path.{sym, _∙_}

@@ -1,4 +1,4 @@
--- `job::list::fir` meets its contract. Assumes nothing.
+-- `job::list::fir` meets its contract. Field by field: each answer of a call picks the case of the definition. Assumes nothing.
 use borrow.Author.Needs.{needs}
 use Rattle.job.proofs.list.fir.Statement.{statement}
 use Rattle.job.proofs.list.fir.Tie as tie

@@ -1,4 +1,4 @@
--- `job::list::iir` meets its contract. Assumes nothing.
+-- `job::list::iir` meets its contract. Field by field: each answer of a call picks the case of the definition. Assumes nothing.
 use borrow.Author.Needs.{needs}
 use Rattle.job.proofs.list.iir.Statement.{statement}
 use Rattle.job.proofs.list.iir.Tie as tie

@@ -1,4 +1,4 @@
--- `job::list::iq` meets its contract. Assumes nothing.
+-- `job::list::iq` meets its contract. Field by field: each answer of a call picks the case of the definition. Assumes nothing.
 use Rattle.job.specs.List.{iqOf}
 use Rattle.job.proofs.Counting.{differs, equals}
 use Rattle.quant.proofs.Judging.{passed, taken}

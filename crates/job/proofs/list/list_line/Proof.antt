@@ -1,4 +1,4 @@
--- `job::list::list_line` meets its contract. Assumes nothing.
+-- `job::list::list_line` meets its contract. By the first word. Assumes nothing.
 use mathlib.Core.Path.{sym, ap, _∙_}
 use Rattle.job.specs.List.{iirBy, firBy, listOf}
 use borrow.Author.Needs.{needs}
@@ -72,11 +72,19 @@ fir-requires c κs = search needs
 returns-4 : tie.Need-returns-4
 unfolding listOf
 returns-4 c =
+    let c2 = c .before .before in
+    let c3 = c2 .before in
+    let c5 = c3 .before .before in
+    let c6 = c5 .before in
+    let c8 = c6 .before .before in
+    let c9 = c8 .before in
+    let c11 = c9 .before .before in
+    let c12 = c11 .before in
     rw (
-      sym (c .before .before .before .before .before .before .before .before .before .before .before .before .is-word .ensures) ∙ c .before .before .before .before .before .before .before .before .before .before .before .if1 .left,
-      sym (c .before .before .before .before .before .before .before .before .before .is-word2 .ensures) ∙ c .before .before .before .before .before .before .before .before .if2 .left,
-      sym (c .before .before .before .before .before .before .is-word3 .ensures) ∙ c .before .before .before .before .before .if3 .left,
-      sym (c .before .before .before .is-word4 .ensures) ∙ c .before .before .if4 .taken,
+      sym (c12 .is-word .ensures) ∙ c11 .if1 .left,
+      sym (c9 .is-word2 .ensures) ∙ c8 .if2 .left,
+      sym (c6 .is-word3 .ensures) ∙ c5 .if3 .left,
+      sym (c3 .is-word4 .ensures) ∙ c2 .if4 .taken,
     ) (c .fir .ensures ∙ ap firBy (c .before .counted2 .ensures))
 
 slice-aggregate-is-word-5 : tie.Need-slice-aggregate-is-word-5
@@ -91,22 +99,39 @@ crosstalk-requires c κs = search needs
 returns-5 : tie.Need-returns-5
 unfolding listOf
 returns-5 c =
+    let c2 = c .before .before in
+    let c4 = c2 .before .before in
+    let c5 = c4 .before in
+    let c7 = c5 .before .before in
+    let c8 = c7 .before in
+    let c10 = c8 .before .before in
+    let c11 = c10 .before in
+    let c13 = c11 .before .before in
+    let c14 = c13 .before in
     rw (
-      sym (c .before .before .before .before .before .before .before .before .before .before .before .before .before .before .is-word .ensures) ∙ c .before .before .before .before .before .before .before .before .before .before .before .before .before .if1 .left,
-      sym (c .before .before .before .before .before .before .before .before .before .before .before .is-word2 .ensures) ∙ c .before .before .before .before .before .before .before .before .before .before .if2 .left,
-      sym (c .before .before .before .before .before .before .before .before .is-word3 .ensures) ∙ c .before .before .before .before .before .before .before .if3 .left,
-      sym (c .before .before .before .before .before .is-word4 .ensures) ∙ c .before .before .before .before .if4 .left,
-      sym (c .before .before .is-word5 .ensures) ∙ c .before .if5 .taken,
+      sym (c14 .is-word .ensures) ∙ c13 .if1 .left,
+      sym (c11 .is-word2 .ensures) ∙ c10 .if2 .left,
+      sym (c8 .is-word3 .ensures) ∙ c7 .if3 .left,
+      sym (c5 .is-word4 .ensures) ∙ c4 .if4 .left,
+      sym (c2 .is-word5 .ensures) ∙ c .before .if5 .taken,
     ) (c .crosstalk .ensures)
 
 returns-6 : tie.Need-returns-6
 unfolding listOf
 returns-6 c =
+    let c3 = c .before .before .before in
+    let c4 = c3 .before in
+    let c6 = c4 .before .before in
+    let c7 = c6 .before in
+    let c9 = c7 .before .before in
+    let c10 = c9 .before in
+    let c12 = c10 .before .before in
+    let c13 = c12 .before in
     rw (
-      sym (c .before .before .before .before .before .before .before .before .before .before .before .before .before .is-word .ensures) ∙ c .before .before .before .before .before .before .before .before .before .before .before .before .if1 .left,
-      sym (c .before .before .before .before .before .before .before .before .before .before .is-word2 .ensures) ∙ c .before .before .before .before .before .before .before .before .before .if2 .left,
-      sym (c .before .before .before .before .before .before .before .is-word3 .ensures) ∙ c .before .before .before .before .before .before .if3 .left,
-      sym (c .before .before .before .before .is-word4 .ensures) ∙ c .before .before .before .if4 .left,
+      sym (c13 .is-word .ensures) ∙ c12 .if1 .left,
+      sym (c10 .is-word2 .ensures) ∙ c9 .if2 .left,
+      sym (c7 .is-word3 .ensures) ∙ c6 .if3 .left,
+      sym (c4 .is-word4 .ensures) ∙ c3 .if4 .left,
       sym (c .before .is-word5 .ensures) ∙ c .if5 .left,
     )
 

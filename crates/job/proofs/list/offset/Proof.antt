@@ -1,4 +1,4 @@
--- `job::list::offset` meets its contract. Assumes nothing.
+-- `job::list::offset` meets its contract. Field by field: each answer of a call picks the case of the definition. Assumes nothing.
 use Rattle.fields.proofs.Splitting.{words-some}
 use Rattle.job.specs.List.{offsetOf}
 use Rattle.quant.proofs.Judging.{passed, taken}

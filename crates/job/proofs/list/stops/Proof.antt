@@ -1,4 +1,4 @@
--- `job::list::stops` meets its contract. Assumes nothing.
+-- `job::list::stops` meets its contract. By whether a word is left to pass over, and then by what it was read as. Assumes nothing.
 use mathlib.Core.Path.{sym, _∙_}
 use borrow.Author.Tests.{lt-ltb, le-ltb}
 use Rattle.job.specs.List.{stopsAt}

@@ -1,4 +1,4 @@
--- `job::turn::turn_by` meets its contract. Assumes nothing.
+-- `job::turn::turn_by` meets its contract. Field by field: each answer of a call picks the case of the definition. Assumes nothing.
 use mathlib.Core.Path.{sym, _∙_}
 use Rattle.job.specs.Turn.{turnOf}
 use Rattle.job.proofs.Counting.{differs, equals}
@@ -70,21 +70,35 @@ enum-told-3 c = search needs
 returns-4 : tie.Need-returns-4
 unfolding turnOf
 returns-4 c =
+    let c2 = c .before .before in
+    let c6 = c2 .before .before .before .before in
+    let c8 = c6 .before .before in
+    let c10 = c8 .before .before in
+    let c12 = c10 .before .before in
+    let c14 = c12 .before .before in
+    let c15 = c14 .before in
     rw (
-      equals (c .before .before .before .before .before .before .before .before .before .before .before .before .before .before .before .count .ensures) (c .before .before .before .before .before .before .before .before .before .before .before .before .before .before .if1 .left),
-      sym (c .before .before .before .before .before .before .before .before .before .before .before .before .name-in .ensures) ∙ c .before .before .before .before .before .before .before .before .before .before .named .given .1,
-      sym (c .before .before .before .before .before .before .before .before .number-in .ensures) ∙ c .before .before .before .before .before .before .number .given .1,
-      sym (c .before .before .pair-in .ensures) ∙ c .enum-told3 .given .1,
+      equals (c15 .count .ensures) (c14 .if1 .left),
+      sym (c12 .name-in .ensures) ∙ c10 .named .given .1,
+      sym (c8 .number-in .ensures) ∙ c6 .number .given .1,
+      sym (c2 .pair-in .ensures) ∙ c .enum-told3 .given .1,
     )
 
 returns-5 : tie.Need-returns-5
 unfolding turnOf
 returns-5 c =
+    let c3 = c .before .before .before in
+    let c7 = c3 .before .before .before .before in
+    let c9 = c7 .before .before in
+    let c11 = c9 .before .before in
+    let c13 = c11 .before .before in
+    let c15 = c13 .before .before in
+    let c16 = c15 .before in
     rw (
-      equals (c .before .before .before .before .before .before .before .before .before .before .before .before .before .before .before .before .count .ensures) (c .before .before .before .before .before .before .before .before .before .before .before .before .before .before .before .if1 .left),
-      sym (c .before .before .before .before .before .before .before .before .before .before .before .before .before .name-in .ensures) ∙ c .before .before .before .before .before .before .before .before .before .before .before .named .given .1,
-      sym (c .before .before .before .before .before .before .before .before .before .number-in .ensures) ∙ c .before .before .before .before .before .before .before .number .given .1,
-      sym (c .before .before .before .pair-in .ensures) ∙ c .before .times .given .1,
+      equals (c16 .count .ensures) (c15 .if1 .left),
+      sym (c13 .name-in .ensures) ∙ c11 .named .given .1,
+      sym (c9 .number-in .ensures) ∙ c7 .number .given .1,
+      sym (c3 .pair-in .ensures) ∙ c .before .times .given .1,
     )
 
 pub turn-by-spec : {M : Type 1} → statement M
