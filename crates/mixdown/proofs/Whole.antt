@@ -23,7 +23,7 @@ use Rattle.mixdown.specs.Bins.{binsBy, mergedOf}
 use Rattle.mixdown.specs.Starts.{mergedIn}
 use Rattle.mixdown.specs.Sampled.{Rowed, ranBins, mixedDown}
 use Rattle.mixdown.proofs.Laid.{read-back, all-runs, all-ended}
-use Rattle.mixdown.proofs.Listed.{bins-alike}
+use Rattle.mixdown.proofs.Listed.{bins-alike, merged-few}
 use Rattle.mixdown.proofs.Ending.{fit}
 
 -- ---- room for all lists
@@ -70,6 +70,16 @@ module _ (s : Settings) (t : Tables) (taking : Taking) (bins : List (List Float)
 
   each-bin : (row : List Float) → mergedIn t bins laid-rows laid-marks parts (endsOf lists .ends) row ≡ mergedOf t bins pulses parts row
   each-bin row = ap (λ (ls : List (List Pulse)). summedAgain (t .time .0) (joined ls)) (all-runs t bins pulses row laid-rows laid-marks (rows-same ∙ sym marks-same) parts [] _ _ (read-back (inOne lists) work marks))
+
+  -- a bin has at most 65,536 pulses
+  pub whole-few : (row : List Float) → length (mergedOf t bins pulses parts row) ≤ 65536
+  whole-few row = let same = ap length (each-bin row) in let few-here = merged-few t bins laid-rows laid-marks parts (endsOf lists .ends) row rows-same marks-same parts-few in omega (arith, same, few-here)
+
+  pub rows-long : length laid-rows ≡ length work
+  rows-long = rows-same ∙ sym work-many
+
+  pub marks-long : length laid-marks ≡ length marks
+  marks-long = marks-same ∙ sym marks-many
 
   pub mixed-whole : mixedDown s t taking (endsOf lists) bins laid-rows laid-marks rows st ≡ ranBins s rows (mergedOf t bins pulses parts) (binsBy t bins parts) 0 st
   unfolding mixedDown

@@ -4,3 +4,4 @@ pub mod Left
 pub mod Callees
 pub mod Passing
 pub mod Done
+pub mod Lengths
