@@ -1,7 +1,10 @@
-// The command call to be timed: `compare/bench` lends the words and the numbers of 1,024 commands and asks for so many runs.
+// The calls to be timed. The command call: `compare/bench` lends the words and the numbers of 1,024 commands and asks for so many runs.
 ghost use mathlib.Core.Path.{_≡_};
 ghost use Prim.Native.Nat.{_<_};
 ghost use lib.ListN.{length};
+
+mod sampling;
+
 use commands::command::Arranged;
 use commands::command::Command;
 use commands::command::Play;
@@ -47,7 +50,7 @@ pub extern "C" fn skierralu_time_commands(
     run
 }
 
-fn read(words: &[u64], numbers: &[f64]) -> [Arranged; 1024] {
+pub(crate) fn read(words: &[u64], numbers: &[f64]) -> [Arranged; 1024] {
     let mut commands = [rest(); 1024];
     let mut k: usize = 0;
     while k < 1024 {
@@ -152,7 +155,7 @@ fn number(numbers: &[f64], k: usize, at: usize) -> f64
 }
 
 // The channels `q0` to `q7` at rest, and the shape `hann`, with a tolerance of 0 and oversize not allowed.
-fn bench() -> Tables {
+pub(crate) fn bench() -> Tables {
     let t = tables::make(Amplitude(0.0), Time(0.0), false).tables;
     let four = with(with(with(with(t, b'0'), b'1'), b'2'), b'3');
     let eight = with(with(with(with(four, b'4'), b'5'), b'6'), b'7');
@@ -189,7 +192,7 @@ fn rest() -> Arranged {
     }
 }
 
-fn no_pulse() -> Pulse {
+pub(crate) fn no_pulse() -> Pulse {
     let nought = Complex { re: 0.0, im: 0.0 };
     Pulse {
         bin: 0,
