@@ -26,6 +26,11 @@ fn main() -> ExitCode {
         Some("bench") => {
             bench::run();
             timed::run();
+            timed::sampling();
+            return ExitCode::SUCCESS;
+        }
+        Some("bench_sampling") => {
+            timed::sampling();
             return ExitCode::SUCCESS;
         }
         Some("bench_commands") => {
@@ -54,7 +59,7 @@ fn main() -> ExitCode {
         Some(word) => match word.parse() {
             Ok(scale) => scale,
             Err(_) => {
-                eprintln!("usage: compare [SCALE | bench | bench_commands | near | replays | commands PROGRAM.. | stored_lists | stored_answers]");
+                eprintln!("usage: compare [SCALE | bench | bench_commands | bench_sampling | near | replays | commands PROGRAM.. | stored_lists | stored_answers]");
                 return ExitCode::from(2);
             }
         },

@@ -88,6 +88,32 @@ impl Lists {
     }
 }
 
+impl Lists {
+    /// Nanoseconds for as many samplings as there are rows to sample onto, each onto its own two rows; what each takes is made ready before.
+    pub fn time(&self, of: &Channel, crosstalk: Option<&Crosstalk>, samples: &mut [Vec<f64>]) -> f64 {
+        let ready: Vec<Sampler> = samples
+            .iter_mut()
+            .map(|samples| {
+                let mut sampler = Sampler::new(self.lists.clone());
+                let (rate, delay) = (frequency(of.rate), time(of.delay));
+                sampler.add_channel(channel(of.name), rows_of(samples, 2), rate, delay, of.level);
+                if let Some(Crosstalk { names, factors }) = crosstalk {
+                    let shape = (names.len(), names.len());
+                    let matrix = ArrayView2::from_shape(shape, factors).expect("N*N factors");
+                    let names = names.iter().map(|name| channel(name)).collect();
+                    sampler.set_crosstalk(matrix, names);
+                }
+                sampler
+            })
+            .collect();
+        let start = std::time::Instant::now();
+        for sampler in ready {
+            assert!(sampler.sample(time(self.time_tolerance)).is_ok(), "sampled");
+        }
+        start.elapsed().as_nanos() as f64
+    }
+}
+
 /// A channel that has no list panics in the map: 14 where it was looked up for its crosstalk, 7 else.
 fn missing_list(refusal: Refusal, of: &Channel, crosstalk: Option<&Crosstalk>) -> Refusal {
     if !refusal.text.starts_with("no entry found") {
