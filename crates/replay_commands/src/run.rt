@@ -1,11 +1,11 @@
 // One list: its lines read, its commands run as one call.
-use super::line::arranged_of;
-use super::line::is_command;
-use super::line::kind_of;
-use super::line::tables_after;
+use replay_words::line::arranged_of;
+use replay_words::line::is_command;
+use replay_words::line::kind_of;
+use replay_words::line::tables_after;
 use super::show::show;
-use super::words::end_of;
-use super::words::least;
+use replay_words::words::end_of;
+use replay_words::words::least;
 use commands::command::Arranged;
 use owned::execute_owned;
 use pulse::list::Pulse;

@@ -1,9 +1,9 @@
--- `replay_commands::words::choice` meets its contract: a word of 0 is no. Assumes nothing.
+-- `replay_words::words::choice` meets its contract: a word of 0 is no. Assumes nothing.
 use borrow.Author.Needs.{needs}
 use borrow.Author.Tests.{eq-eqb, ne-eqb}
 use mathlib.Core.Path.{sym}
-use Rattle.replay_commands.proofs.words.choice.Statement.{statement}
-use Rattle.replay_commands.proofs.words.choice.Tie as tie
+use Rattle.replay_words.proofs.words.choice.Statement.{statement}
+use Rattle.replay_words.proofs.words.choice.Tie as tie
 
 word-requires : tie.Need-word-requires
 word-requires c κs = search needs

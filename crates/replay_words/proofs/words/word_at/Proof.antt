@@ -1,9 +1,9 @@
--- `replay_commands::words::word` meets its contract: what its calls ensure, put together. Assumes nothing.
+-- `replay_words::words::word_at` meets its contract: what its calls ensure, put together. Assumes nothing.
 use borrow.Author.Needs.{needs}
 use mathlib.Core.Path.{sym, ap, _∙_}
-use Rattle.replay_commands.specs.Line.{bitsOf}
-use Rattle.replay_commands.proofs.words.word.Statement.{statement}
-use Rattle.replay_commands.proofs.words.word.Tie as tie
+use Rattle.replay_words.specs.Line.{bitsOf}
+use Rattle.replay_words.proofs.words.word_at.Statement.{statement}
+use Rattle.replay_words.proofs.words.word_at.Tie as tie
 
 mul-number-at : tie.Need-mul-number-at
 mul-number-at c = search needs
@@ -26,8 +26,8 @@ returns c = let k = c .before in ap bitsOf (sym (k .w .given .1) ∙ k .before .
 returns-2 : tie.Need-returns-2
 returns-2 c = ap bitsOf (sym (c .enum-told .given .1) ∙ c .before .before .number-at .ensures)
 
-pub word-spec : {M : Type 1} → statement M
-word-spec =
+pub word-at-spec : {M : Type 1} → statement M
+word-at-spec =
     tie.close
     (tie.spec
     mul-number-at

@@ -1,7 +1,7 @@
--- `replay_commands::words::float` meets its contract: what its calls ensure, put together. Assumes nothing.
+-- `replay_words::words::float` meets its contract: what its calls ensure, put together. Assumes nothing.
 use borrow.Author.Needs.{needs}
-use Rattle.replay_commands.proofs.words.float.Statement.{statement}
-use Rattle.replay_commands.proofs.words.float.Tie as tie
+use Rattle.replay_words.proofs.words.float.Statement.{statement}
+use Rattle.replay_words.proofs.words.float.Tie as tie
 
 word-requires : tie.Need-word-requires
 word-requires c κs = search needs

@@ -1,7 +1,6 @@
 // One line read: what it adds to the tables, or the command that it is.
 ghost use mathlib.Core.Path.{_≡_};
-ghost use Prim.Native.Nat.{_≤_};
-ghost use Rattle.replay_commands.specs.Line.{oscIn, playIn};
+ghost use Rattle.replay_words.specs.Line.{oscIn, playIn};
 use super::words::choice;
 use super::words::float;
 use super::words::name;
@@ -17,7 +16,7 @@ use quant::quantity::Time;
 use tables::Tables;
 
 // Whether the letter is a command's.
-pub(crate) fn is_command(kind: u8) -> bool {
+pub fn is_command(kind: u8) -> bool {
     match kind {
         b'p' | b'h' | b'H' | b'f' | b'F' | b'w' | b'b' => true,
         _ => false,
@@ -25,7 +24,7 @@ pub(crate) fn is_command(kind: u8) -> bool {
 }
 
 // A line's letter; `?` where the line cannot be read.
-pub(crate) fn kind_of(line: &[u8]) -> u8 {
+pub fn kind_of(line: &[u8]) -> u8 {
     if line.len() < 1 {
         return b'?';
     }
@@ -45,9 +44,7 @@ fn is_known(kind: u8) -> bool {
     }
 }
 
-fn words_of(kind: u8) -> usize
-    ensures { λ r. ⌜ r ≤ 16 ⌝ }
-{
+fn words_of(kind: u8) -> u8 {
     match kind {
         b't' | b's' => 3,
         b'c' | b'h' | b'H' | b'f' | b'F' => 6,
@@ -59,7 +56,7 @@ fn words_of(kind: u8) -> usize
 }
 
 // The tables after a line.
-pub(crate) fn tables_after(kind: u8, line: &[u8], t: Tables) -> Tables {
+pub fn tables_after(kind: u8, line: &[u8], t: Tables) -> Tables {
     if kind == b't' {
         let amp = Amplitude(float(line, 0));
         return tables::make(amp, Time(float(line, 1)), choice(line, 2)).tables;
@@ -83,7 +80,7 @@ fn osc_of(line: &[u8]) -> OscState
     }
 }
 
-pub(crate) fn arranged_of(kind: u8, line: &[u8]) -> Arranged {
+pub fn arranged_of(kind: u8, line: &[u8]) -> Arranged {
     let command = command_of(kind, line);
     Arranged {
         start: Time(float(line, 0)),

@@ -1,7 +1,7 @@
--- `replay_commands::line::osc_of` meets its contract: what its calls ensure, put together. Assumes nothing.
+-- `replay_words::line::osc_of` meets its contract: what its calls ensure, put together. Assumes nothing.
 use borrow.Author.Needs.{needs}
-use Rattle.replay_commands.proofs.line.osc_of.Statement.{statement}
-use Rattle.replay_commands.proofs.line.osc_of.Tie as tie
+use Rattle.replay_words.proofs.line.osc_of.Statement.{statement}
+use Rattle.replay_words.proofs.line.osc_of.Tie as tie
 
 float-requires : tie.Need-float-requires
 float-requires c κs = search needs

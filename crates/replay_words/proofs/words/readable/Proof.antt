@@ -1,14 +1,14 @@
--- `replay_commands::words::readable` meets its contract: the words left are fewer in each turn. Assumes nothing.
+-- `replay_words::words::readable` meets its contract: the words left are fewer in each turn. Assumes nothing.
 use Prim.Native.Nat.{_≤_}
 use borrow.Author.Needs.{needs}
-use Rattle.replay_commands.proofs.words.readable.Statement.{statement}
-use Rattle.replay_commands.proofs.words.readable.Tie as tie
+use Rattle.replay_words.proofs.words.readable.Statement.{statement}
+use Rattle.replay_words.proofs.words.readable.Tie as tie
 
 abbrev Inv-loop : tie.InvT-loop
-Inv-loop line count left₀ left = left ≤ 16
+Inv-loop line count words left₀ left = left ≤ 255
 
 abbrev μ-loop : tie.MeasureT-loop
-μ-loop line count left₀ left = left
+μ-loop line count words left₀ left = left
 
 mul-if1 : tie.Need-mul-if1 Inv-loop μ-loop
 mul-if1 c = search needs

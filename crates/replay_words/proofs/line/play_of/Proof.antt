@@ -1,7 +1,7 @@
--- `replay_commands::line::play_of` meets its contract: what its calls ensure, put together. Assumes nothing.
+-- `replay_words::line::play_of` meets its contract: what its calls ensure, put together. Assumes nothing.
 use borrow.Author.Needs.{needs}
-use Rattle.replay_commands.proofs.line.play_of.Statement.{statement}
-use Rattle.replay_commands.proofs.line.play_of.Tie as tie
+use Rattle.replay_words.proofs.line.play_of.Statement.{statement}
+use Rattle.replay_words.proofs.line.play_of.Tie as tie
 
 name-requires : tie.Need-name-requires
 name-requires c κs = search needs

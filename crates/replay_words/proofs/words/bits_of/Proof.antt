@@ -1,8 +1,8 @@
--- `replay_commands::words::bits_of` meets its contract: where the bits are taken, the number is no NaN. Assumes nothing.
+-- `replay_words::words::bits_of` meets its contract: where the bits are taken, the number is no NaN. Assumes nothing.
 use borrow.Author.Needs.{needs}
 use Rattle.lines.proofs.Same.{equals-itself}
-use Rattle.replay_commands.proofs.words.bits_of.Statement.{statement}
-use Rattle.replay_commands.proofs.words.bits_of.Tie as tie
+use Rattle.replay_words.proofs.words.bits_of.Statement.{statement}
+use Rattle.replay_words.proofs.words.bits_of.Tie as tie
 
 returns : tie.Need-returns
 returns c = search needs
