@@ -13,6 +13,7 @@ mod replays;
 mod report;
 mod rng;
 mod rows;
+mod sampling;
 mod series;
 mod trig;
 
@@ -32,6 +33,18 @@ fn main() -> ExitCode {
             let program: Vec<String> = std::env::args().skip(2).collect();
             return commands::compare(200, &program);
         }
+        Some("sampling") => {
+            let program: Vec<String> = std::env::args().skip(2).collect();
+            return sampling::compare(400, &program);
+        }
+        Some("stored_jobs") => {
+            sampling::stored(false);
+            return ExitCode::SUCCESS;
+        }
+        Some("stored_samples") => {
+            sampling::stored(true);
+            return ExitCode::SUCCESS;
+        }
         Some("stored_lists") => {
             commands::stored(false);
             return ExitCode::SUCCESS;
@@ -43,7 +56,7 @@ fn main() -> ExitCode {
         Some(word) => match word.parse() {
             Ok(scale) => scale,
             Err(_) => {
-                eprintln!("usage: compare [SCALE | bench | replays | commands PROGRAM.. | stored_lists | stored_answers]");
+                eprintln!("usage: compare [SCALE | bench | replays | commands PROGRAM.. | sampling PROGRAM.. | stored_lists | stored_answers | stored_jobs | stored_samples]");
                 return ExitCode::from(2);
             }
         },
