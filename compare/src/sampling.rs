@@ -57,7 +57,10 @@ pub fn compare(seeds: u64, program: &[String]) -> ExitCode {
             };
             if let Some(why) = excluded {
                 count(format!("excluded: {why}"), 1);
-                count(format!("  of these equal all the same: {why}"), u64::from(equal));
+                count(
+                    format!("  of these equal all the same: {why}"),
+                    u64::from(equal),
+                );
                 continue;
             }
             compared += 1;
@@ -89,7 +92,10 @@ pub fn stored(answers: bool) {
     let mut rng = Rng::new(1000);
     let jobs = (0..600).map(|k| job(&mut rng, k, 12));
     let fit = |job: &Job| {
-        !job.wild && job.plays.len() < 9 && job.lengths.iter().all(|n| *n < 40) && job.oscs.len() < 5
+        !job.wild
+            && job.plays.len() < 9
+            && job.lengths.iter().all(|n| *n < 40)
+            && job.oscs.len() < 5
     };
     let told = jobs.filter(fit).map(|job| (text(&job), told(&job)));
     for (text, told) in told.filter(|(_, told)| told.excluded.is_none()).take(200) {
@@ -111,7 +117,10 @@ fn told(job: &Job) -> Told {
     let (ran, refusal) = tables.execute(&items.collect::<Vec<_>>());
     assert_eq!(refusal, None);
     let head = format!("x {:016x} {ran:016x}\n", 0);
-    let (i, q) = (vec![job.fill[0]; job.lengths[0]], vec![job.fill[1]; job.lengths[1]]);
+    let (i, q) = (
+        vec![job.fill[0]; job.lengths[0]],
+        vec![job.fill[1]; job.lengths[1]],
+    );
     if let Some((number, place)) = refused_before(job) {
         return Told {
             lines: head + &answer(number, place, &i, &q, job.from),
@@ -125,7 +134,11 @@ fn told(job: &Job) -> Told {
     let (i, q) = samples.split_at(job.lengths[0]);
     let (number, end, excluded) = match refusal {
         None => (0, format!("sampled, {}", order(job)), None),
-        Some((Some(8), _)) => (8, String::new(), Some("a number not finite (the Rust panics)")),
+        Some((Some(8), _)) => (
+            8,
+            String::new(),
+            Some("a number not finite (the Rust panics)"),
+        ),
         Some((Some(number), _)) => (number, format!("refused by {number}, {}", order(job)), None),
         Some((None, text)) => panic!("the Rust ended by {text}"),
     };
@@ -166,11 +179,16 @@ fn order(job: &Job) -> &'static str {
 fn refused_before(job: &Job) -> Option<(u8, usize)> {
     let [i, q, scratch] = job.lengths;
     let n = job.names.len();
-    let finite = [job.rate, 1.0 / job.rate, job.delay].iter().all(|x| x.is_finite());
+    let finite = [job.rate, 1.0 / job.rate, job.delay]
+        .iter()
+        .all(|x| x.is_finite());
     let rows = i <= 65536 && (job.rows == 1 && q == 0 || job.rows == 2 && q == i);
     let is_name = |name: &&str| {
         let bytes = name.bytes();
-        (1..=16).contains(&name.len()) && bytes.into_iter().all(|b| b != b'=' && (0x21..=0x7e).contains(&b))
+        (1..=16).contains(&name.len())
+            && bytes
+                .into_iter()
+                .all(|b| b != b'=' && (0x21..=0x7e).contains(&b))
     };
     let known = |name: &&str| CHANNELS[..job.oscs.len()].contains(name);
     if !(finite && job.rate > 0.0 && (-20..=20).contains(&job.level)) {
@@ -201,12 +219,23 @@ fn same_times(job: &Job) -> bool {
 }
 
 fn answer(number: u8, place: usize, i: &[f64], q: &[f64], from: usize) -> String {
-    format!("m {number:016x} {place:016x}\ni{}\nq{}\n", shown(i, from), shown(q, from))
+    format!(
+        "m {number:016x} {place:016x}\ni{}\nq{}\n",
+        shown(i, from),
+        shown(q, from)
+    )
 }
 
 fn shown(row: &[f64], from: usize) -> String {
     let row = row.iter().skip(from).take(256);
-    row.map(|x| word(if x.is_nan() { f64::from_bits(0x7ff8 << 48) } else { *x })).collect()
+    row.map(|x| {
+        word(if x.is_nan() {
+            f64::from_bits(0x7ff8 << 48)
+        } else {
+            *x
+        })
+    })
+    .collect()
 }
 
 fn text(job: &Job) -> String {
@@ -231,7 +260,11 @@ fn text(job: &Job) -> String {
     let sizes = [(job.level + 30) as usize, job.rows, i, q, scratch].map(|n| format!(" {n:016x}"));
     let fill = job.fill.map(word).concat();
     let channel = naming(job.channel);
-    text + &format!("m{channel}{settings}{}{fill} {:016x}\n", sizes.concat(), job.from)
+    text + &format!(
+        "m{channel}{settings}{}{fill} {:016x}\n",
+        sizes.concat(),
+        job.from
+    )
 }
 
 fn kinds(job: &Job) -> Vec<String> {
@@ -249,17 +282,24 @@ fn kinds(job: &Job) -> Vec<String> {
     add(job.delay != 0.0, "a delay");
     add(job.tolerances[1] > 0.0, "a time tolerance");
     add(plays().any(|p| p.shape.is_some() && p.width > 0.0), "Hann");
-    add(plays().any(|p| p.shape.is_some() && p.width > 0.0 && p.drag != 0.0), "Hann and drag");
-    add(plays().any(|p| p.shape.is_none() || p.width == 0.0), "a plateau alone");
+    add(
+        plays().any(|p| p.shape.is_some() && p.width > 0.0 && p.drag != 0.0),
+        "Hann and drag",
+    );
+    add(
+        plays().any(|p| p.shape.is_none() || p.width == 0.0),
+        "a plateau alone",
+    );
     add(job.lengths[0] > 256, "a row over 256 samples");
+    add(job.lengths[0] > 65000, "a row of 65,535 samples or more");
     add(job.plays.len() > 32, "over 32 plays");
     kinds
 }
 
 fn job(rng: &mut Rng, k: u64, longest: u64) -> Job {
     let one_bin = k % 2 == 0;
-    let wild = k % 20 == 19;
-    let odd = if k % 4 == 3 { 12 } else { 400 };
+    let wild = k % 12 == 10 || k % 12 == 7;
+    let odd = if k % 6 == 5 { 12 } else { 400 };
     let wide = [1.0, 2.0, 0.5, 1.7, 2e9, 1e-3, 1.0 / 3.0];
     let mut rate = match rng.below(3) {
         0 => 1.0,
@@ -272,6 +312,7 @@ fn job(rng: &mut Rng, k: u64, longest: u64) -> Job {
     let unit = 1.0 / rate;
     let length = match rng.below(12) {
         0 => rng.below(4),
+        1 if longest > 12 && rng.below(25) == 0 => 65535 + rng.below(3),
         1 if longest > 12 => 257 + rng.below(3000),
         _ => 1 + rng.below(longest),
     } as usize;
@@ -288,7 +329,11 @@ fn job(rng: &mut Rng, k: u64, longest: u64) -> Job {
     let plays = plays(rng, &oscs, unit, length as f64, delay, one_bin, wild, odd);
     let (mut names, mut factors) = crosstalk(rng, oscs.len(), wild, odd);
     let rows = 1 + rng.below(2) as usize;
-    let mut lengths = [length, if rows == 2 { length } else { 0 }, length + rng.below(3) as usize];
+    let mut lengths = [
+        length,
+        if rows == 2 { length } else { 0 },
+        length + rng.below(3) as usize,
+    ];
     let mut job_rows = rows;
     let mut channel = CHANNELS[rng.below(oscs.len() as u64) as usize];
     let (mut delay, mut level) = (delay, level);
@@ -326,7 +371,11 @@ fn job(rng: &mut Rng, k: u64, longest: u64) -> Job {
         }
         _ => {}
     }
-    let from = if length > 256 { rng.below(length as u64 - 200) } else { 0 };
+    let from = if length > 256 {
+        rng.below(length as u64 - 200)
+    } else {
+        0
+    };
     let odd_fill = [1e300, f64::INFINITY, f64::NAN, -0.0][rng.below(4) as usize];
     Job {
         plays,
@@ -358,7 +407,13 @@ fn oscillators(rng: &mut Rng, rate: f64, one_bin: bool, wild: bool) -> Vec<Osc> 
     let count = 1 + rng.below(8) as usize;
     let first = oscillator(rng, rate, wild);
     (0..count)
-        .map(|_| if one_bin || rng.below(3) > 0 { first } else { oscillator(rng, rate, wild) })
+        .map(|_| {
+            if one_bin || rng.below(3) > 0 {
+                first
+            } else {
+                oscillator(rng, rate, wild)
+            }
+        })
         .collect()
 }
 
@@ -369,8 +424,16 @@ fn oscillator(rng: &mut Rng, rate: f64, wild: bool) -> Osc {
         _ => rng.sample() * rate,
     };
     Osc {
-        base: if wild && rng.below(6) == 0 { large(rng) } else { base },
-        delta: if rng.below(2) == 0 { 0.0 } else { rng.sample() * rate },
+        base: if wild && rng.below(6) == 0 {
+            large(rng)
+        } else {
+            base
+        },
+        delta: if rng.below(2) == 0 {
+            0.0
+        } else {
+            rng.sample() * rate
+        },
         phase: rng.sample(),
     }
 }
@@ -397,7 +460,9 @@ fn plays(
         1 => 40,
         _ => 1 + rng.below(10),
     };
-    let kinds: Vec<Play> = (0..if one_bin { 1 } else { 3 }).map(|_| kind(rng, unit, length)).collect();
+    let kinds: Vec<Play> = (0..if one_bin { 1 } else { 3 })
+        .map(|_| kind(rng, unit, length))
+        .collect();
     let mut made: Vec<(Play, f64)> = Vec::new();
     for _ in 0..count {
         let like = kinds[rng.below(kinds.len() as u64) as usize];
@@ -421,7 +486,11 @@ fn plays(
         let play = Play {
             channel: CHANNELS[rng.below(oscs.len() as u64) as usize],
             shape: like.shape.map(|_| ["hann", "h"][rng.below(2) as usize]),
-            amplitude: if wild && rng.below(4) == 0 { large(rng) } else { amplitude },
+            amplitude: if wild && rng.below(4) == 0 {
+                large(rng)
+            } else {
+                amplitude
+            },
             drag: [0.0, rng.sample() * unit, rng.sample() * 8.0 * unit][rng.below(3) as usize],
             phase: rng.sample() * 4.0,
             ..like
@@ -459,7 +528,12 @@ fn kind(rng: &mut Rng, unit: f64, length: f64) -> Play<'static> {
     }
 }
 
-fn crosstalk(rng: &mut Rng, channels: usize, wild: bool, odd: u64) -> (Vec<&'static str>, Vec<f64>) {
+fn crosstalk(
+    rng: &mut Rng,
+    channels: usize,
+    wild: bool,
+    odd: u64,
+) -> (Vec<&'static str>, Vec<f64>) {
     if rng.below(4) == 0 {
         return (Vec::new(), Vec::new());
     }
