@@ -30,6 +30,7 @@ struct Job {
 /// What the program has to print, and how it came about.
 struct Told {
     lines: String,
+    number: usize,
     end: String,
     mixed: usize,
     /// By document 01 no comparison is to be made.
@@ -87,19 +88,21 @@ pub fn compare(seeds: u64, program: &[String]) -> ExitCode {
     ExitCode::from(u8::from(different > 0))
 }
 
-/// Some jobs and the Rust's answers, for the program's stored run: the jobs, or the answers.
+/// Some jobs and the Rust's answers, for the program's stored run: the jobs, or the answers. At most 60 that are sampled, 12 of each refusal.
 pub fn stored(answers: bool) {
     let mut rng = Rng::new(1000);
-    let jobs = (0..600).map(|k| job(&mut rng, k, 12));
-    let fit = |job: &Job| {
-        !job.wild
-            && job.plays.len() < 9
-            && job.lengths.iter().all(|n| *n < 40)
-            && job.oscs.len() < 5
-    };
-    let told = jobs.filter(fit).map(|job| (text(&job), told(&job)));
-    for (text, told) in told.filter(|(_, told)| told.excluded.is_none()).take(200) {
-        print!("{}", if answers { told.lines } else { text });
+    let mut seen = [0; 16];
+    for k in 0..6000 {
+        let job = job(&mut rng, k, 12);
+        let small = job.plays.len() < 6 && job.oscs.len() < 5 && job.lengths[0] < 40;
+        let told = told(&job);
+        if !small || job.wild || told.excluded.is_some() {
+            continue;
+        }
+        seen[told.number] += 1;
+        if seen[told.number] <= if told.number == 0 { 60 } else { 12 } {
+            print!("{}", if answers { told.lines } else { text(&job) });
+        }
     }
 }
 
@@ -124,6 +127,7 @@ fn told(job: &Job) -> Told {
     if let Some((number, place)) = refused_before(job) {
         return Told {
             lines: head + &answer(number, place, &i, &q, job.from),
+            number: number.into(),
             end: format!("refused by {number} before any pulse, as document 01 says"),
             mixed: 0,
             excluded: None,
@@ -145,6 +149,7 @@ fn told(job: &Job) -> Told {
     let excluded = excluded.or(same_times(job).then_some("equal times"));
     Told {
         lines: head + &answer(number, mixed, i, q, job.from),
+        number: number.into(),
         end,
         mixed,
         excluded,
