@@ -50,7 +50,10 @@ fn list_end(text: &[u8], from: usize) -> usize
 {
     let mut at = from;
     while at < text.len() {
-        let next = replay_words::words::least(replay_words::words::end_of(text, at) + 1, text.len());
+        let next = replay_words::words::least(
+            replay_words::words::end_of(text, at) + 1,
+            text.len(),
+        );
         if text[at] == b'x' {
             return next;
         }

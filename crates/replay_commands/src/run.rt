@@ -1,17 +1,17 @@
 // One list: its lines read, its commands run as one call.
-use replay_words::line::arranged_of;
-use replay_words::line::is_command;
-use replay_words::line::kind_of;
-use replay_words::line::tables_after;
 use super::show::show;
-use replay_words::words::end_of;
-use replay_words::words::least;
 use commands::command::Arranged;
 use owned::execute_owned;
 use pulse::list::Pulse;
 use quant::complex::Complex;
 use quant::quantity::Amplitude;
 use quant::quantity::Time;
+use replay_words::line::arranged_of;
+use replay_words::line::is_command;
+use replay_words::line::kind_of;
+use replay_words::line::tables_after;
+use replay_words::words::end_of;
+use replay_words::words::least;
 use tables::Tables;
 
 pub(crate) fn one(list: &[u8]) {

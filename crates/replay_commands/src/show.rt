@@ -1,12 +1,12 @@
 // What a call came to, printed.
 ghost use Prim.Native.Nat.{_<_, _≤_};
-use replay_words::words::least;
-use replay_words::words::print_float;
-use replay_words::words::print_word;
 use owned::Executed;
 use pulse::list::Pulse;
 use quant::refusal::Answer;
 use quant::refusal::number;
+use replay_words::words::least;
+use replay_words::words::print_float;
+use replay_words::words::print_word;
 use tables::Channel;
 
 pub(crate) fn show(e: Executed, bins: &[[f64; 5]]) {
