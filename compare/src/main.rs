@@ -14,6 +14,7 @@ mod report;
 mod rng;
 mod rows;
 mod sampling;
+mod sampling_bench;
 mod series;
 mod trig;
 
@@ -37,6 +38,11 @@ fn main() -> ExitCode {
             let program: Vec<String> = std::env::args().skip(2).collect();
             return sampling::compare(400, &program);
         }
+        Some("sampling_bench") => {
+            let program: Vec<String> = std::env::args().skip(2).collect();
+            sampling_bench::run(&program);
+            return ExitCode::SUCCESS;
+        }
         Some("stored_jobs") => {
             sampling::stored(false);
             return ExitCode::SUCCESS;
@@ -56,7 +62,7 @@ fn main() -> ExitCode {
         Some(word) => match word.parse() {
             Ok(scale) => scale,
             Err(_) => {
-                eprintln!("usage: compare [SCALE | bench | replays | commands PROGRAM.. | sampling PROGRAM.. | stored_lists | stored_answers | stored_jobs | stored_samples]");
+                eprintln!("usage: compare [SCALE | bench | replays | commands PROGRAM.. | sampling PROGRAM.. | sampling_bench PROGRAM.. | stored_lists | stored_answers | stored_jobs | stored_samples]");
                 return ExitCode::from(2);
             }
         },

@@ -20,6 +20,8 @@
 ghost use mathlib.Core.Path.{_≡_};
 ghost use Prim.Native.Nat.{_<_, _≤_};
 ghost use lib.ListN.{length};
+use replay_words::words::end_of;
+use replay_words::words::least;
 
 mod run;
 mod show;
@@ -50,10 +52,7 @@ fn list_end(text: &[u8], from: usize) -> usize
 {
     let mut at = from;
     while at < text.len() {
-        let next = replay_words::words::least(
-            replay_words::words::end_of(text, at) + 1,
-            text.len(),
-        );
+        let next = least(end_of(text, at) + 1, text.len());
         if text[at] == b'x' {
             return next;
         }
