@@ -1,13 +1,13 @@
 // Runs commands and samples a channel: reads jobs on standard input and prints what each comes to. `compare/sampling` makes jobs, and what the
-// Rust comes to. Lines are those of `replay_commands`, without `x`, and
+// Rust comes to. Lines are those of `replay_commands`, and
 //
 //     n NAME                                       a name of the crosstalk matrix
 //     v FACTOR                                     a factor of it, row by row
 //     m NAME RATE DELAY LEVEL ROWS I Q SCRATCH FIRST SECOND FROM
 //
-// `m` ends a job: its commands are run as one call, then the channel is sampled. LEVEL is 30 more than the align level; I, Q and SCRATCH are
-// the lengths of the rows and of the scratch; every sample of the rows is FIRST or SECOND before. At most 65,537 samples are lent, and 64
-// factors. Printed: each call's refusal (0: none) and count, and up to 256 samples of each row, from FROM on.
+// `x` ends a call; `m` ends a job: the commands before it are its last call, and then the channel is sampled. LEVEL is 30 more than the align
+// level; I, Q and SCRATCH are the lengths of the rows and of the scratch; every sample of the rows is FIRST or SECOND before. At most 65,537
+// samples are lent, and 64 factors. Printed: each call's refusal (0: none) and count, and up to 256 samples of each row, from FROM on.
 //
 //     x NUMBER COUNT
 //     m NUMBER COUNT
@@ -35,21 +35,21 @@ fn main() {
 fn each(text: &[u8]) {
     let mut at: usize = 0;
     while at < text.len() {
-        let end = job_end(text, at);
+        let end = behind(text, at, b'm');
         run::one(&text[at..end]);
         at = end;
     }
 }
 
-// Where the job that starts at a place ends: behind its line `m`, or at the end of the text.
-fn job_end(text: &[u8], from: usize) -> usize
+// Where the part that starts at a place ends: behind its first line of a letter, or at the end of the text.
+pub(crate) fn behind(text: &[u8], from: usize, letter: u8) -> usize
     requires { ⌜ from < length (now text) ⌝ }
     ensures { λ r. ⌜ (from < r) × (r ≤ length (now (text .entry))) ⌝ }
 {
     let mut at = from;
     while at < text.len() {
         let next = least(end_of(text, at) + 1, text.len());
-        if text[at] == b'm' {
+        if text[at] == letter {
             return next;
         }
         at = next;

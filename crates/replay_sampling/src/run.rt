@@ -4,10 +4,12 @@ use super::ask::ask_of;
 use super::ask::kind_of;
 use super::ask::named;
 use super::ask::no_names;
+use super::behind;
 use super::show::show_answer;
 use super::show::show_row;
 use commands::command::Arranged;
 use crosstalk::names::Crosstalk;
+use owned::Executed;
 use owned::execute_owned;
 use owned_sampler::sample_owned;
 use pulse::list::Pulse;
@@ -32,20 +34,59 @@ struct Wanted {
 
 pub(crate) fn one(job: &[u8]) {
     let mut tables = tables::make(Amplitude(0.0), Time(0.0), false).tables;
+    let mut bins = [[0.0; 5]; 512];
+    let mut pulses = [no_pulse(); 8192];
+    let mut at: usize = 0;
+    while at < job.len() {
+        let end = behind(job, at, b'x');
+        let e = call(&job[at..end], tables, &mut bins, pulses);
+        tables = tables_of(e);
+        pulses = e.pulses;
+        at = end;
+    }
+    let mut factors = [0.0; 64];
+    let w = read_wanted(job, &mut factors);
+    let cross = w.cross;
+    let ask = w.ask;
+    sampled(tables, cross, &factors, w.lent, &bins, pulses, ask);
+}
+
+fn tables_of(e: Executed) -> Tables {
+    let tabled = e.tabled;
+    tabled.tables
+}
+
+// Lines read, and their commands run as one call.
+fn call(list: &[u8], start: Tables, bins: &mut [[f64; 5]], pulses: [Pulse; 8192]) -> Executed {
+    let mut tables = start;
     let mut commands = [arranged_of(b'b', b""); 1024];
     let mut count: usize = 0;
     let mut at: usize = 0;
-    while at < job.len() {
-        let end = end_of(job, at);
+    while at < list.len() {
+        let end = end_of(list, at);
         let next = end + 1;
-        let kind = told(kind_of(&job[at..end]));
-        tables = tables_after(kind, &job[at..end], tables);
+        let kind = told(kind_of(&list[at..end]));
+        tables = tables_after(kind, &list[at..end], tables);
         let place = least(count, 1023);
-        commands[place] = command_after(kind, &job[at..end], commands[place]);
+        commands[place] = command_after(kind, &list[at..end], commands[place]);
         count = count_after(kind, count);
         at = next;
     }
-    finish(tables, commands, count, job);
+    ran(tables, commands, count, bins, pulses)
+}
+
+fn ran(
+    tables: Tables,
+    commands: [Arranged; 1024],
+    count: usize,
+    bins: &mut [[f64; 5]],
+    pulses: [Pulse; 8192],
+) -> Executed {
+    let e = execute_owned(tables, commands, count, bins, pulses);
+    let tabled = e.tabled;
+    let answer = tabled.answer;
+    show_answer(b"x", answer);
+    e
 }
 
 fn read_wanted(job: &[u8], factors: &mut [f64]) -> Wanted {
@@ -112,22 +153,6 @@ fn ask_after(kind: u8, line: &[u8], ask: Ask) -> Ask {
         return ask_of(line);
     }
     ask
-}
-
-fn finish(tables: Tables, commands: [Arranged; 1024], count: usize, job: &[u8]) {
-    let mut bins = [[0.0; 5]; 512];
-    let pulses = [no_pulse(); 8192];
-    let e = execute_owned(tables, commands, count, &mut bins, pulses);
-    let tabled = e.tabled;
-    let after = tabled.tables;
-    let stored = e.pulses;
-    let answer = tabled.answer;
-    show_answer(b"x", answer);
-    let mut factors = [0.0; 64];
-    let w = read_wanted(job, &mut factors);
-    let cross = w.cross;
-    let ask = w.ask;
-    sampled(after, cross, &factors, w.lent, &bins, stored, ask);
 }
 
 fn sampled(

@@ -14,8 +14,8 @@ abbrev μ-loop : tie.MeasureT-loop
 loop-holds : tie.Need-loop-holds Inv-loop μ-loop
 loop-holds c = search needs
 
-job-end-requires : tie.Need-job-end-requires Inv-loop μ-loop
-job-end-requires c κs = search needs
+behind-requires : tie.Need-behind-requires Inv-loop μ-loop
+behind-requires c κs = search needs
 
 sub-one : tie.Need-sub-one Inv-loop μ-loop
 sub-one c = search needs
@@ -45,7 +45,7 @@ each-spec =
     Inv-loop
     μ-loop
     loop-holds
-    job-end-requires
+    behind-requires
     sub-one
     part-one-start
     part-one-end

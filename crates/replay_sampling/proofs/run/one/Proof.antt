@@ -1,90 +1,46 @@
--- `replay_sampling::run::one` meets its contract: it is safe and ends, since each turn goes past a line. Assumes nothing.
-use Prim.Native.Nat.{_+_, _-_, _≤_}
+-- `replay_sampling::run::one` meets its contract: it is safe and ends, since each turn goes past a call. Assumes nothing.
+use Prim.Native.Nat.{_-_, _≤_}
+use mathlib.Core.Path.{_≡_}
 use borrow.Author.Needs.{needs}
 use lib.ListN.{length}
 use Rattle.replay_sampling.proofs.run.one.Statement.{statement}
 use Rattle.replay_sampling.proofs.run.one.Tie as tie
 
 abbrev Inv-loop : tie.InvT-loop
-Inv-loop job tables₀ commands₀ count₀ at₀ tables commands count at = at ≤ length job + 1
+Inv-loop job tables₀ bins₀ pulses₀ at₀ tables bins pulses at = (at ≤ length job) × (length bins ≡ 512)
 
 abbrev μ-loop : tie.MeasureT-loop
-μ-loop job tables₀ commands₀ count₀ at₀ tables commands count at = length job - at
+μ-loop job tables₀ bins₀ pulses₀ at₀ tables bins pulses at = length job - at
 
 make-requires : tie.Need-make-requires Inv-loop μ-loop
 make-requires c κs = search needs
 
-slice-aggregate-arranged-of : tie.Need-slice-aggregate-arranged-of Inv-loop μ-loop
-slice-aggregate-arranged-of c = search needs
-
-arranged-of-requires : tie.Need-arranged-of-requires Inv-loop μ-loop
-arranged-of-requires c κs = search needs
+no-pulse-requires : tie.Need-no-pulse-requires Inv-loop μ-loop
+no-pulse-requires c κs = search needs
 
 loop-holds : tie.Need-loop-holds Inv-loop μ-loop
 loop-holds c = search needs
 
-end-of-requires : tie.Need-end-of-requires Inv-loop μ-loop
-end-of-requires c κs = search needs
+behind-requires : tie.Need-behind-requires Inv-loop μ-loop
+behind-requires c κs = search needs
 
-add-next : tie.Need-add-next Inv-loop μ-loop
-add-next c = search needs
+sub-call : tie.Need-sub-call Inv-loop μ-loop
+sub-call c = search needs
 
-sub-kind-of : tie.Need-sub-kind-of Inv-loop μ-loop
-sub-kind-of c = search needs
+part-call-start : tie.Need-part-call-start Inv-loop μ-loop
+part-call-start c = search needs
 
-part-kind-of-start : tie.Need-part-kind-of-start Inv-loop μ-loop
-part-kind-of-start c = search needs
+part-call-end : tie.Need-part-call-end Inv-loop μ-loop
+part-call-end c = search needs
 
-part-kind-of-end : tie.Need-part-kind-of-end Inv-loop μ-loop
-part-kind-of-end c = search needs
+slice-aggregate-call : tie.Need-slice-aggregate-call Inv-loop μ-loop
+slice-aggregate-call c = search needs
 
-kind-of-requires : tie.Need-kind-of-requires Inv-loop μ-loop
-kind-of-requires c κs = search needs
+call-requires : tie.Need-call-requires Inv-loop μ-loop
+call-requires c κs = search needs
 
-told-requires : tie.Need-told-requires Inv-loop μ-loop
-told-requires c κs = search needs
-
-sub-tables-after : tie.Need-sub-tables-after Inv-loop μ-loop
-sub-tables-after c = search needs
-
-part-tables-after-start : tie.Need-part-tables-after-start Inv-loop μ-loop
-part-tables-after-start c = search needs
-
-part-tables-after-end : tie.Need-part-tables-after-end Inv-loop μ-loop
-part-tables-after-end c = search needs
-
-tables-after-requires : tie.Need-tables-after-requires Inv-loop μ-loop
-tables-after-requires c κs = search needs
-
-least-requires : tie.Need-least-requires Inv-loop μ-loop
-least-requires c κs = search needs
-
-sub-command-after : tie.Need-sub-command-after Inv-loop μ-loop
-sub-command-after c = search needs
-
-part-command-after-start : tie.Need-part-command-after-start Inv-loop μ-loop
-part-command-after-start c = search needs
-
-part-command-after-end : tie.Need-part-command-after-end Inv-loop μ-loop
-part-command-after-end c = search needs
-
-mul-command-after : tie.Need-mul-command-after Inv-loop μ-loop
-mul-command-after c = search needs
-
-array-copy-out-command-after : tie.Need-array-copy-out-command-after Inv-loop μ-loop
-array-copy-out-command-after c = search needs
-
-command-after-requires : tie.Need-command-after-requires Inv-loop μ-loop
-command-after-requires c κs = search needs
-
-mul-commands : tie.Need-mul-commands Inv-loop μ-loop
-mul-commands c = search needs
-
-array-set-from-commands : tie.Need-array-set-from-commands Inv-loop μ-loop
-array-set-from-commands c = search needs
-
-count-after-requires : tie.Need-count-after-requires Inv-loop μ-loop
-count-after-requires c κs = search needs
+tables-of-requires : tie.Need-tables-of-requires Inv-loop μ-loop
+tables-of-requires c κs = search needs
 
 loop-less : tie.Need-loop-less Inv-loop μ-loop
 loop-less c = search needs
@@ -92,8 +48,20 @@ loop-less c = search needs
 loop-again : tie.Need-loop-again Inv-loop μ-loop
 loop-again c = search needs
 
-finish-requires : tie.Need-finish-requires Inv-loop μ-loop
-finish-requires c κs = search needs
+slice-aggregate-read-wanted : tie.Need-slice-aggregate-read-wanted Inv-loop μ-loop
+slice-aggregate-read-wanted c = search needs
+
+read-wanted-requires : tie.Need-read-wanted-requires Inv-loop μ-loop
+read-wanted-requires c κs = search needs
+
+slice-aggregate-sampled : tie.Need-slice-aggregate-sampled Inv-loop μ-loop
+slice-aggregate-sampled c = search needs
+
+slice-aggregate-sampled-2 : tie.Need-slice-aggregate-sampled-2 Inv-loop μ-loop
+slice-aggregate-sampled-2 c = search needs
+
+sampled-requires : tie.Need-sampled-requires Inv-loop μ-loop
+sampled-requires c κs = search needs
 
 returns : tie.Need-returns Inv-loop μ-loop
 returns c = search needs
@@ -105,31 +73,20 @@ one-spec =
     Inv-loop
     μ-loop
     make-requires
-    slice-aggregate-arranged-of
-    arranged-of-requires
+    no-pulse-requires
     loop-holds
-    end-of-requires
-    add-next
-    sub-kind-of
-    part-kind-of-start
-    part-kind-of-end
-    kind-of-requires
-    told-requires
-    sub-tables-after
-    part-tables-after-start
-    part-tables-after-end
-    tables-after-requires
-    least-requires
-    sub-command-after
-    part-command-after-start
-    part-command-after-end
-    mul-command-after
-    array-copy-out-command-after
-    command-after-requires
-    mul-commands
-    array-set-from-commands
-    count-after-requires
+    behind-requires
+    sub-call
+    part-call-start
+    part-call-end
+    slice-aggregate-call
+    call-requires
+    tables-of-requires
     loop-less
     loop-again
-    finish-requires
+    slice-aggregate-read-wanted
+    read-wanted-requires
+    slice-aggregate-sampled
+    slice-aggregate-sampled-2
+    sampled-requires
     returns)

@@ -1,15 +1,15 @@
--- `replay_sampling::job_end` meets its contract: each turn goes past a line, and stays within the text. Assumes nothing.
+-- `replay_sampling::behind` meets its contract: each turn goes past a line, and stays within the text. Assumes nothing.
 use Prim.Native.Nat.{_-_, _≤_}
 use borrow.Author.Needs.{needs}
 use lib.ListN.{length}
-use Rattle.replay_sampling.proofs.job_end.Statement.{statement}
-use Rattle.replay_sampling.proofs.job_end.Tie as tie
+use Rattle.replay_sampling.proofs.behind.Statement.{statement}
+use Rattle.replay_sampling.proofs.behind.Tie as tie
 
 abbrev Inv-loop : tie.InvT-loop
-Inv-loop text from at₀ at = (from ≤ at) × (at ≤ length text)
+Inv-loop text from letter at₀ at = (from ≤ at) × (at ≤ length text)
 
 abbrev μ-loop : tie.MeasureT-loop
-μ-loop text from at₀ at = length text - at
+μ-loop text from letter at₀ at = length text - at
 
 loop-holds : tie.Need-loop-holds Inv-loop μ-loop
 loop-holds c = search needs
@@ -38,8 +38,8 @@ loop-again c = search needs
 returns-2 : tie.Need-returns-2 Inv-loop μ-loop
 returns-2 c = search needs
 
-pub job-end-spec : {M : Type 1} → statement M
-job-end-spec =
+pub behind-spec : {M : Type 1} → statement M
+behind-spec =
     tie.close
     (tie.spec
     Inv-loop
