@@ -23,7 +23,7 @@ enum Told {
     Outside,
 }
 
-pub const CHANNELS: [&str; 8] = [
+pub(crate) const CHANNELS: [&str; 8] = [
     "q0",
     "q1",
     "q10",
@@ -98,7 +98,7 @@ fn agrees(told: &Told, ours: &str) -> bool {
 }
 
 /// What the program prints, cut before each line `x` and the lines `a` that stand before it.
-pub fn run(program: &[String], text: &str) -> Vec<String> {
+pub(crate) fn run(program: &[String], text: &str) -> Vec<String> {
     let mut program = Process::new(&program[0])
         .args(&program[1..])
         .stdin(Stdio::piped())
@@ -342,11 +342,11 @@ pub fn number(rng: &mut Rng) -> f64 {
     }
 }
 
-pub fn word(x: f64) -> String {
+pub(crate) fn word(x: f64) -> String {
     format!(" {:016x}", x.to_bits())
 }
 
-pub fn naming(name: &str) -> String {
+pub(crate) fn naming(name: &str) -> String {
     let mut bytes = [0; 16];
     bytes[..name.len()].copy_from_slice(name.as_bytes());
     let half = |at: usize| u64::from_le_bytes(bytes[at..at + 8].try_into().expect("eight"));
@@ -365,7 +365,7 @@ fn letter(command: &Command) -> (char, &'static str) {
     }
 }
 
-pub fn line(command: &Command, start: f64, span: f64) -> String {
+pub(crate) fn line(command: &Command, start: f64, span: f64) -> String {
     let rest = match *command {
         Command::Play(p) => {
             let shape = p.shape.map_or(" 0000000000000000".repeat(3), naming);

@@ -15,6 +15,8 @@ mod replays;
 mod report;
 mod rng;
 mod rows;
+mod sampling;
+mod sampling_bench;
 mod series;
 mod timed;
 mod trig;
@@ -48,6 +50,23 @@ fn main() -> ExitCode {
             let calls = calls::compare(200, &program);
             return if lists == ExitCode::SUCCESS { calls } else { lists };
         }
+        Some("sampling") => {
+            let program: Vec<String> = std::env::args().skip(2).collect();
+            return sampling::compare(400, &program);
+        }
+        Some("sampling_bench") => {
+            let program: Vec<String> = std::env::args().skip(2).collect();
+            sampling_bench::run(&program);
+            return ExitCode::SUCCESS;
+        }
+        Some("stored_jobs") => {
+            sampling::stored(false);
+            return ExitCode::SUCCESS;
+        }
+        Some("stored_samples") => {
+            sampling::stored(true);
+            return ExitCode::SUCCESS;
+        }
         Some("stored_lists") => {
             commands::stored(false);
             return ExitCode::SUCCESS;
@@ -59,7 +78,7 @@ fn main() -> ExitCode {
         Some(word) => match word.parse() {
             Ok(scale) => scale,
             Err(_) => {
-                eprintln!("usage: compare [SCALE | bench | bench_commands | bench_sampling | near | replays | commands PROGRAM.. | stored_lists | stored_answers]");
+                eprintln!("usage: compare [SCALE | bench | bench_commands | bench_sampling | near | replays | commands PROGRAM.. | sampling PROGRAM.. | sampling_bench PROGRAM.. | stored_lists | stored_answers | stored_jobs | stored_samples]");
                 return ExitCode::from(2);
             }
         },

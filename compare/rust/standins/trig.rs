@@ -1,6 +1,17 @@
 //! Stands in for `f64::cos` and `f64::sin`: with `--cfg ours` the proved ones of target/staticlib/libhost.a, else the standard
 //! library's. compare/rust/build says which.
 
+use std::cell::Cell;
+
+thread_local! {
+    static SINES: Cell<usize> = const { Cell::new(0) };
+}
+
+/// How many sines were taken so far. A pulse that is mixed takes two, and nothing else in a sampling takes one.
+pub fn sines() -> usize {
+    SINES.get()
+}
+
 #[cfg(ours)]
 mod c {
     #[link(name = "host", kind = "static", modifiers = "-bundle")]
@@ -17,6 +28,7 @@ pub fn cos(x: f64) -> f64 {
 
 #[cfg(ours)]
 pub fn sin(x: f64) -> f64 {
+    SINES.set(SINES.get() + 1);
     unsafe { c::skierralu_sin(x) }
 }
 
@@ -27,5 +39,6 @@ pub fn cos(x: f64) -> f64 {
 
 #[cfg(not(ours))]
 pub fn sin(x: f64) -> f64 {
+    SINES.set(SINES.get() + 1);
     x.sin()
 }

@@ -112,6 +112,19 @@ impl Lists {
         }
         start.elapsed().as_nanos() as f64
     }
+
+    /// Also how many pulses were mixed, refused or not.
+    pub fn sample_counted(
+        &self,
+        of: &Channel,
+        crosstalk: Option<&Crosstalk>,
+        samples: &mut [f64],
+        rows: usize,
+    ) -> (usize, Result<(), Refusal>) {
+        let before = trig::sines();
+        let sampled = self.sample(of, crosstalk, samples, rows);
+        ((trig::sines() - before) / 2, sampled)
+    }
 }
 
 /// A channel that has no list panics in the map: 14 where it was looked up for its crosstalk, 7 else.
