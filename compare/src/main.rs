@@ -16,7 +16,6 @@ mod report;
 mod rng;
 mod rows;
 mod sampling;
-mod sampling_bench;
 mod series;
 mod timed;
 mod trig;
@@ -54,11 +53,6 @@ fn main() -> ExitCode {
             let program: Vec<String> = std::env::args().skip(2).collect();
             return sampling::compare(400, &program);
         }
-        Some("sampling_bench") => {
-            let program: Vec<String> = std::env::args().skip(2).collect();
-            sampling_bench::run(&program);
-            return ExitCode::SUCCESS;
-        }
         Some("stored_jobs") => {
             sampling::stored(false);
             return ExitCode::SUCCESS;
@@ -78,7 +72,7 @@ fn main() -> ExitCode {
         Some(word) => match word.parse() {
             Ok(scale) => scale,
             Err(_) => {
-                eprintln!("usage: compare [SCALE | bench | bench_commands | bench_sampling | near | replays | commands PROGRAM.. | sampling PROGRAM.. | sampling_bench PROGRAM.. | stored_lists | stored_answers | stored_jobs | stored_samples]");
+                eprintln!("usage: compare [SCALE | bench | bench_commands | bench_sampling | near | replays | commands PROGRAM.. | sampling PROGRAM.. | stored_lists | stored_answers | stored_jobs | stored_samples]");
                 return ExitCode::from(2);
             }
         },

@@ -244,25 +244,29 @@ pub fn sampling() {
         let [ours, theirs, _] = sampled(&list, None);
         row(name, ours / samples, theirs / samples);
     }
-    let mut anew = [f64::INFINITY; 2];
-    let mut empty = 0.0;
-    for k in 0..12 {
-        let [ours, theirs, none] = sampled_once(&one(65000.0 + f64::from(k) * 0.01, 0.0, true, 1));
-        anew = [anew[0].min(ours), anew[1].min(theirs)];
-        empty = none;
+    let mut best = [f64::INFINITY; 5];
+    for k in 0..24 {
+        let times = samplings(&one(65000.0 + f64::from(k) * 0.01, 0.0, true, 1), None, 1, 1);
+        best = std::array::from_fn(|k| times[k].min(best[k]));
     }
-    row("Hann with drag, 1 pulse of 65,000, anew", anew[0] / 65000.0, anew[1] / 65000.0);
+    let [ours, theirs, empty] = parted(best, 1);
+    row("Hann with drag, 1 pulse of 65,000, anew", ours / 65000.0, theirs / 65000.0);
     println!("a call that adds nothing: {empty:.0} nanoseconds, of them the pulses' copy");
     println!(
         "{:44} {:>8} {:>8} {:>8}",
-        "nanoseconds a pulse", "ours", "Rust", "ratio"
+        "nanoseconds a pulse, full matrix", "ours", "Rust", "ratio"
     );
     let factors: Vec<f64> = (0..64).map(|k| if k % 9 == 0 { 1.0 } else { 0.01 * k as f64 }).collect();
-    for (name, bins) in [("128 pulses, 8 lists, full matrix, 1 bin", 1), ("128 pulses, 8 lists, full matrix, 8 bins", 8)] {
+    for (name, width, bins) in [
+        ("8 lists of 128, no samples", 0.0, 1),
+        ("8 lists of 128, Hann of 16 samples", 16.0, 1),
+        ("8 lists of 128, Hann, in 8 bins", 16.0, 8),
+    ] {
         let list: Vec<Timed> = (0..COMMANDS)
             .map(|k| {
-                let width = 16.0 + (k / 8 % bins) as f64;
-                (pulse(CHANNELS[k % 8], true, width, 0.0, 0.01), k as f64 * 60.0 + 0.5 * (k % 3) as f64, 65536.0)
+                let width = width + (k / 8 % bins) as f64;
+                let at = k as f64 * 60.0 + 0.5 * (k % 3) as f64;
+                (pulse(CHANNELS[k % 8], width > 0.0, width, 0.0, 0.01), at, 65536.0)
             })
             .collect();
         let [ours, theirs, _] = sampled(&list, Some(&factors));
@@ -284,16 +288,19 @@ fn pulse(channel: &'static str, shaped: bool, width: f64, plateau: f64, frequenc
     })
 }
 
+/// Nanoseconds of one sampling of `q0`: ours, the Rust's, and ours of no pulse.
 fn sampled(list: &[Timed], factors: Option<&[f64]>) -> [f64; 3] {
-    samplings(list, factors, 4, 40)
+    parted(samplings(list, factors, 4, 40), 4)
 }
 
-fn sampled_once(list: &[Timed]) -> [f64; 3] {
-    samplings(list, None, 1, 1)
+fn parted([all, one, none, none_once, theirs]: [f64; 5], calls: usize) -> [f64; 3] {
+    let calls = calls as f64;
+    let empty = (none - none_once) / calls;
+    [(all - one) / calls - empty, theirs / calls, empty]
 }
 
-/// Nanoseconds of one sampling of `q0`: ours, the Rust's, and ours of no pulse, the best of several runs that take turns.
-fn samplings(list: &[Timed], factors: Option<&[f64]>, many: usize, runs: usize) -> [f64; 3] {
+/// Nanoseconds of one sampling more than `many`, of one, of as many of no pulse, and of the Rust's `many`: the best of several runs that take turns.
+fn samplings(list: &[Timed], factors: Option<&[f64]>, many: usize, runs: usize) -> [f64; 5] {
     let mut words: Vec<u64> = list.iter().flat_map(|(command, ..)| words(command)).collect();
     let mut given: Vec<f64> = list.iter().flat_map(numbers).collect();
     words.resize(9 * COMMANDS, 6);
@@ -356,7 +363,5 @@ fn samplings(list: &[Timed], factors: Option<&[f64]>, many: usize, runs: usize) 
         ];
         best = std::array::from_fn(|k| times[k].min(best[k]));
     }
-    let calls = many as f64;
-    let empty = (best[2] - best[3]) / calls;
-    [(best[0] - best[1]) / calls - empty, best[4] / calls, empty]
+    best
 }
