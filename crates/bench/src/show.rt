@@ -11,12 +11,27 @@ use tables::Channel;
 use tables::Tables;
 
 pub(crate) fn explain() {
-    io::write_all(1, b"bench reads a job on standard input and answers each of its lines: ok COUNT, refused NUMBER PLACE or syntax LINE.\n");
+    io::write_all(
+        1,
+        b"bench reads a job on standard input and answers each of its lines: ok COUNT, refused NUMBER PLACE or syntax LINE.\n",
+    );
     io::write_all(1, b"A job, for a start:\n\n");
-    io::write_all(1, b"channel q2 base=4.5e9 delta=0 phase=0\nshape hann hann\n");
-    io::write_all(1, b"play ch=q2 shape=hann amp=0.5 width=2e-8 plateau=0 drag=0 freq=0 phase=0 flex=0 start=0 span=2e-8\n");
-    io::write_all(1, b"run\nrows 2 64\nsample q2 rate=2e9 delay=0 level=0\nprint\n\n");
-    io::write_all(1, b"docs/JOBS.md has every line and what it does; jobs/ has examples.\n");
+    io::write_all(
+        1,
+        b"channel q2 base=4.5e9 delta=0 phase=0\nshape hann hann\n",
+    );
+    io::write_all(
+        1,
+        b"play ch=q2 shape=hann amp=0.5 width=2e-8 plateau=0 drag=0 freq=0 phase=0 flex=0 start=0 span=2e-8\n",
+    );
+    io::write_all(
+        1,
+        b"run\nrows 2 64\nsample q2 rate=2e9 delay=0 level=0\nprint\n\n",
+    );
+    io::write_all(
+        1,
+        b"docs/JOBS.md has every line and what it does; jobs/ has examples.\n",
+    );
 }
 
 pub(crate) fn show_answer(a: Answer) {
