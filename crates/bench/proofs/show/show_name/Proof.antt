@@ -1,6 +1,5 @@
 -- `bench::show::show_name` is safe: a name has at most 16 bytes. Assumes nothing.
 use mathlib.Core.Path.{sym}
-use native.Mathlib.Omega.{arith}
 use lib.Seq.{length-take-le}
 use borrow.Author.Needs.{needs}
 use Rattle.bench.proofs.show.show_name.Statement.{statement}

@@ -1,6 +1,5 @@
 -- `bench::steps::step` is safe: at most 257 numbers are lent. Assumes nothing.
 use mathlib.Core.Path.{sym}
-use native.Mathlib.Omega.{arith}
 use lib.Seq.{length-take-le}
 use borrow.Author.Needs.{needs}
 use Rattle.bench.proofs.steps.step.Statement.{statement}

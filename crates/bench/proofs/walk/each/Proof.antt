@@ -114,7 +114,8 @@ part-take-factors-end : tie.Need-part-take-factors-end Inv-loop μ-loop
 part-take-factors-end c = search needs
 
 slice-aggregate-take-factors : tie.Need-slice-aggregate-take-factors Inv-loop μ-loop
-slice-aggregate-take-factors c = sym (c .before .before .before .before .before .before .before .before .before .before .before .before .loop .inv .factors-long)
+slice-aggregate-take-factors c =
+    sym (c .before .before .before .before .before .before .before .before .before .before .before .before .loop .inv .factors-long)
 
 take-factors-requires : tie.Need-take-factors-requires Inv-loop μ-loop
 take-factors-requires c κs = search needs
@@ -129,16 +130,22 @@ part-on-rows-end : tie.Need-part-on-rows-end Inv-loop μ-loop
 part-on-rows-end c = search needs
 
 slice-aggregate-on-rows : tie.Need-slice-aggregate-on-rows Inv-loop μ-loop
-slice-aggregate-on-rows c = sym (c .before .before .before .before .before .before .before .before .before .before .before .before .before .before .before .before .loop .inv .i-long)
+slice-aggregate-on-rows c =
+    let first = c .before .before .before .before .before .before .before .before .before .before .before .before .before .before in
+    sym (first .before .before .loop .inv .i-long)
 
 slice-aggregate-on-rows-2 : tie.Need-slice-aggregate-on-rows-2 Inv-loop μ-loop
-slice-aggregate-on-rows-2 c = sym (c .before .before .before .before .before .before .before .before .before .before .before .before .before .before .before .before .before .loop .inv .q-long)
+slice-aggregate-on-rows-2 c =
+    let first = c .before .before .before .before .before .before .before .before .before .before .before .before .before .before in
+    sym (first .before .before .before .loop .inv .q-long)
 
 on-rows-requires : tie.Need-on-rows-requires Inv-loop μ-loop
 on-rows-requires c κs = search needs
 
 slice-aggregate-execute-owned : tie.Need-slice-aggregate-execute-owned Inv-loop μ-loop
-slice-aggregate-execute-owned c = sym (c .before .before .before .before .before .before .before .before .before .before .before .before .before .before .before .before .before .before .before .before .before .before .before .loop .inv .bins-long)
+slice-aggregate-execute-owned c =
+    let first = c .before .before .before .before .before .before .before .before .before .before .before .before .before .before in
+    sym (first .before .before .before .before .before .before .before .before .before .loop .inv .bins-long)
 
 execute-owned-requires : tie.Need-execute-owned-requires Inv-loop μ-loop
 execute-owned-requires c κs = search needs
@@ -159,7 +166,10 @@ slice-aggregate-sample-line : tie.Need-slice-aggregate-sample-line Inv-loop μ-l
 slice-aggregate-sample-line c = search needs
 
 slice-aggregate-sample-line-2 : tie.Need-slice-aggregate-sample-line-2 Inv-loop μ-loop
-slice-aggregate-sample-line-2 c = sym (c .before .before .before .before .before .before .before .before .before .before .before .before .before .before .before .before .before .before .before .before .before .before .before .before .before .before .before .before .before .loop .inv .bins-long)
+slice-aggregate-sample-line-2 c =
+    let first = c .before .before .before .before .before .before .before .before .before .before .before .before .before .before in
+    let next = first .before .before .before .before .before .before .before .before .before .before .before .before .before .before in
+    sym (next .before .loop .inv .bins-long)
 
 slice-aggregate-sample-line-3 : tie.Need-slice-aggregate-sample-line-3 Inv-loop μ-loop
 slice-aggregate-sample-line-3 c = search needs
@@ -168,19 +178,31 @@ slice-aggregate-sample-line-4 : tie.Need-slice-aggregate-sample-line-4 Inv-loop 
 slice-aggregate-sample-line-4 c = search needs
 
 slice-aggregate-sample-line-5 : tie.Need-slice-aggregate-sample-line-5 Inv-loop μ-loop
-slice-aggregate-sample-line-5 c = sym (c .before .before .before .before .before .before .before .before .before .before .before .before .before .before .before .before .before .before .before .before .before .before .before .before .before .before .before .before .before .before .before .before .loop .inv .scratch-long)
+slice-aggregate-sample-line-5 c =
+    let first = c .before .before .before .before .before .before .before .before .before .before .before .before .before .before in
+    let next = first .before .before .before .before .before .before .before .before .before .before .before .before .before .before in
+    sym (next .before .before .before .before .loop .inv .scratch-long)
 
 slice-aggregate-sample-line-6 : tie.Need-slice-aggregate-sample-line-6 Inv-loop μ-loop
-slice-aggregate-sample-line-6 c = sym (c .before .before .before .before .before .before .before .before .before .before .before .before .before .before .before .before .before .before .before .before .before .before .before .before .before .before .before .before .before .before .before .before .before .loop .inv .work-long)
+slice-aggregate-sample-line-6 c =
+    let first = c .before .before .before .before .before .before .before .before .before .before .before .before .before .before in
+    let next = first .before .before .before .before .before .before .before .before .before .before .before .before .before .before in
+    sym (next .before .before .before .before .before .loop .inv .work-long)
 
 slice-aggregate-sample-line-7 : tie.Need-slice-aggregate-sample-line-7 Inv-loop μ-loop
-slice-aggregate-sample-line-7 c = sym (c .before .before .before .before .before .before .before .before .before .before .before .before .before .before .before .before .before .before .before .before .before .before .before .before .before .before .before .before .before .before .before .before .before .before .loop .inv .marks-long)
+slice-aggregate-sample-line-7 c =
+    let first = c .before .before .before .before .before .before .before .before .before .before .before .before .before .before in
+    let next = first .before .before .before .before .before .before .before .before .before .before .before .before .before .before in
+    sym (next .before .before .before .before .before .before .loop .inv .marks-long)
 
 sample-line-requires : tie.Need-sample-line-requires Inv-loop μ-loop
 sample-line-requires c κs = search needs
 
 loop-less : tie.Need-loop-less Inv-loop μ-loop
-loop-less c = let ends = c .before .before .before .before .before .before .before .before .before .before .before .before .before .before .before .before .before .before .before .before .before .before .before .before .before .before in less _ _ _ (ends .before .loop-test .taken) (ends .end-of .ensures .0)
+loop-less c =
+    let first = c .before .before .before .before .before .before .before .before .before .before .before .before .before .before in
+    let ends = first .before .before .before .before .before .before .before .before .before .before .before .before in
+    less _ _ _ (ends .before .loop-test .taken) (ends .end-of .ensures .0)
 
 loop-again : tie.Need-loop-again Inv-loop μ-loop
 loop-again c =
@@ -201,11 +223,16 @@ loop-again c =
     }
 
 loop-less-2 : tie.Need-loop-less-2 Inv-loop μ-loop
-loop-less-2 c = let ends = c .before .before .before .before .before .before .before .before .before .before .before .before .before .before .before .before .before .before .before .before .before .before .before .before .before .before .before .before .before .before .before .before .before .before .before .before .before .before in less _ _ _ (ends .before .loop-test .taken) (ends .end-of .ensures .0)
+loop-less-2 c =
+    let first = c .before .before .before .before .before .before .before .before .before .before .before .before .before .before in
+    let next = first .before .before .before .before .before .before .before .before .before .before .before .before .before .before in
+    let ends = next .before .before .before .before .before .before .before .before .before .before in
+    less _ _ _ (ends .before .loop-test .taken) (ends .end-of .ensures .0)
 
 loop-again-2 : tie.Need-loop-again-2 Inv-loop μ-loop
 loop-again-2 c =
-    let onto = c .before .before .before .before .before .before .before .before .before .before .before .before .before .before .before .before .before .before .before .before .before .before in
+    let first = c .before .before .before .before .before .before .before .before .before .before .before in
+    let onto = first .before .before .before .before .before .before .before .before .before .before .before in
     let took = onto .before .before .before .before .before in
     let ends = took .before .before .before .before .before .before .before .before .before .before .before in
     let was = ends .before .before .loop .inv in
@@ -222,7 +249,10 @@ loop-again-2 c =
     }
 
 loop-less-3 : tie.Need-loop-less-3 Inv-loop μ-loop
-loop-less-3 c = let ends = c .before .before .before .before .before .before .before .before .before .before .before .before .before .before .before .before .before .before .before .before .before in less _ _ _ (ends .before .loop-test .taken) (ends .end-of .ensures .0)
+loop-less-3 c =
+    let first = c .before .before .before .before .before .before .before .before .before .before .before .before .before .before in
+    let ends = first .before .before .before .before .before .before .before in
+    less _ _ _ (ends .before .loop-test .taken) (ends .end-of .ensures .0)
 
 loop-again-3 : tie.Need-loop-again-3 Inv-loop μ-loop
 loop-again-3 c =

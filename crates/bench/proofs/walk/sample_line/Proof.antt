@@ -1,6 +1,5 @@
 -- `bench::walk::sample_line` is safe: each part is within its row. Assumes nothing.
 use mathlib.Core.Path.{sym}
-use native.Mathlib.Omega.{arith}
 use lib.Seq.{length-take-le}
 use borrow.Author.Needs.{needs}
 use Rattle.bench.proofs.walk.sample_line.Statement.{statement}
