@@ -21,8 +21,8 @@ record Inv (text : List ℕ) (bins : List (List Float)) (i q scratch : List Floa
   marks-long : length marks ≡ 8192
   factors-long : length factors ≡ 64
 
-less : (n at end : ℕ) → at < n → at ≤ end → n - (end + 1) < n - at
-less n at end p q = omega arith
+less : (n at end next : ℕ) → at < n → at ≤ end → end < next → n - next < n - at
+less n at end next p q r = omega arith
 
 on : (n end : ℕ) → end ≤ n → end + 1 ≤ n + 1
 on n end p = omega arith
@@ -202,7 +202,7 @@ loop-less : tie.Need-loop-less Inv-loop μ-loop
 loop-less c =
     let first = c .before .before .before .before .before .before .before .before .before .before .before .before .before .before in
     let ends = first .before .before .before .before .before .before .before .before .before .before .before .before in
-    less _ _ _ (ends .before .loop-test .taken) (ends .end-of .ensures .0)
+    less _ _ _ _ (ends .before .loop-test .taken) (ends .end-of .ensures .0) (search needs)
 
 loop-again : tie.Need-loop-again Inv-loop μ-loop
 loop-again c =
@@ -227,7 +227,7 @@ loop-less-2 c =
     let first = c .before .before .before .before .before .before .before .before .before .before .before .before .before .before in
     let next = first .before .before .before .before .before .before .before .before .before .before .before .before .before .before in
     let ends = next .before .before .before .before .before .before .before .before .before .before in
-    less _ _ _ (ends .before .loop-test .taken) (ends .end-of .ensures .0)
+    less _ _ _ _ (ends .before .loop-test .taken) (ends .end-of .ensures .0) (search needs)
 
 loop-again-2 : tie.Need-loop-again-2 Inv-loop μ-loop
 loop-again-2 c =
@@ -252,7 +252,7 @@ loop-less-3 : tie.Need-loop-less-3 Inv-loop μ-loop
 loop-less-3 c =
     let first = c .before .before .before .before .before .before .before .before .before .before .before .before .before .before in
     let ends = first .before .before .before .before .before .before .before in
-    less _ _ _ (ends .before .loop-test .taken) (ends .end-of .ensures .0)
+    less _ _ _ _ (ends .before .loop-test .taken) (ends .end-of .ensures .0) (search needs)
 
 loop-again-3 : tie.Need-loop-again-3 Inv-loop μ-loop
 loop-again-3 c =
