@@ -1,0 +1,241 @@
+// What the bench knows between two lines, but for the arrays: tables, the rows' sizes, how many commands are gathered, crosstalk's names.
+ghost use mathlib.Core.Path.{_≡_};
+ghost use Prim.Native.Nat.{_≤_, min};
+use super::show::show_answer;
+use super::show::show_states;
+use super::show::show_syntax;
+use super::show::wrong_size;
+use commands::command::Arranged;
+use crosstalk::names::Crosstalk;
+use fields::value::Called;
+use fields::value::name_in;
+use job::line::Line;
+use quant::name::Name;
+use quant::quantity::Amplitude;
+use quant::quantity::Frequency;
+use quant::quantity::Time;
+use quant::refusal::Answer;
+use sampler::Request;
+use sheet::names::blank;
+use tables::Tabled;
+use tables::Tables;
+
+pub struct State {
+    pub tables: Tables,
+    pub rows: usize,
+    pub length: usize,
+    pub gathered: usize,
+    pub crosstalk: Crosstalk,
+}
+
+// "Fresh tables with tolerances 0 and no oversize, one row of no samples, no crosstalk."
+pub(crate) fn start() -> State {
+    let tabled = tables::make(Amplitude(0.0), Time(0.0), false);
+    let tables = tabled.tables;
+    let names = [blank(); 8];
+    let crosstalk = Crosstalk { count: 0, names };
+    State {
+        tables,
+        rows: 1,
+        length: 0,
+        gathered: 0,
+        crosstalk,
+    }
+}
+
+// What a line does to the state, answered; rows, runs and samplings that are in order are not answered here.
+pub(crate) fn after(s: State, said: Line, line: &[u8], number: usize) -> State {
+    let t = s.tables;
+    match said {
+        Line::Syntax => {
+            show_syntax(number);
+            s
+        }
+        Line::Tables(amp, time, oversize) => renewed(s, tables::make(amp, time, oversize)),
+        Line::Channel(name, osc) => with_tables(s, tables::add_channel(t, name, osc)),
+        Line::Shape(name) => with_tables(s, tables::add_shape(t, name)),
+        Line::Command(_) => with_gathered(s, least(s.gathered, 1024) + 1),
+        Line::Run => unless_too_many(s),
+        Line::States => {
+            show_states(t);
+            s
+        }
+        Line::Crosstalk(n) => with_names(s, n, line),
+        Line::Rows(n, length) => with_rows(s, n, length),
+        _ => s,
+    }
+}
+
+fn renewed(s: State, made: Tabled) -> State {
+    let answer = made.answer;
+    match answer {
+        Answer::Done(_) => with_gathered(with_tables(s, made), 0),
+        Answer::Refused(_, _) => {
+            show_answer(answer);
+            s
+        }
+    }
+}
+
+fn with_tables(s: State, made: Tabled) -> State {
+    let answer = made.answer;
+    show_answer(answer);
+    let tables = made.tables;
+    let crosstalk = s.crosstalk;
+    State {
+        tables,
+        rows: s.rows,
+        length: s.length,
+        gathered: s.gathered,
+        crosstalk,
+    }
+}
+
+fn with_gathered(s: State, n: usize) -> State {
+    let mut u = s;
+    u.gathered = n;
+    u
+}
+
+// More than 1,024 commands are not run; they are forgotten as those that ran.
+fn unless_too_many(s: State) -> State {
+    if s.gathered <= 1024 {
+        return s;
+    }
+    wrong_size();
+    with_gathered(s, 0)
+}
+
+// The names of a line; of more than 8 only the count is kept, and sampling refuses it.
+fn with_names(s: State, n: u64, line: &[u8]) -> State {
+    show_answer(Answer::Done(0));
+    let count = at_most_511(n);
+    let names = names_in(line, least(count, 8));
+    let crosstalk = Crosstalk { count, names };
+    let tables = s.tables;
+    State {
+        tables,
+        rows: s.rows,
+        length: s.length,
+        gathered: s.gathered,
+        crosstalk,
+    }
+}
+
+fn names_in(line: &[u8], count: usize) -> [Name; 8]
+    requires { ⌜ count ≤ 8 ⌝ }
+{
+    let mut names = [blank(); 8];
+    let mut k: usize = 0;
+    while k < count {
+        names[k] = name_at(line, k + 2);
+        k += 1;
+    }
+    names
+}
+
+fn name_at(line: &[u8], k: usize) -> Name {
+    let named = name_in(line, k, b"");
+    match named {
+        Called::Name(n) => n,
+        Called::Bad => blank(),
+    }
+}
+
+fn with_rows(s: State, n: u64, length: u64) -> State {
+    if !size_fits(n, length) {
+        wrong_size();
+        return s;
+    }
+    show_answer(Answer::Done(0));
+    let mut u = s;
+    u.rows = n as usize;
+    u.length = length as usize;
+    u
+}
+
+// One or two rows of at most 65,536 samples.
+pub(crate) fn size_fits(n: u64, length: u64) -> bool {
+    if n < 1 {
+        return false;
+    }
+    if 2 < n {
+        return false;
+    }
+    length <= 65536
+}
+
+// How long the second row is: one row has none.
+pub(crate) fn second(s: State) -> usize {
+    if s.rows == 2 {
+        return s.length;
+    }
+    0
+}
+
+// The command that a line is, in place of what stood there; any other line leaves it.
+pub(crate) fn kept(said: Line, before: Arranged) -> Arranged {
+    match said {
+        Line::Command(a) => a,
+        _ => before,
+    }
+}
+
+pub(crate) fn is_run(said: Line, s: State) -> bool {
+    match said {
+        Line::Run => s.gathered <= 1024,
+        _ => false,
+    }
+}
+
+pub(crate) fn is_sample(said: Line) -> bool {
+    match said {
+        Line::Sample(_) => true,
+        _ => false,
+    }
+}
+
+// What a run came to; its commands are forgotten.
+pub(crate) fn ran(s: State, tabled: Tabled) -> State {
+    with_gathered(with_tables(s, tabled), 0)
+}
+
+pub(crate) fn request(said: Line, s: State) -> Request {
+    let rows = s.rows;
+    match said {
+        Line::Sample(a) => {
+            let channel = a.channel;
+            let rate = a.rate;
+            let delay = a.delay;
+            Request {
+                channel,
+                rate,
+                delay,
+                level: a.level,
+                rows,
+            }
+        }
+        _ => Request {
+            channel: blank(),
+            rate: Frequency(0.0),
+            delay: Time(0.0),
+            level: 0,
+            rows,
+        },
+    }
+}
+
+pub(crate) fn at_most_511(n: u64) -> usize
+    ensures { λ r. ⌜ r ≤ 511 ⌝ }
+{
+    if n < 511 {
+        return n as usize;
+    }
+    511
+}
+
+pub(crate) fn least(a: usize, b: usize) -> usize
+    ensures { λ r. ⌜ r ≡ min a b ⌝ }
+{
+    if a < b { a } else { b }
+}
