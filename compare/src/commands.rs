@@ -97,8 +97,8 @@ fn agrees(told: &Told, ours: &str) -> bool {
     }
 }
 
-/// What the program prints, cut before each line `x` and the lines `a` that stand before it.
-pub(crate) fn run(program: &[String], text: &str) -> Vec<String> {
+/// What the program prints for a text.
+pub(crate) fn output(program: &[String], text: &str) -> String {
     let mut program = Process::new(&program[0])
         .args(&program[1..])
         .stdin(Stdio::piped())
@@ -111,9 +111,14 @@ pub(crate) fn run(program: &[String], text: &str) -> Vec<String> {
     let output = program.wait_with_output().expect("an end");
     writing.join().expect("written");
     assert!(output.status.success(), "{:?}", output.status);
+    String::from_utf8(output.stdout).expect("text")
+}
+
+/// What the program prints, cut before each line `x` and the lines `a` that stand before it.
+pub(crate) fn run(program: &[String], text: &str) -> Vec<String> {
     let mut answers: Vec<String> = Vec::new();
     let mut adding = false;
-    for line in String::from_utf8(output.stdout).expect("text").lines() {
+    for line in output(program, text).lines() {
         if line.starts_with(['a', 'x']) && !adding {
             answers.push(String::new());
         }

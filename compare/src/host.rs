@@ -201,7 +201,14 @@ pub fn iir(rows: usize, i: &mut [f64], q: &mut [f64], sections: &[f64]) -> usize
 }
 
 /// A plateau onto two rows: `count` samples from `start` on.
-pub fn add_plateau(i: &mut [f64], q: &mut [f64], start: usize, count: usize, carrier: [f64; 2], rotation: [f64; 2]) {
+pub fn add_plateau(
+    i: &mut [f64],
+    q: &mut [f64],
+    start: usize,
+    count: usize,
+    carrier: [f64; 2],
+    rotation: [f64; 2],
+) {
     let ([re, im], [cos, sin]) = (carrier, rotation);
     let (i_len, q_len) = (i.len(), q.len());
     unsafe {

@@ -8,6 +8,7 @@ mod fixed;
 mod host;
 mod ieee;
 mod iir;
+mod jobs;
 mod mixer;
 mod near;
 mod quant;
@@ -47,11 +48,20 @@ fn main() -> ExitCode {
             let program: Vec<String> = std::env::args().skip(2).collect();
             let lists = commands::compare(200, &program);
             let calls = calls::compare(200, &program);
-            return if lists == ExitCode::SUCCESS { calls } else { lists };
+            return if lists == ExitCode::SUCCESS {
+                calls
+            } else {
+                lists
+            };
         }
         Some("sampling") => {
             let program: Vec<String> = std::env::args().skip(2).collect();
             return sampling::compare(400, &program);
+        }
+        Some("jobs") => {
+            let program: Vec<String> = std::env::args().skip(3).collect();
+            let texts = std::env::args().nth(2).and_then(|n| n.parse().ok());
+            return jobs::compare(texts.unwrap_or(100), &program);
         }
         Some("stored_jobs") => {
             sampling::stored(false);
@@ -72,7 +82,7 @@ fn main() -> ExitCode {
         Some(word) => match word.parse() {
             Ok(scale) => scale,
             Err(_) => {
-                eprintln!("usage: compare [SCALE | bench | bench_commands | bench_sampling | near | replays | commands PROGRAM.. | sampling PROGRAM.. | stored_lists | stored_answers | stored_jobs | stored_samples]");
+                eprintln!("usage: compare [SCALE | bench | bench_commands | bench_sampling | near | replays | commands PROGRAM.. | sampling PROGRAM.. | jobs TEXTS PROGRAM.. | stored_lists | stored_answers | stored_jobs | stored_samples]");
                 return ExitCode::from(2);
             }
         },

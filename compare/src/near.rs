@@ -114,7 +114,10 @@ pub fn run() -> ExitCode {
             most = here;
         }
     }
-    println!("{all} pulses, {samples} samples of each row, worst {:.6} of the bound", most.0);
+    println!(
+        "{all} pulses, {samples} samples of each row, worst {:.6} of the bound",
+        most.0
+    );
     if most.0 <= 1.0 {
         ExitCode::SUCCESS
     } else {

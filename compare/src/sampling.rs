@@ -9,22 +9,22 @@ use theirs::osc::Osc;
 use theirs::tables::{Command, Item, Play, Tables};
 
 /// What is asked for, and whether a number may be so large that one worked out is not finite.
-struct Job {
-    plays: Vec<(Play<'static>, f64)>,
-    oscs: Vec<Osc>,
-    tolerances: [f64; 2],
-    names: Vec<&'static str>,
-    factors: Vec<f64>,
-    channel: &'static str,
-    rate: f64,
-    delay: f64,
-    level: i32,
-    rows: usize,
-    lengths: [usize; 3],
-    fill: [f64; 2],
-    from: usize,
-    wild: bool,
-    one_bin: bool,
+pub(crate) struct Job {
+    pub(crate) plays: Vec<(Play<'static>, f64)>,
+    pub(crate) oscs: Vec<Osc>,
+    pub(crate) tolerances: [f64; 2],
+    pub(crate) names: Vec<&'static str>,
+    pub(crate) factors: Vec<f64>,
+    pub(crate) channel: &'static str,
+    pub(crate) rate: f64,
+    pub(crate) delay: f64,
+    pub(crate) level: i32,
+    pub(crate) rows: usize,
+    pub(crate) lengths: [usize; 3],
+    pub(crate) fill: [f64; 2],
+    pub(crate) from: usize,
+    pub(crate) wild: bool,
+    pub(crate) one_bin: bool,
 }
 
 /// What the program has to print, and how it came about.
@@ -156,7 +156,11 @@ fn told(job: &Job) -> Told {
     }
 }
 
-fn sample(lists: &Lists, job: &Job, samples: &mut [f64]) -> (usize, Option<(Option<u8>, String)>) {
+pub(crate) fn sample(
+    lists: &Lists,
+    job: &Job,
+    samples: &mut [f64],
+) -> (usize, Option<(Option<u8>, String)>) {
     let channel = Channel {
         name: job.channel,
         rate: job.rate,
@@ -181,7 +185,7 @@ fn order(job: &Job) -> &'static str {
 }
 
 /// Document 01: "Its order: 1, 13, 2, 14, 7, then each pulse".
-fn refused_before(job: &Job) -> Option<(u8, usize)> {
+pub(crate) fn refused_before(job: &Job) -> Option<(u8, usize)> {
     let [i, q, scratch] = job.lengths;
     let n = job.names.len();
     let finite = [job.rate, 1.0 / job.rate, job.delay]
@@ -217,7 +221,7 @@ fn refused_before(job: &Job) -> Option<(u8, usize)> {
     (!known(&job.channel)).then_some((7, 0))
 }
 
-fn same_times(job: &Job) -> bool {
+pub(crate) fn same_times(job: &Job) -> bool {
     let mut times: Vec<f64> = job.plays.iter().map(|(_, start)| *start).collect();
     times.sort_by(f64::total_cmp);
     times.windows(2).any(|two| two[0] == two[1])
@@ -301,7 +305,7 @@ fn kinds(job: &Job) -> Vec<String> {
     kinds
 }
 
-fn job(rng: &mut Rng, k: u64, longest: u64) -> Job {
+pub(crate) fn job(rng: &mut Rng, k: u64, longest: u64) -> Job {
     let one_bin = k % 2 == 0;
     let wild = k % 12 == 10 || k % 12 == 7;
     let odd = if k % 6 == 5 { 12 } else { 400 };

@@ -230,15 +230,41 @@ pub fn sampling() {
     let one = |width: f64, plateau: f64, shaped: bool, many: usize| -> Vec<Timed> {
         let step = (65000.0 / many as f64).floor();
         (0..many)
-            .map(|k| (pulse("q0", shaped, width, plateau, 0.01), k as f64 * step, 65536.0))
+            .map(|k| {
+                (
+                    pulse("q0", shaped, width, plateau, 0.01),
+                    k as f64 * step,
+                    65536.0,
+                )
+            })
             .collect()
     };
     for (name, list, each) in [
-        ("plateau, 1 pulse of 65,000", one(0.0, 65000.0, false, 1), 65000),
-        ("plateau, 64 pulses of 1,000", one(0.0, 1000.0, false, 64), 1000),
-        ("plateau, 1,024 pulses of 60", one(0.0, 60.0, false, 1024), 60),
-        ("Hann with drag, 64 equal pulses of 1,000", one(1000.0, 0.0, true, 64), 1000),
-        ("Hann with drag, 1,024 equal pulses of 60", one(60.0, 0.0, true, 1024), 60),
+        (
+            "plateau, 1 pulse of 65,000",
+            one(0.0, 65000.0, false, 1),
+            65000,
+        ),
+        (
+            "plateau, 64 pulses of 1,000",
+            one(0.0, 1000.0, false, 64),
+            1000,
+        ),
+        (
+            "plateau, 1,024 pulses of 60",
+            one(0.0, 60.0, false, 1024),
+            60,
+        ),
+        (
+            "Hann with drag, 64 equal pulses of 1,000",
+            one(1000.0, 0.0, true, 64),
+            1000,
+        ),
+        (
+            "Hann with drag, 1,024 equal pulses of 60",
+            one(60.0, 0.0, true, 1024),
+            60,
+        ),
     ] {
         let samples = (list.len() * each) as f64;
         let [ours, theirs, _] = sampled(&list, None);
@@ -246,17 +272,28 @@ pub fn sampling() {
     }
     let mut best = [f64::INFINITY; 5];
     for k in 0..24 {
-        let times = samplings(&one(65000.0 + f64::from(k) * 0.01, 0.0, true, 1), None, 1, 1);
+        let times = samplings(
+            &one(65000.0 + f64::from(k) * 0.01, 0.0, true, 1),
+            None,
+            1,
+            1,
+        );
         best = std::array::from_fn(|k| times[k].min(best[k]));
     }
     let [ours, theirs, empty] = parted(best, 1);
-    row("Hann with drag, 1 pulse of 65,000, anew", ours / 65000.0, theirs / 65000.0);
+    row(
+        "Hann with drag, 1 pulse of 65,000, anew",
+        ours / 65000.0,
+        theirs / 65000.0,
+    );
     println!("a call that adds nothing: {empty:.0} nanoseconds, of them the pulses' copy");
     println!(
         "{:44} {:>8} {:>8} {:>8}",
         "nanoseconds a pulse, full matrix", "ours", "Rust", "ratio"
     );
-    let factors: Vec<f64> = (0..64).map(|k| if k % 9 == 0 { 1.0 } else { 0.01 * k as f64 }).collect();
+    let factors: Vec<f64> = (0..64)
+        .map(|k| if k % 9 == 0 { 1.0 } else { 0.01 * k as f64 })
+        .collect();
     for (name, width, bins) in [
         ("8 lists of 128, no samples", 0.0, 1),
         ("8 lists of 128, Hann of 16 samples", 16.0, 1),
@@ -266,7 +303,11 @@ pub fn sampling() {
             .map(|k| {
                 let width = width + (k / 8 % bins) as f64;
                 let at = k as f64 * 60.0 + 0.5 * (k % 3) as f64;
-                (pulse(CHANNELS[k % 8], width > 0.0, width, 0.0, 0.01), at, 65536.0)
+                (
+                    pulse(CHANNELS[k % 8], width > 0.0, width, 0.0, 0.01),
+                    at,
+                    65536.0,
+                )
             })
             .collect();
         let [ours, theirs, _] = sampled(&list, Some(&factors));
@@ -274,7 +315,13 @@ pub fn sampling() {
     }
 }
 
-fn pulse(channel: &'static str, shaped: bool, width: f64, plateau: f64, frequency: f64) -> Command<'static> {
+fn pulse(
+    channel: &'static str,
+    shaped: bool,
+    width: f64,
+    plateau: f64,
+    frequency: f64,
+) -> Command<'static> {
     Command::Play(Play {
         channel,
         shape: shaped.then_some("hann"),
@@ -301,7 +348,10 @@ fn parted([all, one, none, none_once, theirs]: [f64; 5], calls: usize) -> [f64; 
 
 /// Nanoseconds of one sampling more than `many`, of one, of as many of no pulse, and of the Rust's `many`: the best of several runs that take turns.
 fn samplings(list: &[Timed], factors: Option<&[f64]>, many: usize, runs: usize) -> [f64; 5] {
-    let mut words: Vec<u64> = list.iter().flat_map(|(command, ..)| words(command)).collect();
+    let mut words: Vec<u64> = list
+        .iter()
+        .flat_map(|(command, ..)| words(command))
+        .collect();
     let mut given: Vec<f64> = list.iter().flat_map(numbers).collect();
     words.resize(9 * COMMANDS, 6);
     given.resize(8 * COMMANDS, 0.0);
