@@ -3,6 +3,7 @@ mod bench;
 mod calls;
 mod cases;
 mod commands;
+mod drive;
 mod fir;
 mod fixed;
 mod host;
@@ -63,6 +64,15 @@ fn main() -> ExitCode {
             let texts = std::env::args().nth(2).and_then(|n| n.parse().ok());
             return jobs::compare(texts.unwrap_or(100), &program);
         }
+        Some("drive") => {
+            drive::drive();
+            return ExitCode::SUCCESS;
+        }
+        Some("bench_jobs") => {
+            let program: Vec<String> = std::env::args().skip(2).collect();
+            drive::time(&program);
+            return ExitCode::SUCCESS;
+        }
         Some("stored_jobs") => {
             sampling::stored(false);
             return ExitCode::SUCCESS;
@@ -82,7 +92,7 @@ fn main() -> ExitCode {
         Some(word) => match word.parse() {
             Ok(scale) => scale,
             Err(_) => {
-                eprintln!("usage: compare [SCALE | bench | bench_commands | bench_sampling | near | replays | commands PROGRAM.. | sampling PROGRAM.. | jobs TEXTS PROGRAM.. | stored_lists | stored_answers | stored_jobs | stored_samples]");
+                eprintln!("usage: compare [SCALE | bench | bench_commands | bench_sampling | near | replays | commands PROGRAM.. | sampling PROGRAM.. | jobs TEXTS PROGRAM.. | bench_jobs PROGRAM.. | drive | stored_lists | stored_answers | stored_jobs | stored_samples]");
                 return ExitCode::from(2);
             }
         },
