@@ -20,6 +20,7 @@ mod rows;
 mod sampling;
 mod series;
 mod timed;
+mod timed_sampling;
 mod trig;
 
 use std::process::ExitCode;
@@ -29,15 +30,19 @@ fn main() -> ExitCode {
         Some("bench") => {
             bench::run();
             timed::run();
-            timed::sampling();
+            timed_sampling::sampling();
             return ExitCode::SUCCESS;
         }
         Some("bench_sampling") => {
-            timed::sampling();
+            timed_sampling::sampling();
             return ExitCode::SUCCESS;
         }
         Some("bench_commands") => {
             timed::run();
+            return ExitCode::SUCCESS;
+        }
+        Some("growth") => {
+            timed_sampling::growth();
             return ExitCode::SUCCESS;
         }
         Some("near") => return near::run(),
@@ -92,7 +97,7 @@ fn main() -> ExitCode {
         Some(word) => match word.parse() {
             Ok(scale) => scale,
             Err(_) => {
-                eprintln!("usage: compare [SCALE | bench | bench_commands | bench_sampling | near | replays | commands PROGRAM.. | sampling PROGRAM.. | jobs TEXTS PROGRAM.. | bench_jobs PROGRAM.. | drive | stored_lists | stored_answers | stored_jobs | stored_samples]");
+                eprintln!("usage: compare [SCALE | bench | bench_commands | bench_sampling | growth | near | replays | commands PROGRAM.. | sampling PROGRAM.. | jobs TEXTS PROGRAM.. | bench_jobs PROGRAM.. | drive | stored_lists | stored_answers | stored_jobs | stored_samples]");
                 return ExitCode::from(2);
             }
         },

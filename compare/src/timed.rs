@@ -4,14 +4,13 @@
 use crate::rng::Rng;
 use std::hint::black_box;
 use std::time::Instant;
-use theirs::lists::{Channel, Crosstalk};
 use theirs::osc::Osc;
 use theirs::tables::{Command, Item, Play, Tables};
 
-const COMMANDS: usize = 1024;
+pub(crate) const COMMANDS: usize = 1024;
 const ROUNDS: usize = 4;
 const RUNS: usize = 800;
-const CHANNELS: [&str; 8] = ["q0", "q1", "q2", "q3", "q4", "q5", "q6", "q7"];
+pub(crate) const CHANNELS: [&str; 8] = ["q0", "q1", "q2", "q3", "q4", "q5", "q6", "q7"];
 
 mod c {
     extern "C" {
@@ -21,24 +20,6 @@ mod c {
             numbers: *const f64,
             numbers_len: usize,
             count: usize,
-            rounds: usize,
-        ) -> usize;
-        pub fn skierralu_time_sampling(
-            words: *const u64,
-            words_len: usize,
-            numbers: *const f64,
-            numbers_len: usize,
-            count: usize,
-            rate: f64,
-            names: usize,
-            factors: *const f64,
-            factors_len: usize,
-            i: *mut f64,
-            i_len: usize,
-            q: *mut f64,
-            q_len: usize,
-            scratch: *mut f64,
-            scratch_len: usize,
             rounds: usize,
         ) -> usize;
     }
@@ -62,12 +43,12 @@ pub fn run() {
     }
 }
 
-fn row(name: &str, ours: f64, theirs: f64) {
+pub(crate) fn row(name: &str, ours: f64, theirs: f64) {
     println!("{name:44} {ours:8.1} {theirs:8.1} {:8.2}", ours / theirs);
 }
 
 /// A command, its start and its span.
-type Timed = (Command<'static>, f64, f64);
+pub(crate) type Timed = (Command<'static>, f64, f64);
 
 fn commands(kind: fn(&mut Rng) -> u64) -> Vec<Timed> {
     let mut rng = Rng::new(6);
@@ -169,7 +150,7 @@ fn theirs(items: &[Item], build: bool) -> f64 {
     time
 }
 
-fn bench() -> Tables {
+pub(crate) fn bench() -> Tables {
     let mut tables = Tables::new(0.0, 0.0, false).expect("tables");
     for name in CHANNELS {
         let osc = Osc {
@@ -184,7 +165,7 @@ fn bench() -> Tables {
 }
 
 /// As `time_commands` reads them: kind, a name, a second name, shaped, flexible.
-fn words(command: &Command) -> [u64; 9] {
+pub(crate) fn words(command: &Command) -> [u64; 9] {
     let (kind, one, two, shaped) = match *command {
         Command::Play(p) => (0, p.channel, p.shape.unwrap_or(""), p.shape.is_some()),
         Command::ShiftPhase(name, _) => (1, name, "", false),
@@ -198,7 +179,7 @@ fn words(command: &Command) -> [u64; 9] {
     [kind, a, b, c, d, e, f, u64::from(shaped), 0]
 }
 
-fn numbers((command, start, span): &Timed) -> [f64; 8] {
+pub(crate) fn numbers((command, start, span): &Timed) -> [f64; 8] {
     let x = match *command {
         Command::Play(p) => {
             let [a, w, l] = [p.amplitude, p.width, p.plateau];
@@ -216,202 +197,4 @@ fn naming(name: &str) -> [u64; 3] {
     bytes[..name.len()].copy_from_slice(name.as_bytes());
     let half = |at: usize| u64::from_le_bytes(bytes[at..at + 8].try_into().expect("eight"));
     [half(0), half(8), name.len() as u64]
-}
-
-/// Samplings timed beside the Rust's, onto two rows of 65,536 samples at a rate of 1: nanoseconds a sample that a pulse was added onto, or, of
-/// the merging, a pulse. Ours runs the commands before it samples, and each of its calls takes the pulses by value: the same with one sampling,
-/// and the same samplings of no pulse, are taken off, and the second is printed. The Rust keeps envelopes from call to call; where one is to be
-/// worked out anew, its width is another in every call.
-pub fn sampling() {
-    println!(
-        "{:44} {:>8} {:>8} {:>8}",
-        "nanoseconds a sample of two rows", "ours", "Rust", "ratio"
-    );
-    let one = |width: f64, plateau: f64, shaped: bool, many: usize| -> Vec<Timed> {
-        let step = (65000.0 / many as f64).floor();
-        (0..many)
-            .map(|k| {
-                (
-                    pulse("q0", shaped, width, plateau, 0.01),
-                    k as f64 * step,
-                    65536.0,
-                )
-            })
-            .collect()
-    };
-    for (name, list, each) in [
-        (
-            "plateau, 1 pulse of 65,000",
-            one(0.0, 65000.0, false, 1),
-            65000,
-        ),
-        (
-            "plateau, 64 pulses of 1,000",
-            one(0.0, 1000.0, false, 64),
-            1000,
-        ),
-        (
-            "plateau, 1,024 pulses of 60",
-            one(0.0, 60.0, false, 1024),
-            60,
-        ),
-        (
-            "Hann with drag, 64 equal pulses of 1,000",
-            one(1000.0, 0.0, true, 64),
-            1000,
-        ),
-        (
-            "Hann with drag, 1,024 equal pulses of 60",
-            one(60.0, 0.0, true, 1024),
-            60,
-        ),
-    ] {
-        let samples = (list.len() * each) as f64;
-        let [ours, theirs, _] = sampled(&list, None);
-        row(name, ours / samples, theirs / samples);
-    }
-    let mut best = [f64::INFINITY; 5];
-    for k in 0..24 {
-        let times = samplings(
-            &one(65000.0 + f64::from(k) * 0.01, 0.0, true, 1),
-            None,
-            1,
-            1,
-        );
-        best = std::array::from_fn(|k| times[k].min(best[k]));
-    }
-    let [ours, theirs, empty] = parted(best, 1);
-    row(
-        "Hann with drag, 1 pulse of 65,000, anew",
-        ours / 65000.0,
-        theirs / 65000.0,
-    );
-    println!("a call that adds nothing: {empty:.0} nanoseconds, of them the pulses' copy");
-    println!(
-        "{:44} {:>8} {:>8} {:>8}",
-        "nanoseconds a pulse, full matrix", "ours", "Rust", "ratio"
-    );
-    let factors: Vec<f64> = (0..64)
-        .map(|k| if k % 9 == 0 { 1.0 } else { 0.01 * k as f64 })
-        .collect();
-    for (name, width, bins) in [
-        ("8 lists of 128, no samples", 0.0, 1),
-        ("8 lists of 128, Hann of 16 samples", 16.0, 1),
-        ("8 lists of 128, Hann, in 8 bins", 16.0, 8),
-    ] {
-        let list: Vec<Timed> = (0..COMMANDS)
-            .map(|k| {
-                let width = width + (k / 8 % bins) as f64;
-                let at = k as f64 * 60.0 + 0.5 * (k % 3) as f64;
-                (
-                    pulse(CHANNELS[k % 8], width > 0.0, width, 0.0, 0.01),
-                    at,
-                    65536.0,
-                )
-            })
-            .collect();
-        let [ours, theirs, _] = sampled(&list, Some(&factors));
-        row(name, ours / COMMANDS as f64, theirs / COMMANDS as f64);
-    }
-}
-
-fn pulse(
-    channel: &'static str,
-    shaped: bool,
-    width: f64,
-    plateau: f64,
-    frequency: f64,
-) -> Command<'static> {
-    Command::Play(Play {
-        channel,
-        shape: shaped.then_some("hann"),
-        amplitude: 0.5,
-        width,
-        plateau,
-        drag: 0.5,
-        frequency,
-        phase: 0.125,
-        flexible: false,
-    })
-}
-
-/// Nanoseconds of one sampling of `q0`: ours, the Rust's, and ours of no pulse.
-fn sampled(list: &[Timed], factors: Option<&[f64]>) -> [f64; 3] {
-    parted(samplings(list, factors, 4, 40), 4)
-}
-
-fn parted([all, one, none, none_once, theirs]: [f64; 5], calls: usize) -> [f64; 3] {
-    let calls = calls as f64;
-    let empty = (none - none_once) / calls;
-    [(all - one) / calls - empty, theirs / calls, empty]
-}
-
-/// Nanoseconds of one sampling more than `many`, of one, of as many of no pulse, and of the Rust's `many`: the best of several runs that take turns.
-fn samplings(list: &[Timed], factors: Option<&[f64]>, many: usize, runs: usize) -> [f64; 5] {
-    let mut words: Vec<u64> = list
-        .iter()
-        .flat_map(|(command, ..)| words(command))
-        .collect();
-    let mut given: Vec<f64> = list.iter().flat_map(numbers).collect();
-    words.resize(9 * COMMANDS, 6);
-    given.resize(8 * COMMANDS, 0.0);
-    let items: Vec<Item> = list
-        .iter()
-        .map(|(command, start, span)| Item::new(command, *start, *span).expect("an item"))
-        .collect();
-    let mut tables = bench();
-    assert!(tables.run(&items), "all were run");
-    let lists = tables.into_lists();
-    let of = Channel {
-        name: "q0",
-        rate: 1.0,
-        delay: 0.0,
-        level: 0,
-    };
-    let crosstalk = factors.map(|factors| Crosstalk {
-        names: &CHANNELS,
-        factors,
-    });
-    let (mut i, mut q, mut scratch) = (vec![0.0; 65536], vec![0.0; 65536], vec![0.0; 65536]);
-    let mut ours = |count: usize, rounds: usize| {
-        let lent = factors.unwrap_or(&[]);
-        let start = Instant::now();
-        // SAFETY: all slices are lent for the call.
-        let run = unsafe {
-            c::skierralu_time_sampling(
-                words.as_ptr(),
-                words.len(),
-                given.as_ptr(),
-                given.len(),
-                black_box(count),
-                1.0,
-                if factors.is_some() { 8 } else { 0 },
-                lent.as_ptr(),
-                lent.len(),
-                i.as_mut_ptr(),
-                i.len(),
-                q.as_mut_ptr(),
-                q.len(),
-                scratch.as_mut_ptr(),
-                scratch.len(),
-                black_box(rounds),
-            )
-        };
-        assert_eq!(run > 0, count > 0, "pulses were added");
-        start.elapsed().as_nanos() as f64
-    };
-    let all = list.len();
-    let mut best = [f64::INFINITY; 5];
-    let mut rows = vec![vec![0.0; 131072]; many];
-    for _ in 0..runs {
-        let times = [
-            ours(all, 1 + many),
-            ours(all, 1),
-            ours(0, 1 + many),
-            ours(0, 1),
-            lists.time(&of, crosstalk.as_ref(), &mut rows),
-        ];
-        best = std::array::from_fn(|k| times[k].min(best[k]));
-    }
-    best
 }
