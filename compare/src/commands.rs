@@ -370,18 +370,23 @@ fn letter(command: &Command) -> (char, &'static str) {
     }
 }
 
+/// In the order in which lines have them.
+pub(crate) fn numbers_of(p: &Play) -> [f64; 6] {
+    [
+        p.amplitude,
+        p.width,
+        p.plateau,
+        p.drag,
+        p.frequency,
+        p.phase,
+    ]
+}
+
 pub(crate) fn line(command: &Command, start: f64, span: f64) -> String {
     let rest = match *command {
         Command::Play(p) => {
             let shape = p.shape.map_or(" 0000000000000000".repeat(3), naming);
-            let numbers = [
-                p.amplitude,
-                p.width,
-                p.plateau,
-                p.drag,
-                p.frequency,
-                p.phase,
-            ];
+            let numbers = numbers_of(&p);
             let (shaped, flexible) = (u64::from(p.shape.is_some()), u64::from(p.flexible));
             let channel = naming(p.channel);
             format!(

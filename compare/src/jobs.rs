@@ -1,7 +1,7 @@
 //! Whole jobs, as docs/JOBS.md has them, answered by the program `bench` and by the Rust, and compared line by line: tables, commands of every
 //! kind, crosstalk, rows, samplings, steps, lines that cannot be read. Refusals before any pulse, of sizes and of syntax are document 01's and
 //! docs/JOBS.md's words; all else is the Rust's.
-use crate::commands::{output, word, CHANNELS};
+use crate::commands::{numbers_of, output, word, CHANNELS};
 use crate::mixer::{their_iq, their_offset};
 use crate::rng::Rng;
 use crate::sampling::{job, refused_before, same_times, sample, Job};
@@ -354,15 +354,7 @@ fn hex(x: f64) -> String {
 fn said(command: &Command) -> String {
     match *command {
         Command::Play(p) => {
-            let [amp, width, plateau, drag, freq, phase] = [
-                p.amplitude,
-                p.width,
-                p.plateau,
-                p.drag,
-                p.frequency,
-                p.phase,
-            ]
-            .map(hex);
+            let [amp, width, plateau, drag, freq, phase] = numbers_of(&p).map(hex);
             let (shape, flex) = (p.shape.unwrap_or(""), u8::from(p.flexible));
             format!("play ch={} shape={shape} amp={amp} width={width} plateau={plateau} drag={drag} freq={freq} phase={phase} flex={flex}", p.channel)
         }

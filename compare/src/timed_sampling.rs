@@ -37,35 +37,16 @@ pub fn sampling() {
         "{:44} {:>8} {:>8} {:>8}",
         "nanoseconds a sample of two rows", "ours", "Rust", "ratio"
     );
-    for (name, list, each) in [
-        (
-            "plateau, 1 pulse of 65,000",
-            one(0.0, 65000.0, false, 1),
-            65000,
-        ),
-        (
-            "plateau, 64 pulses of 1,000",
-            one(0.0, 1000.0, false, 64),
-            1000,
-        ),
-        (
-            "plateau, 1,024 pulses of 60",
-            one(0.0, 60.0, false, 1024),
-            60,
-        ),
-        (
-            "Hann with drag, 64 equal pulses of 1,000",
-            one(1000.0, 0.0, true, 64),
-            1000,
-        ),
-        (
-            "Hann with drag, 1,024 equal pulses of 60",
-            one(60.0, 0.0, true, 1024),
-            60,
-        ),
+    for (name, shaped, many, each) in [
+        ("plateau, 1 pulse of 65,000", false, 1, 65000.0),
+        ("plateau, 64 pulses of 1,000", false, 64, 1000.0),
+        ("plateau, 1,024 pulses of 60", false, 1024, 60.0),
+        ("Hann with drag, 64 equal pulses of 1,000", true, 64, 1000.0),
+        ("Hann with drag, 1,024 equal pulses of 60", true, 1024, 60.0),
     ] {
-        let samples = (list.len() * each) as f64;
-        let [ours, theirs, _] = sampled(&list, None);
+        let (width, plateau) = if shaped { (each, 0.0) } else { (0.0, each) };
+        let samples = many as f64 * each;
+        let [ours, theirs, _] = sampled(&one(width, plateau, shaped, many), None);
         row(name, ours / samples, theirs / samples);
     }
     let mut best = [f64::INFINITY; 5];

@@ -253,7 +253,7 @@ module _ (t : Tables) (r : Request) (c : Crosstalk) (factors : List Float) (bins
         let sized = fitting-sizes (r .rows) (length (st .i)) (length (st .q)) (length (st .scratch)) (length bins) (length pulses) (length work) (length marks) (a .sizes) .its-rows in
         let is = left-is (Plateau f) e in
         record {
-          one = record { settings = a .settings; fit = a .fit; row = x .row; place = x .place; there = x .there; pulse = x .pulse; only = x .only; start = f .start; offset = h .offset; placed = h .placed };
+          one = record { settings = a .settings; fit = a .fit; row = x .row; place = x .place; within = x .within; there = x .there; pulse = x .pulse; only = x .only; start = f .start; offset = h .offset; placed = h .placed };
           near = λ plain bounded.
               record {
                 inside = flat-inside (a .settings) its-bin (x .pulse) (r .rows) len st (result .rows) f h z sized is fitting;
@@ -268,7 +268,7 @@ module _ (t : Tables) (r : Request) (c : Crosstalk) (factors : List Float) (bins
     by-verdict (Shaped k) e =
         let h = curved-held (a .settings) its-bin (x .pulse) (length (st .i)) k e in
         record {
-          one = record { settings = a .settings; fit = a .fit; row = x .row; place = x .place; there = x .there; pulse = x .pulse; only = x .only; start = k .start; offset = k .offset; placed = h .placed };
+          one = record { settings = a .settings; fit = a .fit; row = x .row; place = x .place; within = x .within; there = x .there; pulse = x .pulse; only = x .only; start = k .start; offset = k .offset; placed = h .placed };
           near = λ plain bounded. let same : Plain ≡ Hann = sym plain ∙ h .shape in let w : _≡_ {A = ℕ} 0 1 = cc in absurd (omega arith);
         }
     by-verdict (Refused why) e = absurd (true≢false (sym (x .alone .taken) ∙ ap accepted e))

@@ -3,7 +3,7 @@ use Prim.Native.Nat.{ℕ, _+_, _^_, _≤_, _<_}
 use mathlib.Core.Path.{_≡_}
 use mathlib.Core.List.{List, [], _∷_}
 use lib.Ieee.{Float, nan}
-use lib.ListN.{getD, replicate}
+use lib.ListN.{length, getD, replicate}
 use Rattle.quant.specs.declared.aligned.Placed.the-variants.{Start}
 use Rattle.quant.specs.declared.complex.Complex.{Complex}
 use Rattle.quant.specs.declared.settings.Fitting.the-variants.{Fit}
@@ -44,6 +44,7 @@ pub record Only (t : Tables) (r : Request) (c : Crosstalk) (factors : List Float
   pub fit : fittingOf (r .rate) (r .delay) (r .level) ≡ Fit settings
   pub row : List Float
   pub place : ℕ
+  pub within : place < length (binsBy t bins (partsIn (planned t (r .channel) c factors .taking)))
   pub there : getD (binsBy t bins (partsIn (planned t (r .channel) c factors .taking))) place [] ≡ row
   pub pulse : Pulse
   pub only : mergedOf t bins pulses (partsIn (planned t (r .channel) c factors .taking)) row ≡ pulse ∷ []

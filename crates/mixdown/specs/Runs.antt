@@ -7,29 +7,20 @@ use lib.ListN.{take, drop, getD, set}
 use lib.Ieee.{Float, nan, lt}
 use Rattle.pulse.specs.declared.list.Pulse.{Pulse}
 use Rattle.merge.specs.Sum.{scaledP}
+use Rattle.merge.specs.Keep.{pulseIn}
 use Rattle.mixdown.specs.declared.runs.Run.{Run}
 use Rattle.mixdown.specs.declared.runs.Runs.{Runs}
 use Rattle.mixdown.specs.declared.runs.Picked.{Picked}
 
 -- ---- the work rows as pulses
 
--- a pulse of a row and a mark
-abbrev pub pulseOf : List Float → ℕ → Pulse
-pulseOf row mark =
-    record {
-      bin = mark;
-      time = record { 0 = getD row 0 nan };
-      amp = record { re = getD row 1 nan; im = getD row 2 nan };
-      drag = record { re = getD row 3 nan; im = getD row 4 nan };
-    }
-
 abbrev pub pulseAt : List (List Float) → List ℕ → ℕ → Pulse
-pulseAt work marks at = pulseOf (getD work at []) (getD marks at 0)
+pulseAt work marks at = pulseIn (getD work at []) (getD marks at 0)
 
 unfoldable pub pulsesIn : List (List Float) → List ℕ → List Pulse
 pulsesIn [] marks = []
 pulsesIn (r ∷ rs) [] = []
-pulsesIn (r ∷ rs) (m ∷ ms) = pulseOf r m ∷ pulsesIn rs ms
+pulsesIn (r ∷ rs) (m ∷ ms) = pulseIn r m ∷ pulsesIn rs ms
 
 -- those of a bin
 unfoldable pub ofMark : ℕ → List Pulse → List Pulse
