@@ -1,0 +1,101 @@
+-- Any two results that a contract allows for one input are equal, buffers too. A contract that is one equation with a definition is `one` by
+-- itself; here are the others, each a record of several equations. Assumes nothing.
+use Prim.Native.Nat.{ℕ}
+use mathlib.Core.Path.{_≡_, refl, sym, ap, _∙_}
+use mathlib.Core.Bool.{Bool, true, false, true≢false}
+use mathlib.Core.List.{List, _++_}
+use lib.ListN.{length, take, drop}
+use lib.Ieee.{Float}
+use Rattle.quant.specs.declared.name.Name.{Name}
+use Rattle.quant.specs.declared.refusal.Answer.{Answer}
+use Rattle.quant.specs.Refusal.{codeOf}
+use Rattle.quant.specs.Name as Name
+use Rattle.hex.specs.Hex as Hex
+use Rattle.trig.specs.Trig.{Both}
+use Rattle.mixer.specs.Mixer.{Iq, Offset}
+use Rattle.iir.specs.Iir.{Iir}
+use Rattle.fir.specs.Fir.{Fir}
+use Rattle.host.specs.Coded.{Coded}
+use Rattle.sheet.specs.declared.read.Reading.{Reading}
+use Rattle.sheet.specs.declared.print.Printed.{Printed}
+use Rattle.sheet.specs.Sheet.{Behind, value, other, Read, Print}
+use Rattle.sheet.specs.Reader.{Starts, parted}
+use Rattle.sheet_answer.specs.Answer.{Answered}
+use Rattle.fields.specs.declared.words.Span.{Span}
+use Rattle.fields.specs.Words.{Found, spanned}
+use Rattle.numbers.specs.Numbers.{Stored, listed}
+
+pub one : {A : Type 0} {x y z : A} → x ≡ z → y ≡ z → x ≡ y
+one p q = p ∙ sym q
+
+-- ---- the steps: the answer and both rows
+
+pub one-iq : (rows : ℕ) (i q m : List Float) (r s : Answer) (i' q' i'' q'' : List Float) → Iq rows i q m r i' q' → Iq rows i q m s i'' q'' → (r ≡ s) × (i' ≡ i'') × (q' ≡ q'')
+one-iq rows i q m r s i' q' i'' q'' a b = (one (a .answer) (b .answer), one (a .first) (b .first), one (a .second) (b .second))
+
+pub one-offset : (rows : ℕ) (i q o : List Float) (r s : Answer) (i' q' i'' q'' : List Float) → Offset rows i q o r i' q' → Offset rows i q o s i'' q''
+    → (r ≡ s) × (i' ≡ i'') × (q' ≡ q'')
+one-offset rows i q o r s i' q' i'' q'' a b = (one (a .answer) (b .answer), one (a .first) (b .first), one (a .second) (b .second))
+
+pub one-iir : (rows : ℕ) (i q sections : List Float) (r s : Answer) (i' q' i'' q'' : List Float) → Iir rows i q sections r i' q' → Iir rows i q sections s i'' q''
+    → (r ≡ s) × (i' ≡ i'') × (q' ≡ q'')
+one-iir rows i q sections r s i' q' i'' q'' a b = (one (a .answer) (b .answer), one (a .i-row) (b .i-row), one (a .q-row) (b .q-row))
+
+pub one-fir : (rows : ℕ) (i q taps : List Float) (r s : Answer) (i' q' i'' q'' : List Float) → Fir rows i q taps r i' q' → Fir rows i q taps s i'' q''
+    → (r ≡ s) × (i' ≡ i'') × (q' ≡ q'')
+one-fir rows i q taps r s i' q' i'' q'' a b = (one (a .answer) (b .answer), one (a .first) (b .first), one (a .second) (b .second))
+
+-- over the C border: of any call whose answer is the only one
+pub one-code : (P Q : Answer → Type 0) → ((r s : Answer) → P r → Q s → r ≡ s) → (m n : ℕ) → Coded P m → Coded Q n → m ≡ n
+one-code P Q only m n a b = a .coded ∙ ap codeOf (only (a .answer) (b .answer) (a .does) (b .does)) ∙ sym (b .coded)
+
+-- ---- cosine and sine together
+
+pub one-pair : (x c s d t : Float) → Both x c s → Both x d t → (c ≡ d) × (s ≡ t)
+one-pair x c s d t a b = (one (a .cos) (b .cos), one (a .sin) (b .sin))
+
+-- ---- words and names put into a text
+
+pub one-word : (word : ℕ) (before : List ℕ) (at : ℕ) (r s : Bool) (t u : List ℕ) → Hex.Wrote word before at r t → Hex.Wrote word before at s u → (r ≡ s) × (t ≡ u)
+one-word word before at r s t u a b = (one (a .answered) (b .answered), one (a .left) (b .left))
+
+pub one-name : (n : Name) (before : List ℕ) (at : ℕ) (r s : Bool) (t u : List ℕ) → Name.Wrote n before at r t → Name.Wrote n before at s u → (r ≡ s) × (t ≡ u)
+one-name n before at r s t u a b = (one (a .answered) (b .answered), one (a .left) (b .left))
+
+-- ---- the sheet: the answer, the names and the matrix; the bytes printed
+
+pub one-sheet : (text : List ℕ) (before : List Float) (r s : Reading) (m n : List Float) → Read text before r m → Read text before s n
+    → (r .answer ≡ s .answer) × (r .names ≡ s .names) × (m ≡ n)
+one-sheet text before r s m n a b = (one (a .answered) (b .answered), one (a .named) (b .named), one (a .left) (b .left))
+
+pub one-print : (count : ℕ) (names : List Name) (matrix : List Float) (before : List ℕ) (r s : Printed) (t u : List ℕ)
+    → Print count names matrix before r t → Print count names matrix before s u → (r ≡ s) × (t ≡ u)
+one-print count names matrix before r s t u a b = (one (a .answered) (b .answered), one (a .left) (b .left))
+
+pub one-sheet-answer : (text before : List ℕ) (r s : ℕ) (t u : List ℕ) → Answered text before r t → Answered text before s u → (r ≡ s) × (t ≡ u)
+one-sheet-answer text before r s t u a b = (one (a .count) (b .count), one (a .left) (b .left))
+
+-- whether there is anything behind the key
+abbrev told : Behind → Bool
+told (value bytes) = true
+told other = false
+
+same-key : (key line : List ℕ) (r s : Bool) → parted r key line ≡ parted s key line → r ≡ s
+same-key key line true true e = refl
+same-key key line false false e = refl
+same-key key line true false e = absurd (true≢false (ap told e))
+same-key key line false true e = absurd (true≢false (sym (ap told e)))
+
+pub one-key : (key line : List ℕ) (r s : Bool) → Starts key line r → Starts key line s → r ≡ s
+one-key key line r s a b = same-key key line r s (sym (a .parts) ∙ b .parts)
+
+-- ---- a job's numbers
+
+pub one-list : (line : List ℕ) (k : ℕ) (before : List Float) (r s : ℕ) (m n : List Float) → Stored line k before r m → Stored line k before s n → (r ≡ s) × (m ≡ n)
+one-list line k before r s m n a b =
+    let same = one (a .count) (b .count) in
+    (same, a .left ∙ ap (λ (c : ℕ). take (length before) (listed line k) ++ drop c before) same ∙ sym (b .left))
+
+-- The one exception: two answers of `value_at` may be two places, but the same bytes stand there.
+pub same-value : (line : List ℕ) (k : ℕ) (key : List ℕ) (r s : Span) → Found line k key r → Found line k key s → spanned r line ≡ spanned s line
+same-value line k key r s a b = sym (a .is) ∙ b .is
