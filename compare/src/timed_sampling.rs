@@ -5,6 +5,9 @@ use std::time::Instant;
 use theirs::lists::{Channel, Crosstalk};
 use theirs::tables::{Command, Item, Play};
 
+/// Of COMMANDS each, as many as `time_commands` takes.
+const LISTS: usize = 8;
+
 mod c {
     extern "C" {
         pub fn skierralu_time_sampling(
@@ -30,8 +33,8 @@ mod c {
 
 /// Samplings timed beside the Rust's, onto two rows of 65,536 samples at a rate of 1: nanoseconds a sample that a pulse was added onto, or, of
 /// the merging, a pulse. Ours runs the commands before it samples, and each of its calls takes the pulses by value: the same with one sampling,
-/// and the same samplings of no pulse, are taken off, and the second is printed. The Rust keeps envelopes from call to call; where one is to be
-/// worked out anew, its width is another in every call.
+/// and the same samplings of no pulse, are taken off, and the second is printed. Both sample onto rows that they read just before. The
+/// Rust keeps envelopes from call to call; where one is to be worked out anew, its width is another in every call.
 pub fn sampling() {
     println!(
         "{:44} {:>8} {:>8} {:>8}",
@@ -73,25 +76,30 @@ pub fn sampling() {
     let factors: Vec<f64> = (0..64)
         .map(|k| if k % 9 == 0 { 1.0 } else { 0.01 * k as f64 })
         .collect();
-    for (name, width, bins) in [
-        ("8 lists of 128, no samples", 0.0, 1),
-        ("8 lists of 128, Hann of 16 samples", 16.0, 1),
-        ("8 lists of 128, Hann, in 8 bins", 16.0, 8),
-    ] {
-        let list: Vec<Timed> = (0..COMMANDS)
-            .map(|k| {
-                let width = width + (k / 8 % bins) as f64;
-                let at = k as f64 * 60.0 + 0.5 * (k % 3) as f64;
-                (
-                    pulse(CHANNELS[k % 8], width > 0.0, width, 0.0, 0.01),
-                    at,
-                    65536.0,
-                )
-            })
-            .collect();
-        let [ours, theirs, _] = sampled(&list, Some(&factors));
-        row(name, ours / COMMANDS as f64, theirs / COMMANDS as f64);
+    for each in [128, 1024] {
+        for (name, width, bins) in [
+            ("no samples", 0.0, 1),
+            ("Hann of 16 samples", 16.0, 1),
+            ("Hann, in 8 bins", 16.0, 8),
+        ] {
+            let list = eight(each, width, bins);
+            let [ours, theirs, _] = sampled(&list, Some(&factors));
+            let [ours, theirs] = [ours, theirs].map(|time| time / list.len() as f64);
+            row(&format!("8 lists of {each}, {name}"), ours, theirs);
+        }
     }
+}
+
+/// As many pulses in each of the eight channels, seven samples apart.
+fn eight(each: usize, width: f64, bins: usize) -> Vec<Timed> {
+    (0..8 * each)
+        .map(|k| {
+            let width = width + (k / 8 % bins) as f64;
+            let at = k as f64 * 7.0 + 0.5 * (k % 3) as f64;
+            let play = pulse(CHANNELS[k % 8], width > 0.0, width, 0.0, 0.01);
+            (play, at, 65536.0)
+        })
+        .collect()
 }
 
 fn pulse(
@@ -142,12 +150,10 @@ pub fn growth() {
         row(&format!("{pulses} times Hann of 60, a pulse"), ours, theirs);
     }
     let factors: Vec<f64> = (0..64).map(|k| 0.01 * f64::from(k + 1)).collect();
-    for pulses in [128, 256, 512, 1024] {
-        let play = |k: usize| pulse(CHANNELS[k % 8], true, 16.0, 0.0, 0.01);
-        let list: Vec<Timed> = (0..pulses)
-            .map(|k| (play(k), k as f64 * 60.0, 65536.0))
-            .collect();
+    for each in [16, 32, 64, 128, 256, 512, 1024] {
+        let list = eight(each, 16.0, 1);
         let [ours, theirs, _] = sampled(&list, Some(&factors));
+        let pulses = list.len();
         let [ours, theirs] = [ours, theirs].map(|time| time / pulses as f64);
         row(
             &format!("8 lists, {pulses} pulses merged, a pulse"),
@@ -159,7 +165,8 @@ pub fn growth() {
 
 /// Nanoseconds of one sampling of `q0`: ours, the Rust's, and ours of no pulse.
 fn sampled(list: &[Timed], factors: Option<&[f64]>) -> [f64; 3] {
-    parted(samplings(list, factors, 4, 40), 4)
+    let many = (4096 / list.len()).clamp(1, 4);
+    parted(samplings(list, factors, many, 160 / many), many)
 }
 
 fn parted([all, one, none, none_once, theirs]: [f64; 5], calls: usize) -> [f64; 3] {
@@ -175,14 +182,16 @@ fn samplings(list: &[Timed], factors: Option<&[f64]>, many: usize, runs: usize) 
         .flat_map(|(command, ..)| words(command))
         .collect();
     let mut given: Vec<f64> = list.iter().flat_map(numbers).collect();
-    words.resize(9 * COMMANDS, 6);
-    given.resize(8 * COMMANDS, 0.0);
+    words.resize(9 * LISTS * COMMANDS, 6);
+    given.resize(8 * LISTS * COMMANDS, 0.0);
     let items: Vec<Item> = list
         .iter()
         .map(|(command, start, span)| Item::new(command, *start, *span).expect("an item"))
         .collect();
     let mut tables = bench();
-    assert!(tables.run(&items), "all were run");
+    for items in items.chunks(COMMANDS) {
+        assert!(tables.run(items), "all were run");
+    }
     let lists = tables.into_lists();
     let of = Channel {
         name: "q0",
@@ -224,14 +233,14 @@ fn samplings(list: &[Timed], factors: Option<&[f64]>, many: usize, runs: usize) 
     };
     let all = list.len();
     let mut best = [f64::INFINITY; 5];
-    let mut rows = vec![vec![0.0; 131072]; many];
+    let mut rows = vec![0.0; 131072];
     for _ in 0..runs {
         let times = [
             ours(all, 1 + many),
             ours(all, 1),
             ours(0, 1 + many),
             ours(0, 1),
-            lists.time(&of, crosstalk.as_ref(), &mut rows),
+            lists.time(&of, crosstalk.as_ref(), &mut rows, many),
         ];
         best = std::array::from_fn(|k| times[k].min(best[k]));
     }

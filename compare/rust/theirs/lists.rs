@@ -89,28 +89,31 @@ impl Lists {
 }
 
 impl Lists {
-    /// Nanoseconds for as many samplings as there are rows to sample onto, each onto its own two rows; what each takes is made ready before.
-    pub fn time(&self, of: &Channel, crosstalk: Option<&Crosstalk>, samples: &mut [Vec<f64>]) -> f64 {
-        let ready: Vec<Sampler> = samples
-            .iter_mut()
-            .map(|samples| {
-                let mut sampler = Sampler::new(self.lists.clone());
-                let (rate, delay) = (frequency(of.rate), time(of.delay));
-                sampler.add_channel(channel(of.name), rows_of(samples, 2), rate, delay, of.level);
-                if let Some(Crosstalk { names, factors }) = crosstalk {
-                    let shape = (names.len(), names.len());
-                    let matrix = ArrayView2::from_shape(shape, factors).expect("N*N factors");
-                    let names = names.iter().map(|name| channel(name)).collect();
-                    sampler.set_crosstalk(matrix, names);
-                }
-                sampler
-            })
-            .collect();
-        let start = std::time::Instant::now();
-        for sampler in ready {
+    /// Nanoseconds for so many samplings onto the same two rows, which were just read; what each takes is made ready before it.
+    pub fn time(
+        &self,
+        of: &Channel,
+        crosstalk: Option<&Crosstalk>,
+        samples: &mut [f64],
+        times: usize,
+    ) -> f64 {
+        let mut spent = 0;
+        for _ in 0..times {
+            std::hint::black_box(samples.iter().sum::<f64>());
+            let mut sampler = Sampler::new(self.lists.clone());
+            let (rate, delay) = (frequency(of.rate), time(of.delay));
+            sampler.add_channel(channel(of.name), rows_of(samples, 2), rate, delay, of.level);
+            if let Some(Crosstalk { names, factors }) = crosstalk {
+                let shape = (names.len(), names.len());
+                let matrix = ArrayView2::from_shape(shape, factors).expect("N*N factors");
+                let names = names.iter().map(|name| channel(name)).collect();
+                sampler.set_crosstalk(matrix, names);
+            }
+            let start = std::time::Instant::now();
             assert!(sampler.sample(time(self.time_tolerance)).is_ok(), "sampled");
+            spent += start.elapsed().as_nanos();
         }
-        start.elapsed().as_nanos() as f64
+        spent as f64
     }
 
     /// Also how many pulses were mixed, refused or not.

@@ -12,6 +12,7 @@ use lib.Ieee.{Float, nan, binary64, fits}
 use lib.Ieee.Fits.{mul-fits}
 use lib.Ieee.Scale.{finite}
 use lib.ListN.{length, getD, replicate, length-replicate, getD-replicate}
+use Rattle.exact.proofs.Truth.{both}
 use Rattle.quant.specs.declared.complex.Complex.{Complex}
 use Rattle.quant.specs.declared.phaser.Phased.the-variants.{Pair}
 use Rattle.quant.specs.declared.refusal.Answer.the-variants.{Done}
@@ -79,10 +80,6 @@ start-held s b start offset z e = pair-held (phase0 s b start offset) z e
 rotation-held : (s : Settings) (b : Bin) (z : Complex) → phasedOf (dphase s b) ≡ Pair z → Held (rotationPair s b)
 unfolding rotationPair
 rotation-held s b z e = pair-held (dphase s b) z e
-
-both : (a b : Bool) → (a && b) ≡ true → (a ≡ true) × (b ≡ true)
-both true b f = (refl, f)
-both false b f = absurd (true≢false (sym f))
 
 amp-held : (p : Pulse) → allFinite (weightNumbers p) ≡ true → Fitting p → Held (p .amp)
 unfolding allFinite

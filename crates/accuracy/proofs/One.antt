@@ -18,16 +18,14 @@ use Rattle.placing.specs.declared.Judged.the-variants as judgement
 use Rattle.placing.specs.Judged.{judged}
 use Rattle.mixdown.specs.Sampled.{Rowed, Out, out, addedTo, unlessRefused, ranPulses, andThen, ranBins}
 use Rattle.mixdown.specs.Holding.{accepted}
-
-done-is : (k m : ℕ) → answer.Done k ≡ answer.Done m → k ≡ m
-done-is k m e = cc
+use Rattle.mixdown.proofs.Listed.{done-inj}
 
 module _ (s : Settings) (rows : ℕ) where
   -- ---- the pulses of a bin
 
   counted : (b : Bin) (ps : List Pulse) (k m : ℕ) (st : Rowed) → ranPulses s b rows ps k st .answer ≡ answer.Done m → m ≡ k + length ps
   unfolding ranPulses
-  counted b [] k m st e = let same = done-is k m e in omega (arith, same)
+  counted b [] k m st e = let same = done-inj k m e in omega (arith, same)
   counted b (p ∷ ps) k m st e = go (judged s b p (length (st .i))) e (counted b ps (suc k) m (addedTo s b rows (judged s b p (length (st .i))) st))
     where
       go : (d : Judged) → unlessRefused d k st (ranPulses s b rows ps (suc k) (addedTo s b rows (judged s b p (length (st .i))) st)) .answer ≡ answer.Done m → (ranPulses s b rows ps (suc k) (addedTo s b rows (judged s b p (length (st .i))) st) .answer ≡ answer.Done m → m ≡ suc k + length ps) → m ≡ k + suc (length ps)
@@ -57,7 +55,7 @@ module _ (s : Settings) (rows : ℕ) where
   module _ (merged : List Float → List Pulse) where
     more : (rs : List (List Float)) (k m : ℕ) (st : Rowed) → ranBins s rows merged rs k st .answer ≡ answer.Done m → k ≤ m
     unfolding ranBins
-    more [] k m st e = let same = done-is k m e in omega (arith, same)
+    more [] k m st e = let same = done-inj k m e in omega (arith, same)
     more (r ∷ rs) k m st e = let o = ranPulses s (binOf r) rows (merged r) k st in by (o .answer) (o .left) refl e (λ n l. more rs n m l)
       where
         by : (a : Answer) (l : Rowed) → ranPulses s (binOf r) rows (merged r) k st .answer ≡ a → andThen (out a l) (ranBins s rows merged rs) .answer ≡ answer.Done m
@@ -98,7 +96,7 @@ module _ (s : Settings) (rows : ℕ) where
 
     pub one-added : (rs : List (List Float)) (k : ℕ) (st : Rowed) → ranBins s rows merged rs k st .answer ≡ answer.Done (suc k) → One rs st (ranBins s rows merged rs k st .left)
     unfolding ranBins
-    one-added [] k st e = let same = done-is k (suc k) e in absurd (omega (arith, same))
+    one-added [] k st e = let same = done-inj k (suc k) e in absurd (omega (arith, same))
     one-added (r ∷ rs) k st e = let o = ranPulses s (binOf r) rows (merged r) k st in by (o .answer) (o .left) refl (merged r) refl e (one-added rs)
       where
         further : (l : Rowed) → One rs st l → One (r ∷ rs) st l

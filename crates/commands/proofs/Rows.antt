@@ -9,6 +9,7 @@ use borrow.Author.Tests.{ltb-true, ltb-false, leb-false}
 use lib.Ieee.{Float}
 use lib.ListN.{length, take, drop, length-take, length-drop}
 use lib.Seq.{take-all, take-take}
+use Rattle.exact.proofs.Truth.{neither}
 use Rattle.tables.specs.declared.Tables.{Tables}
 use Rattle.tables.specs.Tables.{channelAt}
 use Rattle.quant.specs.declared.refusal.Refusal.the-variants.{Full}
@@ -37,13 +38,9 @@ take-most {A} n l = go (ltb n 64) refl
         sym (take-all n (take 64 l) short)
 
 -- room for a bin where one is new, and for a pulse
-or-false : (a b : Bool) → (a || b) ≡ false → (a ≡ false) × (b ≡ false)
-or-false true b e = absurd (true≢false e)
-or-false false b e = (refl, e)
-
 pub not-full : (new : Bool) (bins pulses : ℕ) → ((new && leb 64 bins) || leb 1024 pulses) ≡ false → (new ≡ true → bins < 64) × (pulses < 1024)
 not-full true bins pulses e =
-    let p = or-false (leb 64 bins) (leb 1024 pulses) e in
+    let p = neither (leb 64 bins) (leb 1024 pulses) e in
     (λ _. leb-false 64 bins (p .0), leb-false 1024 pulses (p .1))
 not-full false bins pulses e = (λ f. absurd (true≢false (sym f)), leb-false 1024 pulses e)
 

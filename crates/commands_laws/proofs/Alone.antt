@@ -10,6 +10,7 @@ use borrow.Author.Tests.{not-true}
 use lib.Ieee.{Float}
 use lib.ListN.{length, take, drop, set, length-take, length-drop}
 use lib.Seq.{getD-set-same, take-suc-set, take-set-lt, drop-set-add}
+use Rattle.exact.proofs.Truth.{both}
 use Rattle.quant.specs.declared.name.Name.{Name}
 use Rattle.quant.specs.Name.{isName, sameName}
 use Rattle.quant.proofs.Naming.{same-exactly}
@@ -38,7 +39,6 @@ use Rattle.commands.proofs.Cases.{Kind, step-kind}
 use Rattle.commands_laws.proofs.Own.{View, viewOf, Own, refuses, same, turns, puts, realize, own, own-step}
 use Rattle.commands_laws.proofs.Apart.{found-stays, same-to, same-then, unmoved}
 use Rattle.commands_laws.proofs.Calls.{fits}
-use Rattle.commands_laws.proofs.Zones.{and-both}
 use Rattle.commands_laws.proofs.Sound.{step-sound}
 
 -- ---- what holds of a pulse that is stored
@@ -242,7 +242,7 @@ module _ (n : Name) (good : isName n ≡ true) (i : ℕ) where
       theirs = ran (suc k) (q .tables) (onlyFor n more) (binsAfter q rows) (pulsesAfter q records)
 
       parts : (not (isSwap (a .command)) ≡ true) × (noSwaps more ≡ true)
-      parts = and-both (not (isSwap (a .command))) (noSwaps more) free
+      parts = both (not (isSwap (a .command))) (noSwaps more) free
 
       single : isSwap (a .command) ≡ false
       single = not-true (isSwap (a .command)) (parts .0)

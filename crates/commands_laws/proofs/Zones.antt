@@ -4,12 +4,13 @@ use Prim.Native.Nat.{ℕ, zero, suc, _+_, _-_, _*_, _≤_, _<_}
 use native.Mathlib.Omega.{arith}
 use native.Mathlib.Nat.{zero-add, suc-add}
 use mathlib.Core.Path.{_≡_, refl, sym, ap, _∙_}
-use mathlib.Core.Bool.{Bool, true, false, _&&_, cond}
+use mathlib.Core.Bool.{Bool, true, false, cond}
 use mathlib.Core.List.{List, [], _∷_}
 use lib.Dec.{ltb}
 use borrow.Author.Tests.{ltb-true, ltb-false, lt-ltb}
 use lib.ListN.{take, drop}
 use lib.Seq.{take-nil, take-take, drop-drop}
+use Rattle.exact.proofs.Truth.{both}
 use Rattle.pulse.specs.declared.list.Pulse.{Pulse}
 use Rattle.pulse.specs.List.{anyBefore, placed, stored}
 use Rattle.pulse.proofs.Stored.{stored-front, stored-back}
@@ -53,15 +54,11 @@ zone-stays i j many count p s apart most room = go (ltb j i) refl
 
 -- ---- bins
 
-pub and-both : (x y : Bool) → (x && y) ≡ true → (x ≡ true) × (y ≡ true)
-and-both true y e = (refl, e)
-and-both false y e = let z : _≡_ {A = ℕ} 0 1 = cc in absurd (omega arith)
-
 pub binned-more : (a b : ℕ) (l : List Pulse) → a ≤ b → binned a l ≡ true → binned b l ≡ true
 unfolding binned
 binned-more a b [] h e = refl
 binned-more a b (q ∷ qs) h e =
-    let p = and-both (ltb (q .bin) a) (binned a qs) e in
+    let p = both (ltb (q .bin) a) (binned a qs) e in
     let under = ltb-true (q .bin) a (p .0) in
     rw (lt-ltb (q .bin) b (omega arith)) (binned-more a b qs h (p .1))
 
@@ -71,7 +68,7 @@ binned-placed many p [] h e = rw (lt-ltb (p .bin) many h)
 binned-placed many p (q ∷ qs) h e = go (anyBefore (q ∷ qs) p) (binned-placed many p qs h (parts .1))
   where
     parts : (ltb (q .bin) many ≡ true) × (binned many qs ≡ true)
-    parts = and-both (ltb (q .bin) many) (binned many qs) e
+    parts = both (ltb (q .bin) many) (binned many qs) e
 
     go : (b : Bool) → binned many (placed p qs) ≡ true → binned many (cond b (q ∷ placed p qs) (p ∷ q ∷ qs)) ≡ true
     go true more = rw (parts .0) more

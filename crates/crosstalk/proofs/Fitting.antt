@@ -10,7 +10,7 @@ use lib.Dec.{leb}
 use lib.ListN.{length, length-take}
 use Rattle.quant.specs.declared.name.Name.{Name}
 use Rattle.quant.specs.Name.{sameName}
-use Rattle.quant.proofs.Places.{both}
+use Rattle.exact.proofs.Truth.{both}
 use Rattle.tables.specs.declared.Found.the-variants.{At}
 use Rattle.crosstalk.specs.declared.names.Crosstalk.{Crosstalk}
 use Rattle.crosstalk.specs.Crosstalk.{namesIn, crossFits, rowFrom, rowOf}

@@ -2,7 +2,7 @@
 -- rounded once. Assumes nothing.
 use Prim.Native.Nat.{ℕ, zero, suc, _+_, _-_, _*_, _^_, _≤_, _<_}
 use mathlib.Core.Path.{_≡_, refl, sym, ap, _∙_}
-use mathlib.Core.Bool.{Bool, true, false}
+use mathlib.Core.Bool.{Bool, false}
 use native.Mathlib.Omega.{arith}
 use native.Mathlib.Nat.{lt-of-lt-of-le, lt-of-le-of-lt, mul-assoc, mul-comm, mul-one, mul-pos, mul-mul-mul-comm}
 use native.Mathlib.Nat.{mul-left-comm, one-mul, one-le-pow, lt-irrefl, zero-mul, zero-lt-suc, pow-le-pow-right, pow-succ'}
@@ -14,6 +14,7 @@ use lib.Ieee.Fits.{down-pos}
 use lib.Ieee.Exact.{HasValue, round-exact}
 use lib.Ieee.Scale.{round-same}
 use Rattle.exact.proofs.Operation.{mul-rounds}
+use Rattle.exact.proofs.Truth.{like-false}
 
 -- a whole number below 2 ^ 53, times a power of two
 shifted-exact : (s : Bool) (n q j : ℕ) → q < 2 ^ 53 → j ≤ 22 → n ≡ q * 2 ^ j → HasValue (round binary64 s n 1) s n 1
@@ -84,16 +85,12 @@ div-rounds f (fin u m e) (fin j n g) s t a c b d B C D v w =
     turned : (a e y d : ℕ) → a * e * (y * d) ≡ a * d * (y * e)
     turned a e y d = simp (mul-assoc, mul-comm, mul-left-comm)
 
-plain : (s : Bool) → unlike s false ≡ s
-plain true = refl
-plain false = refl
-
 -- THE ROUNDING. Of a whole number that is a double, one product with a power of ten that is one, or one quotient by it, is the exact value rounded once.
 module _ (s : Bool) (n k : ℕ) (x p : Float) (X : HasValue x s n 1) (P : HasValue p false (10 ^ k) 1) where
   pub product-once : mul binary64 x p ≡ round binary64 s (n * 10 ^ k) 1
-  product-once = mul-rounds binary64 x p s false n 1 (10 ^ k) 1 (lit< tt) (lit< tt) X P ∙ ap (λ (t : Bool). round binary64 t (n * 10 ^ k) 1) (plain s)
+  product-once = mul-rounds binary64 x p s false n 1 (10 ^ k) 1 (lit< tt) (lit< tt) X P ∙ ap (λ (t : Bool). round binary64 t (n * 10 ^ k) 1) (like-false s)
 
   pub quotient-once : div binary64 x p ≡ round binary64 s n (10 ^ k)
   quotient-once =
       div-rounds binary64 x p s false n 1 (10 ^ k) 1 (one-le-pow k 10 (lit< tt)) (lit< tt) (lit< tt) X P
-      ∙ rw (plain s, mul-one n, one-mul (10 ^ k))
+      ∙ rw (like-false s, mul-one n, one-mul (10 ^ k))

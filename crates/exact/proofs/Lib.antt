@@ -10,3 +10,4 @@ pub mod Few
 pub mod Compare
 pub mod Remainder
 pub mod Bounded
+pub mod Truth

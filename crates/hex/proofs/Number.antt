@@ -11,12 +11,9 @@ use borrow.Author.Tests.{lt-ltb, le-ltb, ltb-true}
 use lib.Arith.{mod-mul, digits-lt}
 use lib.Dec.{ltb, lit<}
 use lib.ListN.{length, getD, length-append}
+use Rattle.exact.proofs.Truth.{both}
 use Rattle.hex.specs.Hex.{digitValue, allDigits, number, digits}
 use Rattle.hex.proofs.Digits.{value-of-digit}
-
-both : (a b : Bool) → a && b ≡ true → (a ≡ true) × (b ≡ true)
-both true b e = (refl, e)
-both false b e = (e, cc)
 
 either : (a b : Bool) → b ≡ false → a && b ≡ false
 either true b e = e

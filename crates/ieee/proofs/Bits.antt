@@ -6,6 +6,7 @@ use mathlib.Core.Bool.{Bool, true, false, not, cond}
 use Prim.Native.Nat.{ℕ, suc, _+_, _-_, _*_, _/_, _%_, _^_, _≤_, _<_}
 use native.Mathlib.Nat.{le-add-right, lt-of-lt-of-le, mod-lt, mul-pos, lt-irrefl, mul-assoc, mul-one, eq-or-lt-of-le, pow-succ'}
 use native.Mathlib.Omega.{arith}
+use lib.Bits.{bitAnd, and-mask}
 use lib.Dec.{T, leb, ltb, eqb, ltb→lt, nltb→le, eqb→eq, lit≤}
 use lib.Arith.{le→nltb}
 use lib.Pow.{pow-pos, pow-mono, shl-lt}
@@ -16,6 +17,11 @@ use Rattle.exact.specs.Value.{Units}
 
 pub no-nan : (b : ℕ) → b % 2 ^ 63 ≤ 2047 * 2 ^ 52 → T (not (nanBits binary64 b))
 no-nan b h = subst (λ (t : Bool). T (not t)) (sym (nanBits-above binary64 b)) (le→nltb (2047 * 2 ^ 52) (b % 2 ^ 63) h)
+
+-- ---- the exponent's field, as the code works it out
+
+pub field : (b : ℕ) → bitAnd b 0x7fff_ffff_ffff_ffff / 2 ^ 52 ≡ b % 2 ^ 63 / 2 ^ 52
+field b = ap (λ (z : ℕ). z / 2 ^ 52) (and-mask b 63)
 
 -- ---- what the fields are read as
 

@@ -13,4 +13,3 @@ pub mod Packing
 pub mod Rounds
 pub mod Aligning
 pub mod Fusing
-pub mod Examples

@@ -10,7 +10,7 @@ use lib.Dec.{T, leb→le, le→leb, ltb→lt, lit<, lit≤}
 use lib.IntN.{ℤ, pos, negsuc, _+ℤ_}
 use lib.Signed.{_≤ℤ_, _<ℤ_, leZ-yes}
 use lib.Pow.{pow-add, pow-pos, pow-mono, pow-lt}
-use lib.Ieee.{Float, nan, inf, fin, binary64, up, down, unlike, size, units, round, le, mul, fits}
+use lib.Ieee.{Float, nan, inf, fin, binary64, up, down, size, units, round, le, mul, fits}
 use lib.Ieee.Digits.{size-le}
 use lib.Ieee.Fits.{down-pos, round-is, round-fits}
 use lib.Ieee.Exact.{HasValue, round-exact}
@@ -18,6 +18,7 @@ use lib.Ieee.Nearest.{closest, closest-mono}
 use lib.Ieee.Order.{round-mono}
 use borrow.Author.Tests.{le-ltb}
 use Rattle.exact.proofs.Operation.{mul-rounds}
+use Rattle.exact.proofs.Truth.{like-false}
 use Rattle.ieee.specs.Exp2.{exp2Of, Exponent}
 
 -- ---- 2 ^ n is 2 ^ k smallest values, for an n from -1074 to 1023
@@ -117,10 +118,6 @@ pub scales : (n : ℤ) → Exponent n → (s : Bool) (m : ℕ) (e : ℤ) → mul
 scales n h s m e =
     mul-rounds binary64 (fin s m e) (exp2Of n) s false (m * up e) (down e) (up n) (down n) (down-pos e) (down-pos n) (refl, refl) (value n h)
     ∙ ap (λ (t : Bool). round binary64 t (m * up e * up n) (down e * down n)) (like-false s)
-  where
-    like-false : (s : Bool) → unlike s false ≡ s
-    like-false true = refl
-    like-false false = refl
 
 -- ---- from -20 to 20, the range of an align level
 pub level : (n : ℤ) → negsuc 19 ≤ℤ n → n ≤ℤ pos 20 → Exponent n

@@ -5,4 +5,3 @@ pub mod Pipeline
 pub mod Zeros
 pub mod Agree
 pub mod Left
-pub mod Examples

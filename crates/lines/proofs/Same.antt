@@ -4,16 +4,10 @@ use mathlib.Core.Path.{_≡_, refl, _∙_, ap, sym}
 use mathlib.Core.Bool.{Bool, true, false, not, cond}
 use borrow.Author.Tests.{eq-eqb, eqb-true}
 use lib.Dec.{T, eqb}
-use lib.Ieee.{Float, nan, inf, fin, binary64, fits, isNan, nanBits, ne, ofBits, toBits}
+use lib.Ieee.{Float, nan, inf, fin, binary64, fits, isNan, nanBits, ofBits, toBits}
 use lib.Ieee.Bits.{cond-no, nanBits-is, ofBits-toBits, toBits-ofBits}
 use Rattle.lines.proofs.Nan.{is-not, nan-of-bits}
 use Rattle.lines.specs.Field.{sameBits}
-
-pub equals-itself : (x : Float) → ne x x ≡ false → T (not (isNan x))
-unfolding ne isNan
-equals-itself nan e = is-not true e
-equals-itself (inf s) e = tt
-equals-itself (fin s m k) e = tt
 
 -- ---- what `same` answers
 

@@ -10,4 +10,3 @@ pub mod Back
 pub mod Twice
 pub mod Next
 pub mod Scaled
-pub mod Examples

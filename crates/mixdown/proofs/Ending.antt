@@ -2,13 +2,14 @@
 use Prim.Native.Nat.{ℕ, zero, suc, _+_, _<_, _≤_}
 use native.Mathlib.Omega.{arith}
 use native.Mathlib.Numerals.{add-one}
-use mathlib.Core.Path.{_≡_, refl, sym}
-use mathlib.Core.Bool.{Bool, true, false, _&&_, true≢false}
+use mathlib.Core.Path.{_≡_, refl}
+use mathlib.Core.Bool.{true, false, _&&_}
 use mathlib.Core.List.{List, [], _∷_}
 use lib.Dec.{leb, eqb}
 use lib.ListN.{length, drop, getD, drop-of-length-le}
 use lib.Seq.{drop-cons}
 use borrow.Author.Tests.{leb-true, le-leb, lt-leb, eqb-true, eq-eqb}
+use Rattle.exact.proofs.Truth.{both}
 use Rattle.rows.specs.Rows.{rowsFit}
 use Rattle.merge.specs.declared.taking.Taking.{Taking}
 use Rattle.merge.specs.declared.work.Ends.{Ends}
@@ -27,10 +28,6 @@ module _ (es : List ℕ) (k : ℕ) where
   pub ends-passed : length es ≤ k → endsFit (drop k es) ≡ true
   unfolding endsFit
   ends-passed h = rw (drop-of-length-le es h) refl
-
-both : (a b : Bool) → (a && b) ≡ true → (a ≡ true) × (b ≡ true)
-both true b f = (refl, f)
-both false b f = absurd (true≢false (sym f))
 
 each-within : (es : List ℕ) → endsFit es ≡ true → (k : ℕ) → getD es k 0 ≤ 8192
 unfolding endsFit

@@ -3,10 +3,10 @@
 use Prim.Native.Nat.{ℕ, _≤_}
 use native.Mathlib.Omega.{arith}
 use mathlib.Core.Path.{_≡_, refl, sym, ap, _∙_}
-use mathlib.Core.Bool.{Bool, true, false, not, cond, true≢false}
+use mathlib.Core.Bool.{Bool, true, false, cond}
 use mathlib.Core.List.{List, _++_}
 use lib.Dec.{T, ltb, eqb}
-use lib.Ieee.{Float, nan, inf, fin, binary64, lt, eq, ne, isNan, ofBits, toBits, fits}
+use lib.Ieee.{Float, binary64, lt, eq, ofBits, toBits, fits}
 use lib.Ieee.Bits.{ofBits-toBits}
 use lib.ListN.{length, drop}
 use borrow.Author.Tests.{eqb-true}
@@ -82,12 +82,6 @@ module _ (s : Settings) (b : Bin) (offset : Float) (room : ℕ) (old : List Floa
       go (Within q) e f (Within q') e' = rw (parts-same _ _ _ _ _ (least room' 65536) (least room 65536) q' q e' e) (filled-twice q old (fitting q e))
 
 -- ---- offsets by their bits
-
-pub no-nan : (x : Float) → ne x x ≡ false → T (not (isNan x))
-unfolding ne isNan
-no-nan nan e = absurd (true≢false e)
-no-nan (inf s) e = tt
-no-nan (fin s m k) e = tt
 
 pub bits-same : (a b : Float) → T (fits binary64 a) → T (fits binary64 b) → eqb (toBits binary64 a) (toBits binary64 b) ≡ true → a ≡ b
 bits-same a b f g e = sym (ofBits-toBits binary64 a f) ∙ ap (ofBits binary64) (eqb-true _ _ e) ∙ ofBits-toBits binary64 b g

@@ -79,7 +79,7 @@ pub record Like (st : Rowed) (k most : ℕ) (o : Out) : Type 0 where
   pub q-same : length (o .left .q) ≡ length (st .q)
   pub scratch-same : length (o .left .scratch) ≡ length (st .scratch)
 
-done-inj : (k m : ℕ) → answer.Done k ≡ answer.Done m → k ≡ m
+pub done-inj : (k m : ℕ) → answer.Done k ≡ answer.Done m → k ≡ m
 done-inj k m e = cc
 
 like-done : (st : Rowed) (k : ℕ) → Like st k 0 (out (answer.Done k) st)

@@ -23,7 +23,7 @@ use Rattle.placing.specs.declared.Curved.{Curved}
 use Rattle.placing.specs.declared.Judged.the-variants.{Plateau, Shaped}
 use Rattle.placing.specs.Phases.{phase0, dphase, startPair, rotationPair, phaseNumbers}
 use Rattle.placing.specs.Judged.{placedAt, weightNumbers, dragOf, dragNumbers, plainFine, curvedFine, countOf, flatOf, curvedOf, measuredAt, judged}
-use Rattle.quant.proofs.Places.{both}
+use Rattle.exact.proofs.Truth.{both}
 use Rattle.placing.proofs.Turning.{start-given, rotation-given}
 use Rattle.placing.proofs.Ways.{Inside, Way, no-index, before, beyond, past, unshaped, over, plain-rest, curved-rest, flat, curved, way}
 

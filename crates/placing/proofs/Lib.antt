@@ -2,4 +2,3 @@ pub mod Turning
 pub mod Ways
 pub mod Accepted
 pub mod Numbers
-pub mod Examples

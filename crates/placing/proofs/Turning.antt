@@ -11,7 +11,7 @@ use Rattle.quant.specs.declared.phaser.Phased.the-variants as phased
 use Rattle.quant.specs.declared.settings.Settings.{Settings}
 use Rattle.quant.specs.Phaser.{radiansOf, pairAt, phasedOf}
 use Rattle.rows.specs.Rows.{allFinite}
-use Rattle.quant.proofs.Places.{both}
+use Rattle.exact.proofs.Truth.{both}
 use Rattle.pulse.specs.declared.bin.Bin.{Bin}
 use Rattle.placing.specs.declared.phases.Turned.the-variants.{Pairs, NotFinite}
 use Rattle.placing.specs.Phases.{startTime, sinceDelay, globalPhase, localSlip, localPhase, totalOf, phase0, dphase, startPair, rotationPair, phaseNumbers, turnedOf, pairsOf}

@@ -11,7 +11,7 @@ use lib.ListN.{length, getD}
 use Rattle.pulse.specs.declared.list.Pulse.{Pulse}
 use Rattle.pulse.specs.List.{staysBefore, anyBefore, placed}
 use Rattle.pulse.specs.Sorted.{sorted, timed}
-use Rattle.quant.proofs.Places.{both}
+use Rattle.exact.proofs.Truth.{both}
 use Rattle.pulse.proofs.Order.{none-left, none-right, other-stays}
 
 -- where p came to stand

@@ -15,7 +15,8 @@ use lib.Seq.{ext-getD, getD-drop, getD-take, length-take-le, take-at, drop-at}
 use Rattle.quant.specs.declared.name.Name.{Name}
 use Rattle.quant.specs.declared.name.Naming.the-variants.{Named, Bad}
 use Rattle.quant.specs.Name.{nameByte, isZero, every, accepted, wordOf, lowBytes, bytesOfWord, sixteen, bytesOf, pastEnd, named, namingOf, isName, sameName, writable, written}
-use Rattle.quant.proofs.Places.{both, below-or, every-all, every-at, cut-zeros, part-le, part-same}
+use Rattle.exact.proofs.Truth.{both}
+use Rattle.quant.proofs.Places.{below-or, every-all, every-at, cut-zeros, part-le, part-same}
 use Rattle.quant.proofs.Words.{length-low, low-of-word, word-lt, word-of-low, word-same, length-sixteen, first-at, second-at}
 
 -- ---- which lists of bytes are a name

@@ -10,7 +10,7 @@ use lib.Dec.{T, leb→le, leb, nleb→lt, lit<, lit≤}
 use lib.IntN.{ℤ, pos, negsuc}
 use lib.Pow.{pow-add, pow-pos, pow-mono, shl-lt}
 use lib.Signed.{_≤ℤ_}
-use lib.Ieee.{Float, binary64, up, down, unlike, round, sum, mul, sub, below, lt, fits, ofBits}
+use lib.Ieee.{Float, binary64, up, down, round, sum, mul, sub, below, lt, fits, ofBits}
 use lib.Ieee.Exact.{HasValue}
 use lib.Ieee.Fits.{down-pos, mul-fits}
 use lib.Ieee.Scale.{finite}
@@ -21,6 +21,7 @@ use Rattle.exact.proofs.Operation.{mul-rounds, sub-rounds}
 use Rattle.exact.proofs.Rounding.{round-finite, round-none}
 use Rattle.exact.proofs.Sum.{sum-first, sum-none}
 use Rattle.exact.proofs.Value.{digits-of, pow-split, rescale, units-are}
+use Rattle.exact.proofs.Truth.{like-false}
 use Rattle.ieee.specs.Ceiling.{ceiling}
 use Rattle.ieee.specs.Exp2.{exp2Of}
 use Rattle.ieee.proofs.Ceiling.{ceiling-at, ceiling-fits, ceiling-finite, value}
@@ -35,10 +36,6 @@ use Rattle.quant.specs.Aligned.{scaledRate, stepsAt, alignedAt, alignedO
 zero-value : HasValue (ofBits binary64 0) false 0 1
 unfolding ofBits
 zero-value = (refl, refl)
-
-like-false : (s : Bool) → unlike s false ≡ s
-like-false true = refl
-like-false false = refl
 
 -- ---- a whole number n, at most 53 digits and a shift, times 2 ^ l: again at most 53 digits and a shift
 record Shifted (n : ℕ) (l : ℤ) : Type 0 where

@@ -1,7 +1,7 @@
 -- What stands at each place of a list, 0 past its end: a test that every byte passes, zeros that are cut off, a part. Assumes nothing.
 use Prim.Native.Nat.{ℕ, zero, suc, _≤_, _<_, zero-le, suc-le-suc}
 use mathlib.Core.Path.{_≡_, refl, sym}
-use mathlib.Core.Bool.{Bool, true, false, _&&_, and-false}
+use mathlib.Core.Bool.{Bool, true, false, and-false}
 use mathlib.Core.List.{List, [], _∷_}
 use mathlib.Core.Logic.{_⊎_, inl, inr, ⊎-elim}
 use native.Mathlib.Nat.{le-refl, le-trans, le-of-suc-le-suc, min-le-left, not-suc-le-zero, zero-lt-suc}
@@ -9,12 +9,8 @@ use borrow.Author.Tests.{ltb-true, ltb-false, eqb-true}
 use lib.Dec.{ltb}
 use lib.ListN.{length, getD, take, drop, length-take, List·getD-eq-default}
 use lib.Seq.{getD-take}
+use Rattle.exact.proofs.Truth.{both}
 use Rattle.quant.specs.Name.{every, isZero}
-
--- both parts of an `&&`
-pub both : (a b : Bool) → a && b ≡ true → (a ≡ true) × (b ≡ true)
-both true b e = (refl, e)
-both false b e = (e, cc)
 
 pub below-or : (a b : ℕ) → (a < b) ⊎ (b ≤ a)
 below-or a b = by (ltb a b) refl

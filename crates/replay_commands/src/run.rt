@@ -31,7 +31,7 @@ pub(crate) fn one(list: &[u8], before: Executed, bins: &mut [[f64; 5]]) -> Execu
         kind = told(kind_of(&list[at..end]));
         tables = answered(added(kind, &list[at..end], tables));
         let slot = least(count, 1023);
-        commands[slot] = arranged_of(kind, &list[at..end]);
+        commands[slot] = command_after(kind, &list[at..end], commands[slot]);
         count = count_after(kind, count);
         at = next;
     }
@@ -71,6 +71,13 @@ fn told(kind: u8) -> u8 {
 }
 
 // Of more than 1,024 commands the last takes the last place.
+fn command_after(kind: u8, line: &[u8], there: Arranged) -> Arranged {
+    if is_command(kind) {
+        return arranged_of(kind, line);
+    }
+    there
+}
+
 fn count_after(kind: u8, count: usize) -> usize {
     if is_command(kind) {
         return least(count, 1023) + 1;

@@ -2,13 +2,14 @@
 use Prim.Native.Nat.{ℕ, _≤_}
 use native.Mathlib.Omega.{arith}
 use mathlib.Core.Path.{_≡_, refl, sym, ap, _∙_}
-use mathlib.Core.Bool.{Bool, true, false, cond, _&&_, true≢false}
+use mathlib.Core.Bool.{Bool, true, false, cond, _&&_}
 use lib.Dec.{leb, eqb}
 use borrow.Author.Tests.{leb-true, eqb-true}
 use mathlib.Core.List.{List}
 use lib.Ieee.{Float, binary64, div}
 use lib.Ieee.Scale.{finite}
 use lib.ListN.{length}
+use Rattle.exact.proofs.Truth.{both}
 use Rattle.quant.specs.Quantity.{one}
 use Rattle.quant.specs.Settings.{isRate, isLevel, fitting}
 use Rattle.pulse.specs.declared.list.Pulse.{Pulse}
@@ -33,10 +34,6 @@ use Rattle.sampler.specs.Sampler.{left, eachPulse, byPlan, byClock, samp
 use Rattle.sampler.specs.Prepared.{settingsOf, fits, refusedBefore, preparedBy, preparedOf, eachMixed, sampledBy}
 
 -- ---- the sizes, one by one
-
-both : (a b : Bool) → (a && b) ≡ true → (a ≡ true) × (b ≡ true)
-both true b f = (refl, f)
-both false b f = absurd (true≢false (sym f))
 
 pub record Sized (rows i q scratch bins pulses work marks : ℕ) : Type 0 where
   pub its-rows : rowsFit rows i q ≡ true

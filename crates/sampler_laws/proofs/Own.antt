@@ -8,6 +8,7 @@ use mathlib.Core.List.{List, [], _∷_, map}
 use lib.Dec.{ltb, eqb}
 use lib.Ieee.{Float, le}
 use borrow.Author.Tests.{ltb-true, eqb-true, eqb-false, ne-eqb}
+use Rattle.exact.proofs.Truth.{both}
 use Rattle.quant.specs.Quantity.{one}
 use Rattle.pulse.specs.declared.list.Pulse.{Pulse}
 use Rattle.pulse.specs.List.{staysBefore}
@@ -38,10 +39,6 @@ stays-bin q r e = go (ltb (q .bin) (r .bin)) refl (eqb (q .bin) (r .bin)) refl (
     go true f b g c h = let k = ltb-true (q .bin) (r .bin) f in omega (arith, k)
     go false f true g c h = let k = eqb-true (q .bin) (r .bin) g in omega (arith, k)
     go false f false g c h = absurd (true≢false (sym h))
-
-both : (a b : Bool) → (a && b) ≡ true → (a ≡ true) × (b ≡ true)
-both true b f = (refl, f)
-both false b f = absurd (true≢false (sym f))
 
 rising : (p : Pulse) (ps : List Pulse) → sorted (p ∷ ps) ≡ true → Rising (p .bin) ps
 unfolding sorted

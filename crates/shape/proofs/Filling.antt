@@ -3,7 +3,7 @@ use Prim.Native.Nat.{ℕ, zero, suc, _+_, _-_, _≤_, _<_}
 use native.Mathlib.Omega.{arith}
 use native.Mathlib.Nat.{le-refl, le-trans, le-of-lt}
 use mathlib.Core.Path.{_≡_, refl, sym, ap, subst, _∙_}
-use mathlib.Core.Bool.{Bool, true, false, _&&_, cond}
+use mathlib.Core.Bool.{Bool, true, false, cond}
 use mathlib.Core.List.{List, [], _++_, append-assoc}
 use lib.Dec.{leb, ltb}
 use lib.ListN.{length, drop, replicate, length-append, length-drop, length-replicate}
@@ -11,6 +11,7 @@ use lib.Seq.{take-at, drop-at, drop-drop}
 use lib.Ieee.{Float, lt, eq}
 use borrow.Author.Tests.{leb-true, leb-false, le-leb, ltb-false}
 use borrow.Rule.Slice.PartMut.{midOf, putMid, post-is, mid-len}
+use Rattle.exact.proofs.Truth.{both}
 use Rattle.quant.specs.declared.refusal.Refusal.the-variants.{ShapeTooShort, EndPastRow, NotFinite}
 use Rattle.shape.specs.declared.parts.Parts.{Parts}
 use Rattle.shape.specs.declared.parts.Parted.the-variants as parted
@@ -112,10 +113,6 @@ module _ (room : ℕ) (q : Parts) where
   settled u v false false true d f g e = let z : u ≡ q = cc in subst (λ (r : Parts). Fitting r room) z (f refl)
   settled u v false false false true f g e = let z : v ≡ q = cc in subst (λ (r : Parts). Fitting r room) z (g refl refl)
   settled u v false false false false f g e = let z : _≡_ {A = ℕ} 0 1 = cc in absurd (omega arith)
-
-  both : (x y : Bool) → (x && y) ≡ true → (x ≡ true) × (y ≡ true)
-  both true y e = (refl, e)
-  both false y e = let z : _≡_ {A = ℕ} 0 1 = cc in absurd (omega arith)
 
   pub within-fits : (w p o rate dt : Float) → partedOf w p o rate dt room ≡ parted.Within q → Fitting q room
   unfolding partedOf

@@ -8,14 +8,10 @@ use native.Mathlib.Omega.{arith}
 use borrow.Author.Tests.{not-true}
 use lib.ListN.{length}
 use Rattle.quant.proofs.Naming.{same-exactly}
-use Rattle.quant.proofs.Places.{both}
+use Rattle.exact.proofs.Truth.{both, neither}
 use Rattle.quant.specs.Name.{sameName}
 use Rattle.quant.specs.declared.name.Name.{Name}
 use Rattle.sheet.specs.Sheet.{isIn, single, among}
-
-neither : (a b : Bool) → (a || b) ≡ false → (a ≡ false) × (b ≡ false)
-neither true b e = absurd (true≢false e)
-neither false b e = (refl, e)
 
 pub same-self : (n : Name) → sameName n n ≡ true
 same-self n = same-exactly n n .1 refl

@@ -12,7 +12,7 @@ use lib.Dec.{leb, eqb}
 use lib.Ieee.{Float, binary64, ofBits}
 use lib.ListN.{length, getD, take, drop, length-append, length-drop}
 use lib.Seq.{getD-take, getD-drop, length-take-le}
-use Rattle.quant.proofs.Places.{both}
+use Rattle.exact.proofs.Truth.{both}
 use Rattle.quant.specs.Name.{sameName}
 use Rattle.quant.specs.declared.name.Name.{Name}
 use Rattle.sheet.specs.Puts.{pasted}

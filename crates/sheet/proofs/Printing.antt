@@ -1,20 +1,20 @@
 -- A sheet's text line by line, as it is put, and how long it is. Assumes nothing.
 use Prim.Native.Nat.{ℕ, zero, suc, _+_, _-_, _*_, _≤_, _<_}
-use mathlib.Core.Bool.{Bool, true, false, _&&_, not, true≢false}
+use mathlib.Core.Bool.{Bool, true, false, _&&_, not}
 use mathlib.Core.List.{List, [], _∷_, _++_, append-assoc}
 use mathlib.Core.Path.{_≡_, refl, sym, ap, _∙_}
 use native.Mathlib.Nat.{suc-mul, zero-mul}
 use native.Mathlib.Omega.{arith}
 use borrow.Author.Tests.{le-leb, leb-true}
-use lib.Dec.{T, leb}
-use lib.Ieee.{Float, binary64, toBits, nan, inf, fin, isNan}
+use lib.Dec.{leb}
+use lib.Ieee.{Float, binary64, toBits, nan}
 use lib.Ieee.Scale.{finite}
 use lib.ListN.{length, getD, take, drop, length-append, length-drop}
 use lib.Seq.{append-snoc, drop-cons, drop-drop, length-take-le, take-all}
 use Rattle.hex.proofs.Number.{length-digits}
 use Rattle.hex.specs.Hex as hex
 use Rattle.quant.proofs.Naming.{well-formed, length-bytes, writes}
-use Rattle.quant.proofs.Places.{both}
+use Rattle.exact.proofs.Truth.{both}
 use Rattle.quant.proofs.Words.{length-sixteen}
 use Rattle.quant.specs.Name as quant
 use Rattle.quant.specs.Name.{bytesOf, sixteen, isName}
@@ -102,12 +102,6 @@ module _ (numbers : List Float) (i : ℕ) (h : i < length numbers) where
   finite-next = rw (drop-cons numbers i nan h)
 
 -- ---- finite numbers
-
-pub no-nan : (x : Float) → finite x ≡ true → T (not (isNan x))
-unfolding isNan
-no-nan nan e = absurd (true≢false (sym e))
-no-nan (inf s) e = tt
-no-nan (fin s m k) e = tt
 
 pub finite-take : (k : ℕ) (l : List Float) → allFinite l ≡ true → allFinite (take k l) ≡ true
 unfolding allFinite

@@ -16,7 +16,7 @@ use Rattle.quant.specs.Name.{every, isName, bytesOf}
 use Rattle.quant.specs.declared.name.Name.{Name}
 use Rattle.hex.proofs.Number.{length-digits}
 use Rattle.quant.proofs.Naming.{well-formed, length-bytes}
-use Rattle.quant.proofs.Places.{both}
+use Rattle.exact.proofs.Truth.{both}
 use Rattle.sheet.specs.Sheet.{channelsKey, columnKey, rowKey, factorKey, isIn, SoFar, nothing, complete, accepts, readFrom, cut, outcome, Block, Sheet, rowNames, goodNames, single, among, finiteBits, fullBlocks, WellFormed, countText, columnsText, factorsText, blocksText, sheetText}
 use Rattle.sheet_laws.specs.Words.{factorsOf, contents}
 use Rattle.sheet_laws.proofs.Lines.{plain, plain-above, every-both, plain-name, plain-digits, Accepts, line-taken}

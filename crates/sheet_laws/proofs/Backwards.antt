@@ -18,7 +18,7 @@ use Rattle.quant.specs.declared.name.Naming.the-variants.{Named, Bad}
 use Rattle.quant.specs.declared.refusal.Refusal.{Refusal}
 use Rattle.quant.specs.declared.refusal.Refusal.the-variants.{Malformed, Crosstalk, Layout}
 use Rattle.quant.proofs.Naming.{read, bytes-back, is-named}
-use Rattle.quant.proofs.Places.{both}
+use Rattle.exact.proofs.Truth.{both}
 use Rattle.sheet.specs.Sheet.{channelsKey, columnKey, rowKey, factorKey, Behind, value, other, behind, isIn, SoFar, goes, stops, countStep, columnNamed, columnStep, rowNamed, rowStep, factorBits, factorStep}
 use Rattle.sheet_laws.proofs.Spelled.{number-small, digits-back}
 use Rattle.sheet_laws.proofs.Steps.{known}

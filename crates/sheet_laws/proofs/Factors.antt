@@ -15,8 +15,9 @@ use Rattle.quant.specs.Name.{sameName}
 use Rattle.quant.specs.declared.name.Name.{Name}
 use Rattle.quant.proofs.Naming.{same-exactly}
 use Rattle.sheet.specs.Sheet.{position, SoFar, accepts, answerOf, blank, eight, namesOf, doubles, under, rowsFor, matrixOf, Sheet, single, WellFormed}
+use Rattle.sheet.proofs.Each.{same-self}
 use Rattle.sheet_laws.specs.Words.{In, here, there, contents, Reads, AtColumn, first, later, Stands, countIn, factorFor, factorRead, Entry, entries, SameUpToOrder}
-use Rattle.sheet_laws.proofs.Names.{same-self, single-rest}
+use Rattle.sheet_laws.proofs.Names.{single-rest}
 use Rattle.sheet_laws.proofs.Once.{rows-are}
 use Rattle.sheet_laws.proofs.Rows.{block-for, block-wide, row-of, still-in, under-own, unlike}
 

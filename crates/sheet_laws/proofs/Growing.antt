@@ -13,7 +13,7 @@ use lib.ListN.{length, length-append}
 use Rattle.quant.specs.Name.{isName}
 use Rattle.quant.specs.declared.name.Name.{Name}
 use Rattle.quant.specs.declared.refusal.Refusal.the-variants.{Layout}
-use Rattle.quant.proofs.Places.{both}
+use Rattle.exact.proofs.Truth.{both}
 use Rattle.sheet.specs.Sheet.{columnKey, rowKey, factorKey, behind, columnStep, rowStep, factorStep, isIn, SoFar, goes, stops, step, goodNames, single, among, finiteBits, countText, columnsText, blocksText}
 use Rattle.sheet_laws.specs.Words.{In, here, there, blocksFrom}
 use Rattle.sheet_laws.proofs.Backwards.{not-stops, ColumnLine, column-line, RowLine, row-line, FactorLine, factor-line}

@@ -10,7 +10,7 @@ use Rattle.hex.specs.Hex.{digitOf, digits}
 use Rattle.quant.specs.Name.{nameByte, every, bytesOf}
 use Rattle.quant.specs.declared.name.Name.{Name}
 use Rattle.quant.proofs.Naming.{standing, well-formed}
-use Rattle.quant.proofs.Places.{both}
+use Rattle.exact.proofs.Truth.{both}
 use Rattle.quant.specs.Name.{isName}
 use Rattle.sheet.specs.Sheet.{value, behind, onto, cut, SoFar, goes, step, accepts, onward, readFrom}
 

@@ -7,9 +7,10 @@ use borrow.Author.Tests.{not-true}
 use Rattle.quant.specs.Name.{sameName, isName}
 use Rattle.quant.specs.declared.name.Name.{Name}
 use Rattle.quant.proofs.Naming.{same-exactly}
-use Rattle.quant.proofs.Places.{both}
+use Rattle.exact.proofs.Truth.{both}
 use Rattle.sheet.specs.Sheet.{isIn, goodNames, single, among}
 use Rattle.sheet_laws.specs.Words.{In, here, there}
+use Rattle.sheet.proofs.Each.{same-self}
 
 pub never : {b : Bool} → b ≡ true → b ≡ false → ⊥
 never h k = true≢false (sym h ∙ k)
@@ -23,9 +24,6 @@ in-right (x ∷ xs) h = there (in-right xs h)
 pub in-left : {A : Type 0} {a : A} {l : List A} (r : List A) → In a l → In a (l ++ r)
 in-left r here = here
 in-left r (there h) = there (in-left r h)
-
-pub same-self : (n : Name) → sameName n n ≡ true
-same-self n = same-exactly n n .1 refl
 
 pub in-is : (n : Name) (l : List Name) → In n l → isIn n l ≡ true
 unfolding isIn

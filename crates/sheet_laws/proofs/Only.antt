@@ -11,7 +11,7 @@ use lib.ListN.{length}
 use lib.Seq.{take-at, drop-at}
 use Rattle.quant.specs.declared.refusal.Refusal.{Refusal}
 use Rattle.quant.specs.declared.refusal.Refusal.the-variants.{Layout, WrongSize}
-use Rattle.quant.proofs.Places.{both}
+use Rattle.exact.proofs.Truth.{both}
 use Rattle.sheet.specs.Sheet.{Cut, onto, cut, behind, SoFar, nothing, Step, goes, stops, countStep, step, complete, accepts, refuses, onward, readFrom, outcome, Block, Sheet, rowNames, fullBlocks, goodNames, single, among, finiteBits, WellFormed, channelsKey, countText, columnsText, blocksText, sheetText}
 use Rattle.sheet_laws.specs.Words.{factorsOf, contents, blocksFrom, sheetRead, Reads}
 use Rattle.sheet_laws.proofs.Accepted.{accepted}

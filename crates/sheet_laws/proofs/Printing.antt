@@ -2,20 +2,21 @@
 -- text of the sheet with its rows in column order. Assumes nothing.
 use Prim.Native.Nat.{ℕ, _+_, _-_, _*_, _^_, _≤_, _<_}
 use mathlib.Core.Path.{_≡_, refl, ap, _∙_}
-use mathlib.Core.Bool.{Bool, true, false, _&&_, not, cond, false≢true}
+use mathlib.Core.Bool.{Bool, true, false, _&&_, cond}
 use mathlib.Core.Logic.{⊎-elim}
 use mathlib.Core.List.{List, [], _∷_, _++_, append-assoc}
 use native.Mathlib.Omega.{arith}
 use borrow.Author.Tests.{le-leb, lt-leb, leb-true, ltb-true}
-use lib.Dec.{T, leb, ltb}
-use lib.Ieee.{Float, nan, inf, fin, binary64, isNan, ofBits}
+use lib.Dec.{leb, ltb}
+use lib.Ieee.{Float, binary64, ofBits}
 use lib.Ieee.Bits.{toBits-ofBits}
 use lib.Ieee.Scale.{finite}
 use lib.ListN.{length, take, drop, replicate, length-append}
 use lib.Seq.{take-at, drop-at}
 use Rattle.quant.specs.declared.name.Name.{Name}
 use Rattle.quant.specs.declared.refusal.Refusal.the-variants.{WrongSize}
-use Rattle.quant.proofs.Places.{both, below-or}
+use Rattle.exact.proofs.Truth.{both, number-if-finite}
+use Rattle.quant.proofs.Places.{below-or}
 use Rattle.sheet.specs.declared.print.Printed.{Printed}
 use Rattle.sheet.specs.Sheet.{cut, SoFar, nothing, Outcome, accepts, refuses, readFrom, outcome, answerOf, blank, eight, namesOf, doubles, under, rowsFor, matrixOf, Block, Sheet, finiteBits, WellFormed, sheetText, patterns, blocksOf, sheetOf, allFinite, printFits, printedOf, bytesAfter}
 use Rattle.sheet_laws.specs.Words.{In, here, there, contents, Reads, countIn, textPrinted, printAnswers, printLeaves, ReadAlike, PrintedBack}
@@ -25,19 +26,13 @@ use Rattle.sheet_laws.proofs.Factors.{doubles-long, eight-are, rows-lon
 
 -- ---- doubles and their bits
 
-number : (x : Float) → finite x ≡ true → T (not (isNan x))
-unfolding isNan
-number nan e = absurd (false≢true e)
-number (inf s) e = tt
-number (fin s m k) e = tt
-
 pub patterns-back : (fs : List ℕ) → finiteBits fs ≡ true → patterns (doubles fs) ≡ fs
 unfolding patterns doubles finiteBits
 patterns-back [] e = refl
 patterns-back (f ∷ fs) e =
     let outer = both (ltb f (2 ^ 64) && finite (ofBits binary64 f)) (finiteBits fs) e in
     let inner = both (ltb f (2 ^ 64)) (finite (ofBits binary64 f)) (outer .0) in
-    rw (toBits-ofBits binary64 f (ltb-true f (2 ^ 64) (inner .0)) (number (ofBits binary64 f) (inner .1)), patterns-back fs (outer .1))
+    rw (toBits-ofBits binary64 f (ltb-true f (2 ^ 64) (inner .0)) (number-if-finite (ofBits binary64 f) (inner .1)), patterns-back fs (outer .1))
 
 doubles-both : (a b : List ℕ) → doubles (a ++ b) ≡ doubles a ++ doubles b
 unfolding doubles

@@ -14,10 +14,11 @@ use lib.Seq.{take-at, drop-append-add}
 use Rattle.quant.specs.Name.{sameName}
 use Rattle.quant.specs.declared.name.Name.{Name}
 use Rattle.quant.proofs.Naming.{same-exactly}
-use Rattle.quant.proofs.Places.{both}
+use Rattle.exact.proofs.Truth.{both}
 use Rattle.sheet.specs.Sheet.{position, SoFar, accepts, outcome, doubles, under, rowsFor, matrixOf, Block, Sheet, rowNames, single, finiteBits, fullBlocks, WellFormed}
+use Rattle.sheet.proofs.Each.{same-self}
 use Rattle.sheet_laws.specs.Words.{In, here, there, Permuted, nil, keep, swap, then, factorsOf, contents, Reads}
-use Rattle.sheet_laws.proofs.Names.{same-self, single-first, single-rest}
+use Rattle.sheet_laws.proofs.Names.{single-first, single-rest}
 use Rattle.sheet_laws.proofs.Once.{rows-are}
 
 -- ---- rows and their blocks

@@ -1,6 +1,6 @@
 // The calls to be timed. The command call: `compare/bench` lends the words and the numbers of 1,024 commands and asks for so many runs.
 ghost use mathlib.Core.Path.{_≡_};
-ghost use Prim.Native.Nat.{_<_};
+ghost use Prim.Native.Nat.{_<_, _≤_};
 ghost use lib.ListN.{length};
 
 mod sampling;
@@ -39,7 +39,7 @@ pub extern "C" fn skierralu_time_commands(
     if numbers.len() != 8192 {
         return 0;
     }
-    let commands = read(words, numbers);
+    let commands = read(words, numbers, 0);
     let t = bench();
     let mut run: usize = 0;
     let mut left = rounds;
@@ -50,11 +50,14 @@ pub extern "C" fn skierralu_time_commands(
     run
 }
 
-pub(crate) fn read(words: &[u64], numbers: &[f64]) -> [Arranged; 1024] {
+// 1,024 of the commands, from `first` on.
+pub(crate) fn read(words: &[u64], numbers: &[f64], first: usize) -> [Arranged; 1024]
+    requires { ⌜ first ≤ 7168 ⌝ }
+{
     let mut commands = [rest(); 1024];
     let mut k: usize = 0;
     while k < 1024 {
-        commands[k] = arranged(words, numbers, k);
+        commands[k] = arranged(words, numbers, first + k);
         k += 1;
     }
     commands
@@ -77,7 +80,7 @@ fn ran(e: Executed) -> usize {
 }
 
 fn arranged(words: &[u64], numbers: &[f64], k: usize) -> Arranged
-    requires { ⌜ k < 1024 ⌝ }
+    requires { ⌜ k < 8192 ⌝ }
 {
     let command = command_at(words, numbers, k);
     Arranged {
@@ -88,7 +91,7 @@ fn arranged(words: &[u64], numbers: &[f64], k: usize) -> Arranged
 }
 
 fn command_at(words: &[u64], numbers: &[f64], k: usize) -> Command
-    requires { ⌜ k < 1024 ⌝ }
+    requires { ⌜ k < 8192 ⌝ }
 {
     let n = name(words, k, 1);
     let x = number(numbers, k, 2);
@@ -104,7 +107,7 @@ fn command_at(words: &[u64], numbers: &[f64], k: usize) -> Command
 }
 
 fn play(words: &[u64], numbers: &[f64], k: usize) -> Play
-    requires { ⌜ k < 1024 ⌝ }
+    requires { ⌜ k < 8192 ⌝ }
 {
     let channel = name(words, k, 1);
     let shape = name(words, k, 4);
@@ -125,7 +128,7 @@ fn play(words: &[u64], numbers: &[f64], k: usize) -> Play
 }
 
 fn name(words: &[u64], k: usize, at: usize) -> Name
-    requires { ⌜ (k < 1024) × (at < 7) ⌝ }
+    requires { ⌜ (k < 8192) × (at < 7) ⌝ }
 {
     Name {
         first: word(words, k, at),
@@ -135,7 +138,7 @@ fn name(words: &[u64], k: usize, at: usize) -> Name
 }
 
 fn word(words: &[u64], k: usize, at: usize) -> u64
-    requires { ⌜ (k < 1024) × (at < 9) ⌝ }
+    requires { ⌜ (k < 8192) × (at < 9) ⌝ }
 {
     let i = 9 * k + at;
     if i < words.len() {
@@ -145,7 +148,7 @@ fn word(words: &[u64], k: usize, at: usize) -> u64
 }
 
 fn number(numbers: &[f64], k: usize, at: usize) -> f64
-    requires { ⌜ (k < 1024) × (at < 8) ⌝ }
+    requires { ⌜ (k < 8192) × (at < 8) ⌝ }
 {
     let i = 8 * k + at;
     if i < numbers.len() {

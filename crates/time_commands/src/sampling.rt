@@ -1,4 +1,5 @@
-// The sampling call to be timed: the commands run once, and the channel `q0` is sampled so many times onto the rows that are lent.
+// The sampling call to be timed: up to eight lists of 1,024 commands run once, and the channel `q0` is sampled so many times onto the rows
+// that are lent.
 ghost use mathlib.Core.Path.{_≡_};
 ghost use lib.ListN.{length};
 use super::bench;
@@ -7,13 +8,21 @@ use super::read;
 use crosstalk::names::Crosstalk;
 use owned::execute_owned;
 use owned_sampler::sample_owned;
+use pulse::list::Pulse;
 use quant::name::Name;
 use quant::quantity::Frequency;
 use quant::quantity::Time;
 use quant::refusal::Answer;
 use sampler::Request;
+use tables::Tables;
 
-// With `names` of the channels `q0` to `q7` in the crosstalk. Answers how many pulses the last call added; with other lengths, 0.
+pub struct Ran {
+    pub tables: Tables,
+    pub pulses: [Pulse; 8192],
+}
+
+// Runs the first `count` of 8,192 commands. With `names` of the channels `q0` to `q7` in the crosstalk. Answers how many pulses the last
+// call added; with other lengths, 0.
 #[no_mangle]
 pub extern "C" fn skierralu_time_sampling(
     words: &[u64],
@@ -27,26 +36,19 @@ pub extern "C" fn skierralu_time_sampling(
     scratch: &mut [f64],
     rounds: usize,
 ) -> usize
-    ensures { λ r. ⌜ ((length (now (words .entry)) ≡ 9216 → ⊥) → r ≡ 0) ⌝ }
+    ensures { λ r. ⌜ ((length (now (words .entry)) ≡ 73728 → ⊥) → r ≡ 0) ⌝ }
     ensures { λ r. ⌜ (rounds ≡ 0 → r ≡ 0) ⌝ }
 {
-    if words.len() != 9216 {
+    if words.len() != 73728 {
         return 0;
     }
-    if numbers.len() != 8192 {
+    if numbers.len() != 65536 {
         return 0;
     }
     let mut bins = [[0.0; 5]; 512];
-    let e = execute_owned(
-        bench(),
-        read(words, numbers),
-        count,
-        &mut bins,
-        [no_pulse(); 8192],
-    );
-    let tabled = e.tabled;
-    let t = tabled.tables;
-    let pulses = e.pulses;
+    let ran = run_lists(words, numbers, count, &mut bins);
+    let t = ran.tables;
+    let pulses = ran.pulses;
     let r = request(rate);
     let c = named(names);
     let mut work = [[0.0; 5]; 8192];
@@ -70,6 +72,31 @@ pub extern "C" fn skierralu_time_sampling(
         left -= 1;
     }
     run
+}
+
+// List after list, each by a call of its own.
+fn run_lists(words: &[u64], numbers: &[f64], count: usize, bins: &mut [[f64; 5]]) -> Ran {
+    let mut tables = bench();
+    let mut pulses = [no_pulse(); 8192];
+    let mut k: usize = 0;
+    while k < 8 {
+        let first = 1024 * k;
+        let commands = read(words, numbers, first);
+        let e = execute_owned(tables, commands, past(count, first), bins, pulses);
+        let tabled = e.tabled;
+        tables = tabled.tables;
+        pulses = e.pulses;
+        k += 1;
+    }
+    Ran { tables, pulses }
+}
+
+// How many of `count` are left behind the first ones.
+fn past(count: usize, first: usize) -> usize {
+    if count < first {
+        return 0;
+    }
+    count - first
 }
 
 fn added(a: Answer) -> usize {

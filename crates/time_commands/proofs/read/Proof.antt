@@ -5,16 +5,19 @@ use Rattle.time_commands.proofs.read.Statement.{statement}
 use Rattle.time_commands.proofs.read.Tie as tie
 
 abbrev Inv-loop : tie.InvT-loop
-Inv-loop words numbers commands₀ k₀ commands k = k ≤ 1024
+Inv-loop words numbers first commands₀ k₀ commands k = k ≤ 1024
 
 abbrev μ-loop : tie.MeasureT-loop
-μ-loop words numbers commands₀ k₀ commands k = 1024 - k
+μ-loop words numbers first commands₀ k₀ commands k = 1024 - k
 
 rest-requires : tie.Need-rest-requires Inv-loop μ-loop
 rest-requires c κs = search needs
 
 loop-holds : tie.Need-loop-holds Inv-loop μ-loop
 loop-holds c = search needs
+
+add-arranged : tie.Need-add-arranged Inv-loop μ-loop
+add-arranged c = search needs
 
 arranged-requires : tie.Need-arranged-requires Inv-loop μ-loop
 arranged-requires c κs = search needs
@@ -45,6 +48,7 @@ read-spec =
     μ-loop
     rest-requires
     loop-holds
+    add-arranged
     arranged-requires
     mul-commands
     array-set-from-commands

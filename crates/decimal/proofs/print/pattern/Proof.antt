@@ -3,7 +3,7 @@ use mathlib.Core.Path.{sym, subst}
 use lib.Dec.{T}
 use lib.Ieee.{toBits}
 use lib.Ieee.Compare.{differs-from-itself}
-use Rattle.lines.proofs.Same.{equals-itself}
+use Rattle.exact.proofs.Truth.{number-if-same}
 use borrow.Author.Needs.{needs}
 use Rattle.decimal.proofs.print.pattern.Statement.{statement}
 use Rattle.decimal.proofs.print.pattern.Tie as tie
@@ -13,7 +13,7 @@ unfolding toBits
 returns c = rw (differs-from-itself (c .before .args .x) (subst T (sym (c .if1 .taken)) tt))
 
 float-to-bits-result : tie.Need-float-to-bits-result
-float-to-bits-result c = equals-itself _ (c .if1 .left)
+float-to-bits-result c = number-if-same _ (c .if1 .left)
 
 returns-2 : tie.Need-returns-2
 returns-2 c = search needs

@@ -1,19 +1,20 @@
 -- `ieee::ceil::ceil` meets its contract: x is what its bits stand for, and those are no fraction's from the exponent's field 1075 on. Assumes nothing.
 use mathlib.Core.Path.{_≡_, refl, sym, ap, _∙_, subst}
 use mathlib.Core.Logic.{inl, inr}
-use mathlib.Core.Bool.{Bool, true, false, not, cond, true≢false}
+use mathlib.Core.Bool.{Bool, true, false, cond}
 use Prim.Native.Nat.{ℕ, suc, _+_, _-_, _*_, _/_, _%_, _^_, _≤_, _<_}
 use native.Mathlib.Nat.{eq-or-lt-of-le, mul-assoc, mul-mod-left}
 use native.Mathlib.Omega.{arith}
-use lib.Bits.{bitAnd, and-mask}
+use lib.Bits.{bitAnd}
 use lib.Dec.{T, leb, eqb}
 use lib.Pow.{pow-add, pow-pos}
-use lib.Ieee.{Float, nan, inf, fin, binary64, isNan, ne, ofFields, ofBits, toBits}
+use lib.Ieee.{Float, nan, inf, binary64, ofFields, ofBits, toBits}
 use lib.Ieee.Compare.{differs-from-itself}
 use lib.Ieee.Bits.{ofBits-toBits, ofBits-fits}
 use borrow.Author.Needs.{needs}
+use Rattle.exact.proofs.Truth.{number-if-same}
 use Rattle.ieee.specs.Ceiling.{ceiling}
-use Rattle.ieee.proofs.Bits.{bits-are, value-normal}
+use Rattle.ieee.proofs.Bits.{bits-are, value-normal, field}
 use Rattle.ieee.proofs.Ceiling.{whole-fixed}
 use Rattle.ieee.proofs.ceil.ceil.Statement.{statement}
 use Rattle.ieee.proofs.ceil.ceil.Tie as tie
@@ -22,12 +23,6 @@ use Rattle.ieee.proofs.ceil.ceil.Tie as tie
 of-nan : ceiling nan ≡ nan
 unfolding ceiling
 of-nan = refl
-
-not-nan : (x : Float) → ne x x ≡ false → T (not (isNan x))
-unfolding ne isNan
-not-nan nan h = absurd (true≢false h)
-not-nan (inf s) h = tt
-not-nan (fin s m e) h = tt
 
 -- ---- from 2 ^ 52 on, an infinity included
 special : (s c : Bool) → ceiling (cond c (inf s) nan) ≡ cond c (inf s) nan
@@ -67,10 +62,6 @@ large b h =
           whole-fixed (ofBits binary64 b) s ((2 ^ 52 + t) * 2 ^ (f - 1)) (2 ^ 1074) (pow-pos 1074) (ofBits-fits binary64 b) (value-normal b (f - 1) t (is-suc f h) refl (normal f l)) (no-fraction (2 ^ 52 + t) f h)
     ]
 
--- ---- the exponent's field, as the code works it out
-field : (b : ℕ) → bitAnd b 0x7fff_ffff_ffff_ffff / 2 ^ 52 ≡ b % 2 ^ 63 / 2 ^ 52
-field b = ap (λ (z : ℕ). z / 2 ^ 52) (and-mask b 63)
-
 small : (r f : ℕ) → f ≡ r / 2 ^ 52 → f < 1023 → r < 1023 * 2 ^ 52
 small r f e h = omega arith
 
@@ -84,7 +75,7 @@ returns c =
     e ∙ sym (ap ceiling e ∙ of-nan)
 
 float-to-bits-bits : tie.Need-float-to-bits-bits
-float-to-bits-bits c = not-nan (c .before .args .x) (c .if1 .left)
+float-to-bits-bits c = number-if-same (c .before .args .x) (c .if1 .left)
 
 returns-2 : tie.Need-returns-2
 returns-2 c =

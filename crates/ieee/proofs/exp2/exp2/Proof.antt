@@ -1,12 +1,11 @@
 -- `ieee::exp2::exp2` meets its contract: the pattern that it makes stands for 2 ^ k smallest values, which is 2 ^ n, and a value is written in one way. Assumes nothing.
 use mathlib.Core.Path.{_≡_, refl, sym, ap, _∙_, subst}
-use mathlib.Core.Bool.{Bool, true, false, not}
+use mathlib.Core.Bool.{Bool, false, not}
 use Prim.Native.Nat.{ℕ, suc, _+_, _-_, _*_, _/_, _%_, _^_, _≤_, _<_}
 use native.Mathlib.Nat.{le-trans, le-of-eq, le-of-lt, lt-of-lt-of-le, mod-eq-of-lt, one-mul}
 use native.Mathlib.Omega.{arith}
 use lib.Dec.{T, leb, lit≤}
 use lib.IntN.{ℤ, pos, _+ℤ_}
-use lib.Signed.{_≤ℤ_, _<ℤ_, ltZ, ltZ-yes, ltZ-no}
 use lib.Pow.{pow-add, pow-pos, pow-lt}
 use mir.Syntax.{w32}
 use mir.Val.{toZ, ofZ}
@@ -18,6 +17,7 @@ use lib.Ieee.Bits.{ofBits-fits}
 use borrow.Author.Needs.{needs}
 use borrow.Author.Tests.{lt-leb}
 use Rattle.exact.proofs.Value.{rescale, unique}
+use Rattle.exact.proofs.Truth.{below, not-below}
 use Rattle.ieee.specs.Exp2.{exp2Of, Exponent}
 use Rattle.ieee.proofs.Bits.{no-nan, value-low, value-normal}
 use Rattle.ieee.proofs.Powers.{places, places-are, value, exp2-fits, underflow, overflow}
@@ -92,12 +92,6 @@ is-power n h k e b v =
     (value n h)
 
 -- ---- the needs: the tests and the call are about n as the machine reads it back from its bits
-yes : {a b : ℤ} → ltZ a b ≡ true → a <ℤ b
-yes e = ltZ-yes (subst T (sym e) tt)
-
-no : {a b : ℤ} → ltZ a b ≡ false → b ≤ℤ a
-no e = ltZ-no (subst (λ (t : Bool). T (not t)) (sym e) tt)
-
 module _ (s : tie.Start) where
   abbrev z : ℤ
   z = toZ w32 (ofZ w32 (s .args .n))
@@ -106,17 +100,17 @@ module _ (s : tie.Start) where
   back = ap exp2Of (toZ-ofZ w32 (s .args .n) (s .fits .n))
 
 returns : tie.Need-returns
-returns c = zero ∙ sym (underflow (z (c .before)) (yes (c .if1 .taken))) ∙ back (c .before)
+returns c = zero ∙ sym (underflow (z (c .before)) (below (c .if1 .taken))) ∙ back (c .before)
 
 float-from-bits-infinity : tie.Need-float-from-bits-infinity
 unfolding nanBits
 float-from-bits-infinity c = tt
 
 returns-2 : tie.Need-returns-2
-returns-2 c = infinity ∙ sym (overflow (z (c .before .before)) (yes (c .if2 .taken))) ∙ back (c .before .before)
+returns-2 c = infinity ∙ sym (overflow (z (c .before .before)) (below (c .if2 .taken))) ∙ back (c .before .before)
 
 places-requires : tie.Need-places-requires
-places-requires c κs = record { low = no (c .before .if1 .left); high = no (c .if2 .left) }
+places-requires c κs = record { low = not-below (c .before .if1 .left); high = not-below (c .if2 .left) }
 
 -- what is known after the call
 module _ (c : tie.After-places) where
@@ -127,7 +121,7 @@ module _ (c : tie.After-places) where
   k = c .places .result
 
   exponent : Exponent (z start)
-  exponent = record { low = no (c .before .before .if1 .left); high = no (c .before .if2 .left) }
+  exponent = record { low = not-below (c .before .before .if1 .left); high = not-below (c .before .if2 .left) }
 
   k-lt : k < 2098
   k-lt = let p = places (z start) exponent in subst (λ (j : ℕ). j < 2098) (places-are (z start) p k (c .places .ensures)) (p .small)

@@ -13,14 +13,11 @@ use mir.Facts.{fits-of-lt}
 use Rattle.exact.specs.Value.{Units}
 use Rattle.exact.proofs.Value.{scale}
 use Rattle.ieee.specs.Significand.{Shifted, Significand}
-use Rattle.ieee.proofs.Bits.{value-low, value-normal}
+use Rattle.ieee.proofs.Bits.{value-low, value-normal, field}
 use Rattle.ieee.proofs.significand.significand.Statement.{statement}
 use Rattle.ieee.proofs.significand.significand.Tie as tie
 
 -- the code's masks
-field : (b : ℕ) → bitAnd b 0x7fff_ffff_ffff_ffff / 2 ^ 52 ≡ b % 2 ^ 63 / 2 ^ 52
-field b = ap (λ (x : ℕ). x / 2 ^ 52) (and-mask b 63)
-
 digits : (b : ℕ) → bitAnd b 0xf_ffff_ffff_ffff ≡ b % 2 ^ 52
 digits b = and-mask b 52
 

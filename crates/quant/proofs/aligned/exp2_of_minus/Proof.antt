@@ -1,18 +1,19 @@
 -- `quant::aligned::exp2_of_minus` meets its contract: only the least i32 has no opposite, and there both powers are infinite. Assumes nothing.
 use borrow.Author.Needs.{needs}
 use mathlib.Core.Path.{_≡_, refl, sym, ap, _∙_, subst}
-use mathlib.Core.Bool.{Bool, true, false, not, cond}
+use mathlib.Core.Bool.{Bool, false, cond}
 use Prim.Native.Nat.{ℕ, zero, suc, _-_, suc-le-suc}
 use native.Mathlib.Nat.{le-suc, le-trans, lt-of-le-of-lt, lt-of-lt-of-le, zero-add}
 use native.Mathlib.Omega.{arith}
-use lib.Dec.{T, leb, le→leb, ltb→lt, lt→ltb, leb→le, lit<}
+use lib.Dec.{leb, le→leb, ltb→lt, lt→ltb, leb→le, lit<}
 use lib.IntN.{ℤ, pos, negsuc, negℤ, _-ℤ_}
-use lib.Signed.{_<ℤ_, _≤ℤ_, ltZ, ltZ-yes, ltZ-no}
+use lib.Signed.{_<ℤ_, _≤ℤ_}
 use lib.Ieee.{inf}
 use lib.Ieee.Bits.{is-true}
 use mir.Syntax.{w32}
 use mir.Val.{SFits, toZ, ofZ}
 use mir.ValLaws.{toZ-ofZ}
+use Rattle.exact.proofs.Truth.{below, not-below}
 use Rattle.ieee.specs.Exp2.{exp2Of}
 use Rattle.ieee.proofs.Powers.{overflow}
 use Rattle.quant.proofs.aligned.exp2_of_minus.Statement.{statement}
@@ -46,16 +47,10 @@ module _ (s : tie.Start) where
   same : z ≡ s .args .level
   same = toZ-ofZ w32 (s .args .level) (s .fits .level)
 
-yes : {a b : ℤ} → ltZ a b ≡ true → a <ℤ b
-yes e = ltZ-yes (subst T (sym e) tt)
-
-no : {a b : ℤ} → ltZ a b ≡ false → b ≤ℤ a
-no e = ltZ-no (subst (λ (t : Bool). T (not t)) (sym e) tt)
-
 fits-neg : (c : tie.Else1) → SFits w32 (pos 0 -ℤ z (c .before))
 fits-neg c =
     let s = c .before in
-    subst (SFits w32) (sym (minus (z s))) (near (z s) (subst (SFits w32) (sym (same s)) (s .fits .level)) (no (c .if1 .left)))
+    subst (SFits w32) (sym (minus (z s))) (near (z s) (subst (SFits w32) (sym (same s)) (s .fits .level)) (not-below (c .if1 .left)))
 
 exp2-requires : tie.Need-exp2-requires
 exp2-requires c κs = search needs
@@ -65,7 +60,7 @@ returns c =
     let s = c .before .before in
     c .exp2 .ensures
     ∙ overflow (pos 2147483647) (record { lt = tt })
-    ∙ sym (ap (λ (y : ℤ). exp2Of (negℤ y)) (sym (same s)) ∙ far (z s) (yes (c .before .if1 .taken)))
+    ∙ sym (ap (λ (y : ℤ). exp2Of (negℤ y)) (sym (same s)) ∙ far (z s) (below (c .before .if1 .taken)))
 
 sub-exp2 : tie.Need-sub-exp2
 sub-exp2 c = fits-neg c

@@ -59,17 +59,23 @@ answered-requires c κs = search needs
 least-requires : tie.Need-least-requires Inv-loop μ-loop
 least-requires c κs = search needs
 
-sub-arranged-of : tie.Need-sub-arranged-of Inv-loop μ-loop
-sub-arranged-of c = search needs
+sub-command-after : tie.Need-sub-command-after Inv-loop μ-loop
+sub-command-after c = search needs
 
-part-arranged-of-start : tie.Need-part-arranged-of-start Inv-loop μ-loop
-part-arranged-of-start c = search needs
+part-command-after-start : tie.Need-part-command-after-start Inv-loop μ-loop
+part-command-after-start c = search needs
 
-part-arranged-of-end : tie.Need-part-arranged-of-end Inv-loop μ-loop
-part-arranged-of-end c = search needs
+part-command-after-end : tie.Need-part-command-after-end Inv-loop μ-loop
+part-command-after-end c = search needs
 
-arranged-of-requires-2 : tie.Need-arranged-of-requires-2 Inv-loop μ-loop
-arranged-of-requires-2 c κs = search needs
+mul-command-after : tie.Need-mul-command-after Inv-loop μ-loop
+mul-command-after c = search needs
+
+array-copy-out-command-after : tie.Need-array-copy-out-command-after Inv-loop μ-loop
+array-copy-out-command-after c = search needs
+
+command-after-requires : tie.Need-command-after-requires Inv-loop μ-loop
+command-after-requires c κs = search needs
 
 mul-commands : tie.Need-mul-commands Inv-loop μ-loop
 mul-commands c = search needs
@@ -138,10 +144,12 @@ one-spec =
     added-requires
     answered-requires
     least-requires
-    sub-arranged-of
-    part-arranged-of-start
-    part-arranged-of-end
-    arranged-of-requires-2
+    sub-command-after
+    part-command-after-start
+    part-command-after-end
+    mul-command-after
+    array-copy-out-command-after
+    command-after-requires
     mul-commands
     array-set-from-commands
     count-after-requires

@@ -9,7 +9,7 @@ use native.Mathlib.Omega.{arith}
 use borrow.Author.Needs.{needs}
 use lib.Ieee.{Float}
 use lib.ListN.{length, getD, take, drop}
-use Rattle.quant.proofs.Places.{both}
+use Rattle.exact.proofs.Truth.{both}
 use Rattle.quant.specs.Name.{isName}
 use Rattle.quant.specs.declared.name.Name.{Name}
 use Rattle.sheet.specs.Puts.{blockText}

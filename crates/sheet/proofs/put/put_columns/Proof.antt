@@ -6,7 +6,7 @@ use native.Mathlib.Numerals.{add-one}
 use native.Mathlib.Omega.{arith}
 use borrow.Author.Needs.{needs}
 use lib.ListN.{getD, take, drop}
-use Rattle.quant.proofs.Places.{both}
+use Rattle.exact.proofs.Truth.{both}
 use Rattle.quant.specs.Name.{isName}
 use Rattle.sheet.specs.Puts.{nameLine}
 use Rattle.sheet.specs.Sheet.{blank, columnKey, goodNames, columnsText}

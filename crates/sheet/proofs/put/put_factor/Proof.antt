@@ -2,9 +2,10 @@
 use mathlib.Core.Path.{_∙_}
 use native.Mathlib.Omega.{arith}
 use borrow.Author.Needs.{needs}
+use Rattle.exact.proofs.Truth.{number-if-finite}
 use Rattle.sheet.specs.Sheet.{factorKey}
 use Rattle.sheet.proofs.Pasting.{then}
-use Rattle.sheet.proofs.Printing.{word-put, no-nan}
+use Rattle.sheet.proofs.Printing.{word-put}
 use Rattle.sheet.proofs.put.put_factor.Statement.{statement}
 use Rattle.sheet.proofs.put.put_factor.Tie as tie
 
@@ -17,7 +18,7 @@ put-requires c κs = omega (arith, c .before .before .before .pre .1)
 float-to-bits-write : tie.Need-float-to-bits-write
 float-to-bits-write c =
     let start = c .before .before .before .before .before .before in
-    no-nan (start .args .x) (start .pre .0)
+    number-if-finite (start .args .x) (start .pre .0)
 
 write-requires : tie.Need-write-requires
 write-requires c κs = search needs

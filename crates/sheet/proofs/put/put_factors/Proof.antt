@@ -9,7 +9,7 @@ use borrow.Author.Needs.{needs}
 use lib.Ieee.{nan, Float}
 use lib.Ieee.Scale.{finite}
 use lib.ListN.{length, getD, drop, drop-of-length-le}
-use Rattle.quant.proofs.Places.{both}
+use Rattle.exact.proofs.Truth.{both}
 use Rattle.sheet.specs.Puts.{factorLine}
 use Rattle.sheet.specs.Sheet.{allFinite, factorsText, patterns}
 use Rattle.sheet.proofs.Pasting.{Left, left-all, left-more, left-none, left-room}

@@ -23,20 +23,11 @@ returns c = (λ _. refl, λ _. refl)
 returns-2 : tie.Need-returns-2 Inv-loop μ-loop
 returns-2 c = (λ _. refl, λ _. refl)
 
-bench-requires : tie.Need-bench-requires Inv-loop μ-loop
-bench-requires c κs = search needs
+slice-aggregate-run-lists : tie.Need-slice-aggregate-run-lists Inv-loop μ-loop
+slice-aggregate-run-lists c = search needs
 
-read-requires : tie.Need-read-requires Inv-loop μ-loop
-read-requires c κs = search needs
-
-slice-aggregate-execute-owned : tie.Need-slice-aggregate-execute-owned Inv-loop μ-loop
-slice-aggregate-execute-owned c = search needs
-
-no-pulse-requires : tie.Need-no-pulse-requires Inv-loop μ-loop
-no-pulse-requires c κs = search needs
-
-execute-owned-requires : tie.Need-execute-owned-requires Inv-loop μ-loop
-execute-owned-requires c κs = search needs
+run-lists-requires : tie.Need-run-lists-requires Inv-loop μ-loop
+run-lists-requires c κs = search needs
 
 request-requires : tie.Need-request-requires Inv-loop μ-loop
 request-requires c κs = search needs
@@ -91,7 +82,7 @@ same-length-3 : tie.Need-same-length-3 Inv-loop μ-loop
 same-length-3 c = c .before .loop .inv .2
 
 returns-3 : tie.Need-returns-3 Inv-loop μ-loop
-returns-3 c = (λ n. absurd (n (c .before .before .before .before .before .before .before .before .before .before .before .before .before .before .if1 .left)), λ e. let k = c .before .loop .inv .5 in c .before .loop .inv .6 (omega (arith, e, k)))
+returns-3 c = (λ n. absurd (n (c .before .before .before .before .before .before .before .before .before .before .if1 .left)), λ e. let k = c .before .loop .inv .5 in c .before .loop .inv .6 (omega (arith, e, k)))
 
 pub skierralu-time-sampling-spec : {M : Type 1} → statement M
 skierralu-time-sampling-spec =
@@ -101,11 +92,8 @@ skierralu-time-sampling-spec =
     μ-loop
     returns
     returns-2
-    bench-requires
-    read-requires
-    slice-aggregate-execute-owned
-    no-pulse-requires
-    execute-owned-requires
+    slice-aggregate-run-lists
+    run-lists-requires
     request-requires
     named-requires
     loop-holds

@@ -1,0 +1,76 @@
+-- The law of the whole system. From made tables, beside whatever is lent, through any run of adds, command calls, sampling calls and steps: every
+-- call has one answer that its promise allows, and what it leaves, refused or not, is as document 01 says. Call by call. Assumes nothing.
+use mathlib.Core.Path.{_≡_}
+use mathlib.Core.Bool.{Bool}
+use mathlib.Core.List.{List, [], _∷_}
+use lib.Ieee.{Float}
+use lib.ListN.{length}
+use Rattle.tables.specs.Tables.{made}
+use Rattle.commands_laws.specs.Sound.{Reached}
+use Rattle.commands_laws.specs.Sound as reached
+use Rattle.commands_laws.proofs.Sound.{sound}
+use Rattle.system.specs.System.{State, Call, make, add-channel, add-shape, execute, sample, iq, offset, iir, fir, Event, calls, lends, withLent, iqStep, offsetStep, iirStep, firStep, outcome}
+use Rattle.system.specs.Said.{AsSaid, Holds, EveryCall}
+use Rattle.system.proofs.Promised.{answered, only}
+use Rattle.system.proofs.Adds.{make-said, channel-said, shape-said}
+use Rattle.system.proofs.Steps.{step-said}
+use Rattle.system.proofs.Commands.{commands-said}
+use Rattle.system.proofs.Sampling.{sample-said}
+
+-- ---- one call, from any state: whatever its tables, bins and pulses hold, and of whatever size
+
+said : (s : State) (c : Call) → AsSaid s c (outcome s c)
+unfolding AsSaid outcome
+said s (make amp time oversize) = make-said s amp time oversize
+said s (add-channel n osc) = channel-said s n osc
+said s (add-shape n) = shape-said s n
+said s (execute commands) = commands-said s commands
+said s (sample r c factors) = sample-said s r c factors
+said s (iq n m) = step-said s (iqStep (s .rows) n m)
+said s (offset n m) = step-said s (offsetStep (s .rows) n m)
+said s (iir n sections) = step-said s (iirStep (s .rows) n sections)
+said s (fir n taps) = step-said s (firStep (s .rows) n taps)
+
+pub holds : (s : State) (c : Call) → Holds s c
+holds s c = record { answered = answered s c; only = only s c; said = said s c }
+
+-- ---- what is reached
+
+abbrev Known : State → Type 0
+Known s = Reached (s .tables) (s .bins) (s .pulses)
+
+-- making and adding write to the tables, command calls to the tables, the bins and the pulses, and no other call to any of these
+next : (s : State) (c : Call) → Known s → Known (outcome s c .after)
+unfolding outcome
+next s (make amp time oversize) h =
+    let known = sound (s .tables) (s .bins) (s .pulses) h in
+    reached.start amp time oversize (s .bins) (s .pulses) (known .rows) (known .records)
+next s (add-channel n osc) h = reached.channel (s .tables) (s .bins) (s .pulses) n osc h
+next s (add-shape n) h = reached.shape (s .tables) (s .bins) (s .pulses) n h
+next s (execute commands) h = reached.call (s .tables) (s .bins) (s .pulses) commands h
+next s (sample r c factors) h = h
+next s (iq n m) h = h
+next s (offset n m) h = h
+next s (iir n sections) h = h
+next s (fir n taps) h = h
+
+-- ---- any run
+
+one-more : (s : State) (c : Call) (more : List Event) → Known (outcome s c .after) → EveryCall (outcome s c .after) more → EveryCall s (calls c ∷ more)
+unfolding EveryCall
+one-more s c more h later = let u = outcome s c .after in (holds s c, sound (u .tables) (u .bins) (u .pulses) h, later)
+
+every-call : (s : State) (events : List Event) → Known s → EveryCall s events
+unfolding EveryCall
+every-call s [] h = tt
+every-call s (calls c ∷ more) h = let k = next s c h in one-more s c more k (every-call (outcome s c .after) more k)
+every-call s (lends rows work marks ∷ more) h = every-call (withLent s rows work marks) more h
+
+-- "64 bins and 1,024 stored pulses a channel", of 8 channels, with whatever in them; all else that is lent may have any size
+pub whole : (amp time : Float) (oversize : Bool) (lent : State) (events : List Event) → length (lent .bins) ≡ 512 → length (lent .pulses) ≡ 8192
+    → EveryCall lent (calls (make amp time oversize) ∷ events)
+unfolding outcome
+whole amp time oversize lent events rows records =
+    let made = reached.start amp time oversize (lent .bins) (lent .pulses) rows records in
+    let c = make amp time oversize in
+    one-more lent c events made (every-call (outcome lent c .after) events made)

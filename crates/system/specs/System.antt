@@ -1,0 +1,178 @@
+-- The whole system: what a caller holds between calls, the calls, what each promises (its contract, word for word) and what it then comes to, by
+-- the public definitions of its own crate. Definitions only.
+use Prim.Native.Nat.{ℕ}
+use mathlib.Core.Path.{_≡_}
+use mathlib.Core.Bool.{Bool}
+use mathlib.Core.List.{List}
+use lib.Ieee.{Float, nan}
+use lib.ListN.{length, getD}
+use Rattle.quant.specs.declared.name.Name.{Name}
+use Rattle.quant.specs.declared.refusal.Answer.{Answer}
+use Rattle.rows.specs.Rows as rows
+use Rattle.mixer.specs.Mixer as mixer
+use Rattle.iir.specs.Section.{sectionsOf, finiteSections}
+use Rattle.iir.specs.Filter.{filtered}
+use Rattle.iir.specs.Iir.{Iir, iirFits}
+use Rattle.fir.specs.Fir.{Fir, firFits, filteredRow}
+use Rattle.executor.specs.declared.osc.OscState.{OscState}
+use Rattle.tables.specs.declared.Tables.{Tables}
+use Rattle.tables.specs.declared.Tabled.{Tabled}
+use Rattle.tables.specs.Tables.{made, withAdded, withAddedShape}
+use Rattle.pulse.specs.declared.list.Pulse.{Pulse}
+use Rattle.commands.specs.declared.command.Arranged.{Arranged}
+use Rattle.commands.specs.Run.{Ran, ranTo, executed}
+use Rattle.crosstalk.specs.declared.names.Crosstalk.{Crosstalk}
+use Rattle.mixdown.specs.Sampled.{Rowed, rowed}
+use Rattle.sampler.specs.declared.Request.{Request}
+use Rattle.sampler.specs.Sampler.{Left, left, sampled}
+
+-- ---- what a caller holds
+
+-- the tables, the bins and the pulses, into which only our calls write; and what it lends: rows I and Q with the scratch, work rows and marks
+pub record State : Type 0 where
+  pub tables : Tables
+  pub bins : List (List Float)
+  pub pulses : List Pulse
+  pub rows : Rowed
+  pub work : List (List Float)
+  pub marks : List ℕ
+
+-- ---- the calls, with what each is given besides: to make tables, both tolerances and the oversize choice; for a step, whether there are one or
+-- two rows, and its numbers
+pub data Call : Type 0 where
+  make : Float → Float → Bool → Call
+  add-channel : Name → OscState → Call
+  add-shape : Name → Call
+  execute : List Arranged → Call
+  sample : Request → Crosstalk → List Float → Call
+  iq : ℕ → List Float → Call
+  offset : ℕ → List Float → Call
+  iir : ℕ → List Float → Call
+  fir : ℕ → List Float → Call
+
+-- what happens next: a call; or the caller lends other rows, scratch, work rows and marks, of any size, or writes into them
+pub data Event : Type 0 where
+  calls : Call → Event
+  lends : Rowed → List (List Float) → List ℕ → Event
+
+pub record Outcome : Type 0 where
+  pub answer : Answer
+  pub after : State
+
+abbrev pub told : Answer → State → Outcome
+told a s = record { answer = a; after = s }
+
+-- ---- the state with some of it another
+
+abbrev pub withTables : State → Tables → State
+withTables s t = record { tables = t; bins = s .bins; pulses = s .pulses; rows = s .rows; work = s .work; marks = s .marks }
+
+abbrev pub withStored : State → Tables → List (List Float) → List Pulse → State
+withStored s t bins pulses = record { tables = t; bins = bins; pulses = pulses; rows = s .rows; work = s .work; marks = s .marks }
+
+abbrev pub withLent : State → Rowed → List (List Float) → List ℕ → State
+withLent s rows work marks = record { tables = s .tables; bins = s .bins; pulses = s .pulses; rows = rows; work = work; marks = marks }
+
+-- the scratch is not lent to a step
+abbrev pub withRows : State → List Float → List Float → State
+withRows s i q = withLent s (rowed i q (s .rows .scratch)) (s .work) (s .marks)
+
+-- ---- what a call promises
+
+-- the contract of each call, of an answer and what is left
+unfoldable pub Contract : State → Call → Answer → State → Type 0
+Contract s (make amp time oversize) a u = record { answer = a; tables = u .tables } ≡ made amp time oversize
+Contract s (add-channel n o) a u = record { answer = a; tables = u .tables } ≡ withAdded (s .tables) n o
+Contract s (add-shape n) a u = record { answer = a; tables = u .tables } ≡ withAddedShape (s .tables) n
+Contract s (execute commands) a u = ranTo (record { answer = a; tables = u .tables }) (u .bins) (u .pulses) ≡ executed (s .tables) commands (s .bins) (s .pulses)
+Contract s (sample r c factors) a u = left a (u .rows) (u .work) (u .marks) ≡ sampled (s .tables) r c factors (s .bins) (s .pulses) (s .rows) (s .work) (s .marks)
+Contract s (iq n m) a u = mixer.Iq n (s .rows .i) (s .rows .q) m a (u .rows .i) (u .rows .q)
+Contract s (offset n m) a u = mixer.Offset n (s .rows .i) (s .rows .q) m a (u .rows .i) (u .rows .q)
+Contract s (iir n sections) a u = Iir n (s .rows .i) (s .rows .q) sections a (u .rows .i) (u .rows .q)
+Contract s (fir n taps) a u = Fir n (s .rows .i) (s .rows .q) taps a (u .rows .i) (u .rows .q)
+
+-- the state s, with what the call may write taken from u; the rest it is not lent, or is lent to read only
+unfoldable pub written : State → Call → State → State
+written s (make amp time oversize) u = withTables s (u .tables)
+written s (add-channel n o) u = withTables s (u .tables)
+written s (add-shape n) u = withTables s (u .tables)
+written s (execute commands) u = withStored s (u .tables) (u .bins) (u .pulses)
+written s (sample r c factors) u = withLent s (u .rows) (u .work) (u .marks)
+written s (iq n m) u = withRows s (u .rows .i) (u .rows .q)
+written s (offset n m) u = withRows s (u .rows .i) (u .rows .q)
+written s (iir n sections) u = withRows s (u .rows .i) (u .rows .q)
+written s (fir n taps) u = withRows s (u .rows .i) (u .rows .q)
+
+pub record Promised (s : State) (c : Call) (o : Outcome) : Type 0 where
+  pub contract : Contract s c (o .answer) (o .after)
+  pub rest : o .after ≡ written s c (o .after)
+
+-- ---- what a call comes to
+
+abbrev pub tabled : State → Tabled → Outcome
+tabled s x = told (x .answer) (withTables s (x .tables))
+
+abbrev pub hasRun : State → Ran → Outcome
+hasRun s x = told (x .result .answer) (withStored s (x .result .tables) (x .bins) (x .pulses))
+
+abbrev pub hasSampled : State → Left → Outcome
+hasSampled s x = told (x .answer) (withLent s (x .rows) (x .work) (x .marks))
+
+-- a step: whether its sizes fit, whether its numbers are fine, and the rows that it leaves where both hold
+pub record Step : Type 0 where
+  pub fits : Bool
+  pub fine : Bool
+  pub i : List Float
+  pub q : List Float
+
+abbrev pub stepped : State → Step → Outcome
+stepped s x = told (rows.answerOf (x .fits) (x .fine)) (withRows s (rows.after (x .fits) (x .fine) (x .i) (s .rows .i)) (rows.after (x .fits) (x .fine) (x .q) (s .rows .q)))
+
+abbrev pub iqStep : Rowed → ℕ → List Float → Step
+iqStep st n m =
+    record {
+      fits = mixer.iqFits n (st .i) (st .q) m;
+      fine = rows.allFinite m;
+      i = mixer.mixedRow (getD m 0 nan) (getD m 1 nan) (st .i) (st .q);
+      q = mixer.mixedRow (getD m 2 nan) (getD m 3 nan) (st .i) (st .q);
+    }
+
+abbrev pub offsetStep : Rowed → ℕ → List Float → Step
+offsetStep st n m =
+    record {
+      fits = mixer.offsetFits n (st .i) (st .q) m;
+      fine = rows.allFinite m;
+      i = mixer.raisedRow (getD m 0 nan) (st .i);
+      q = mixer.raisedRow (getD m 1 nan) (st .q);
+    }
+
+abbrev pub iirStep : Rowed → ℕ → List Float → Step
+iirStep st n sections =
+    record {
+      fits = iirFits n (length (st .i)) (length (st .q)) (length sections);
+      fine = finiteSections (sectionsOf sections);
+      i = filtered (sectionsOf sections) (st .i);
+      q = filtered (sectionsOf sections) (st .q);
+    }
+
+abbrev pub firStep : Rowed → ℕ → List Float → Step
+firStep st n taps =
+    record {
+      fits = firFits n (length (st .i)) (length (st .q)) (length taps);
+      fine = rows.allFinite taps;
+      i = filteredRow taps (st .i);
+      q = filteredRow taps (st .q);
+    }
+
+-- Every call has an answer: this is a function of every state and every call, with no case left out; and it is the one outcome that the call's
+-- promise allows (proofs/Promised.antt).
+unfoldable pub outcome : State → Call → Outcome
+outcome s (make amp time oversize) = tabled s (made amp time oversize)
+outcome s (add-channel n o) = tabled s (withAdded (s .tables) n o)
+outcome s (add-shape n) = tabled s (withAddedShape (s .tables) n)
+outcome s (execute commands) = hasRun s (executed (s .tables) commands (s .bins) (s .pulses))
+outcome s (sample r c factors) = hasSampled s (sampled (s .tables) r c factors (s .bins) (s .pulses) (s .rows) (s .work) (s .marks))
+outcome s (iq n m) = stepped s (iqStep (s .rows) n m)
+outcome s (offset n m) = stepped s (offsetStep (s .rows) n m)
+outcome s (iir n sections) = stepped s (iirStep (s .rows) n sections)
+outcome s (fir n taps) = stepped s (firStep (s .rows) n taps)

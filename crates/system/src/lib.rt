@@ -1,0 +1,1 @@
+// Laws of the whole system, over any run of calls: no code.
