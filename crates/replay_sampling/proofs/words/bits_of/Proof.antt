@@ -1,6 +1,6 @@
 -- `replay_sampling::words::bits_of` meets its contract: where the bits are taken, the number is no NaN. Assumes nothing.
 use borrow.Author.Needs.{needs}
-use Rattle.lines.proofs.Same.{equals-itself}
+use Rattle.exact.proofs.Truth.{number-if-same}
 use Rattle.replay_sampling.proofs.words.bits_of.Statement.{statement}
 use Rattle.replay_sampling.proofs.words.bits_of.Tie as tie
 
@@ -8,7 +8,7 @@ returns : tie.Need-returns
 returns c = search needs
 
 float-to-bits-result : tie.Need-float-to-bits-result
-float-to-bits-result c = equals-itself _ (c .if1 .left)
+float-to-bits-result c = number-if-same _ (c .if1 .left)
 
 returns-2 : tie.Need-returns-2
 returns-2 c = search needs
