@@ -5,6 +5,8 @@ ghost use Rattle.mix.specs.Plateau.{real, imaginary};
 ghost use Rattle.mix.specs.Envelope.{nought, waveOf, shapedBy};
 use quant::complex::Complex;
 
+// The carrier's real part goes a sample ahead of its imaginary part. Two parts that are turned at once the compiler keeps in one register, and
+// taking them out of it lengthens the chain from sample to sample.
 pub(crate) fn envelope_rows(
     i: &mut [f64],
     q: &mut [f64],
@@ -18,16 +20,28 @@ pub(crate) fn envelope_rows(
     ensures { λ r. ⌜ now (i .exit) ≡ shapedBy real amp drag rotation (now (points .entry)) carrier (now (i .entry)) ⌝ }
     ensures { λ r. ⌜ now (q .exit) ≡ shapedBy imaginary amp drag rotation (now (points .entry)) carrier (now (q .entry)) ⌝ }
 {
-    let mut z = carrier;
-    let mut left: f64 = 0.0;
-    let mut here = point(points, 0);
-    let mut k: usize = 0;
+    if i.len() < 1 {
+        return;
+    }
+    let mut left = point(points, 0);
+    let mut here = point(points, 1);
+    let first = wave(carrier, amp, drag, 0.0, left, here);
+    i[0] = i[0] + first.re;
+    q[0] = q[0] + first.im;
+    let mut last = carrier;
+    let second = carrier.mul(rotation);
+    let mut re = second.re;
+    let mut k: usize = 1;
     while k < i.len() {
+        let turned = last.mul(rotation);
+        let z = Complex { re, im: turned.im };
+        let next = z.mul(rotation);
+        re = next.re;
         let right = point(points, k + 1);
         let w = wave(z, amp, drag, left, here, right);
         i[k] = i[k] + w.re;
         q[k] = q[k] + w.im;
-        z = z.mul(rotation);
+        last = z;
         left = here;
         here = right;
         k += 1;
