@@ -1,9 +1,7 @@
 // The lines of a job, in order: each is read, told to the bench, and answered.
-ghost use mathlib.Core.Path.{_≡_};
 ghost use Prim.Native.Nat.{_<_, _≤_};
 ghost use lib.ListN.{length};
 use super::show::show_answer;
-use super::state::State;
 use super::state::after;
 use super::state::is_run;
 use super::state::is_sample;

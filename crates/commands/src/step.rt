@@ -2,7 +2,7 @@
 ghost use mathlib.Core.Path.{_≡_};
 ghost use Prim.Native.Nat.{_<_};
 ghost use Rattle.tables.specs.Tables.{found, channelAt};
-ghost use Rattle.commands.specs.Step.{noPulse, stops, goesOn, unlessRefused, withOsc, turned, unmoved, movedBy, turnedAt, swappedTo, swappedAt, swappedBetween};
+ghost use Rattle.commands.specs.Step.{noPulse, stops, goesOn, unlessRefused, withOsc, turned, unmoved, movedBy, turnedAt, swappedTo, swappedBetween};
 use super::command::Command;
 use executor::osc::Moved;
 use executor::osc::OscState;

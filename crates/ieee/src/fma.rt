@@ -1,6 +1,6 @@
 // Fused multiply-add: a * b + c with one rounding, in software. The Rust's `f64::mul_add`.
 ghost use mathlib.Core.Path.{_≡_};
-ghost use Prim.Native.Nat.{_+_, _-_, _*_, _%_, _^_, _≤_, _<_};
+ghost use Prim.Native.Nat.{_+_, _-_, _*_, _^_, _<_};
 ghost use lib.Dec.{T};
 ghost use lib.Ieee.{binary64, sum};
 ghost use lib.Ieee.Scale.{finite};

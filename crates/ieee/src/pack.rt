@@ -2,7 +2,6 @@
 ghost use mathlib.Core.Path.{_≡_};
 ghost use Prim.Native.Nat.{ℕ, _+_, _-_, _*_, _/_, _%_, _^_, _≤_, _<_};
 ghost use lib.Ieee.{binary64, units, round};
-ghost use lib.Ieee.Nearest.{closest};
 ghost use Rattle.ieee.specs.Words.{words};
 ghost use Rattle.ieee.specs.Sticky.{Sticky, Whole};
 ghost use Rattle.ieee.specs.Pack.{quarter, Nearest, Normal, Kept, Pattern};

@@ -1,6 +1,5 @@
 // A double that is finite and not zero, as a significand of 63 bits and an exponent over 2^1136.
-ghost use mathlib.Core.Path.{_≡_};
-ghost use Prim.Native.Nat.{_*_, _%_, _^_, _≤_, _<_};
+ghost use Prim.Native.Nat.{_*_, _%_, _^_, _<_};
 ghost use Rattle.ieee.specs.Significand.{Shifted, Significand};
 
 // m * 2^e

@@ -1,6 +1,6 @@
 // Shifts to the right that remember whether anything was lost: the last bit of the answer is set where a bit that was shifted out was.
 ghost use mathlib.Core.Path.{_≡_};
-ghost use Prim.Native.Nat.{_+_, _-_, _*_, _%_, _^_, _≤_, _<_};
+ghost use Prim.Native.Nat.{_+_, _-_, _%_, _<_};
 ghost use Rattle.ieee.specs.Words.{words};
 ghost use Rattle.ieee.specs.Sticky.{Sticky, odd-of};
 use super::wide::Wide;

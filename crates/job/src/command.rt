@@ -1,7 +1,6 @@
 // The seven commands, each with its start and span.
 ghost use mathlib.Core.Path.{_≡_};
 ghost use Rattle.fields.specs.Words.{wordsOf};
-ghost use Rattle.job.specs.Turn.{turnOf};
 ghost use Rattle.job.specs.Command.{commandOf, stepOf, playOf, shiftPhaseBy, setPhaseBy, shiftFreqBy, setFreqBy, swapOf, barrierOf};
 use super::line::Line;
 use super::list::list_line;

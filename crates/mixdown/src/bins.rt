@@ -1,9 +1,7 @@
 // The bins of the lists that take part: where a bin stands in each, and whether it has appeared before.
 ghost use mathlib.Core.Path.{_≡_};
 ghost use Prim.Native.Nat.{_<_, _≤_, _+_, _*_};
-ghost use mathlib.Core.Bool.{_||_};
-ghost use lib.ListN.{length, take, getD};
-ghost use Rattle.pulse.specs.Bin.{placeOf};
+ghost use lib.ListN.{length, take};
 ghost use Rattle.commands.specs.Play.{rowsOf};
 ghost use Rattle.merge.specs.Taking.{partsIn};
 ghost use Rattle.mixdown.specs.Runs.{Within};

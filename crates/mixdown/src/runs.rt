@@ -2,7 +2,7 @@
 // `kmerge_by`, with ties by the lists' order.
 ghost use mathlib.Core.Path.{_≡_};
 ghost use Prim.Native.Nat.{_<_, _≤_};
-ghost use lib.ListN.{length, set};
+ghost use lib.ListN.{length};
 ghost use Rattle.mixdown.specs.Runs.{Within, advanced, better, pickedIn, pulseAt, movedOn};
 use pulse::list::Pulse;
 use quant::complex::Complex;

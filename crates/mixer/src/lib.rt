@@ -1,7 +1,7 @@
 // The mixer's correction of rows: a matrix over I and Q, and an offset for each row. The Rust's `apply_iq_inplace` and `apply_offset_inplace`.
 ghost use mathlib.Core.Path.{_≡_};
 ghost use lib.ListN.{length};
-ghost use Rattle.mixer.specs.Mixer.{mixed, mixedRow, raisedRow, Iq, Offset};
+ghost use Rattle.mixer.specs.Mixer.{mixedRow, raisedRow, Iq, Offset};
 use ieee::fma::mul_add;
 use quant::refusal::Answer;
 use rows::all_finite;

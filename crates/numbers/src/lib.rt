@@ -1,5 +1,4 @@
 // The numbers of a list, from a line's words into a lent buffer.
-ghost use mathlib.Core.Path.{_≡_};
 ghost use Rattle.numbers.specs.Numbers.{Begun, Stored};
 use decimal::digits::place;
 use decimal::number::Number;

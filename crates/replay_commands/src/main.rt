@@ -19,7 +19,6 @@
 //     c BASE DELTA PHASE BINS PULSES
 //     b SHAPE WIDTH PLATEAU GLOBAL LOCAL
 //     r BIN TIME AMP.RE AMP.IM DRAG.RE DRAG.IM
-ghost use mathlib.Core.Path.{_≡_};
 ghost use Prim.Native.Nat.{_<_, _≤_};
 ghost use lib.ListN.{length};
 

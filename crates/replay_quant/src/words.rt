@@ -2,7 +2,7 @@
 ghost use mathlib.Core.Path.{_≡_};
 ghost use Prim.Native.Nat.{_≤_};
 ghost use Rattle.lines.specs.Field.{numberAt};
-ghost use Rattle.replay_quant.specs.Words.{bitsOf, isWord, wordIn, floatIn, readableFrom};
+ghost use Rattle.replay_quant.specs.Words.{isWord, wordIn, floatIn, readableFrom};
 use hex::Word;
 use lines::field::float_of;
 use lines::field::number_at;
