@@ -1,5 +1,6 @@
 //! The command call beside the test copy's: lists of commands by chance, run by the program `replay_commands` and by the Rust. Written as
-//! the program reads and prints them (crates/replay_commands/src/main.rt). Numbers stay finite, and no two pulses start at one time.
+//! the program reads and prints them (crates/command_lines/src/lib.rt, crates/replay_commands/src/main.rt). Numbers stay finite, and no two
+//! pulses start at one time.
 use crate::rng::Rng;
 use std::collections::BTreeMap;
 use std::io::Write;

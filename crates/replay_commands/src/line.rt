@@ -1,30 +1,4 @@
-// One line read: what it adds to the tables, or the command that it is.
-ghost use mathlib.Core.Path.{_≡_};
-ghost use Prim.Native.Nat.{_≤_};
-ghost use Rattle.replay_commands.specs.Line.{oscIn, playIn};
-use super::words::choice;
-use super::words::float;
-use super::words::name;
-use super::words::readable;
-use commands::command::Arranged;
-use commands::command::Command;
-use commands::command::Play;
-use executor::osc::OscState;
-use quant::quantity::Amplitude;
-use quant::quantity::Frequency;
-use quant::quantity::Phase;
-use quant::quantity::Time;
-use quant::refusal::Answer;
-use tables::Tabled;
-use tables::Tables;
-
-// Whether the letter is a command's.
-pub(crate) fn is_command(kind: u8) -> bool {
-    match kind {
-        b'p' | b'h' | b'H' | b'f' | b'F' | b'w' | b'b' => true,
-        _ => false,
-    }
-}
+// The letters of this program: those of `command_lines`, and `X`.
 
 // Whether the letter ends a list.
 pub(crate) fn is_end(kind: u8) -> bool {
@@ -36,109 +10,10 @@ pub(crate) fn is_end(kind: u8) -> bool {
 
 // A line's letter; `?` where the line cannot be read.
 pub(crate) fn kind_of(line: &[u8]) -> u8 {
-    if line.len() < 1 {
-        return b'?';
-    }
-    let kind = line[0];
-    if is_known(kind) {
-        if readable(line, words_of(kind)) {
-            return kind;
+    if line.len() == 1 {
+        if line[0] == b'X' {
+            return b'X';
         }
     }
-    b'?'
-}
-
-fn is_known(kind: u8) -> bool {
-    match kind {
-        b't' | b'c' | b's' => true,
-        _ => is_end(kind) || is_command(kind),
-    }
-}
-
-fn words_of(kind: u8) -> usize
-    ensures { λ r. ⌜ r ≤ 16 ⌝ }
-{
-    match kind {
-        b't' | b's' => 3,
-        b'c' | b'h' | b'H' | b'f' | b'F' => 6,
-        b'p' => 16,
-        b'w' => 8,
-        b'b' => 2,
-        _ => 0,
-    }
-}
-
-// What a line does to the tables.
-pub(crate) fn added(kind: u8, line: &[u8], t: Tables) -> Tabled {
-    match kind {
-        b't' => tables::make(
-            Amplitude(float(line, 0)),
-            Time(float(line, 1)),
-            choice(line, 2),
-        ),
-        b'c' => tables::add_channel(t, name(line, 0), osc_of(line)),
-        b's' => tables::add_shape(t, name(line, 0)),
-        _ => Tabled {
-            answer: Answer::Done(0),
-            tables: t,
-        },
-    }
-}
-
-fn osc_of(line: &[u8]) -> OscState
-    ensures { λ r. ⌜ r ≡ oscIn (now (line .entry)) ⌝ }
-{
-    OscState {
-        base: Frequency(float(line, 3)),
-        delta: Frequency(float(line, 4)),
-        phase: Phase(float(line, 5)),
-    }
-}
-
-pub(crate) fn arranged_of(kind: u8, line: &[u8]) -> Arranged {
-    let command = command_of(kind, line);
-    Arranged {
-        start: Time(float(line, 0)),
-        span: Time(float(line, 1)),
-        command,
-    }
-}
-
-fn command_of(kind: u8, line: &[u8]) -> Command {
-    match kind {
-        b'p' => Command::Play(play_of(line)),
-        b'h' => Command::ShiftPhase(name(line, 2), Phase(float(line, 5))),
-        b'H' => Command::SetPhase(name(line, 2), Phase(float(line, 5))),
-        b'f' => Command::ShiftFreq(name(line, 2), Frequency(float(line, 5))),
-        b'F' => Command::SetFreq(name(line, 2), Frequency(float(line, 5))),
-        b'w' => Command::SwapPhase(name(line, 2), name(line, 5)),
-        _ => Command::Barrier,
-    }
-}
-
-fn play_of(line: &[u8]) -> Play
-    ensures { λ r. ⌜ r ≡ playIn (now (line .entry)) ⌝ }
-{
-    let channel = name(line, 2);
-    let shaped = choice(line, 5);
-    let shape = name(line, 6);
-    let amplitude = Amplitude(float(line, 9));
-    let width = Time(float(line, 10));
-    let plateau = Time(float(line, 11));
-    let drag = float(line, 12);
-    let frequency = Frequency(float(line, 13));
-    let phase = Phase(float(line, 14));
-    let flexible = choice(line, 15);
-    Play {
-        channel,
-        shaped,
-        shape,
-        amplitude,
-        width,
-        plateau,
-        drag,
-        frequency,
-        phase,
-        flexible,
-    }
+    command_lines::line::kind_of(line)
 }

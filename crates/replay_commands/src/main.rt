@@ -1,14 +1,7 @@
 // Runs lists of commands: reads them on standard input and prints what each call comes to. `compare/commands` makes lists, and what the
-// Rust comes to. A line is a letter and words, each 16 lowercase hex digits after one space: the bits of a double, a whole number (a choice
-// is 0 or 1), or a name's three numbers (NAME: first, second, len). A line that cannot be read is answered by `?`.
+// Rust comes to. Lines are those of `command_lines`, and `X`; without `t` a list goes on with the tables that are left. A line that cannot be
+// read is answered by `?`.
 //
-//     t AMP TIME OVERSIZE                          fresh tables, with their tolerances; without it a list goes on with those that are left
-//     c NAME BASE DELTA PHASE                      a channel
-//     s NAME                                       a shape
-//     p START SPAN NAME SHAPED NAME AMPLITUDE WIDTH PLATEAU DRAG FREQUENCY PHASE FLEXIBLE
-//     h START SPAN NAME NUMBER                     ShiftPhase; H SetPhase, f ShiftFreq, F SetFreq
-//     w START SPAN NAME NAME                       SwapPhase
-//     b START SPAN                                 Barrier
 //     x                                            the end of a list: its commands are run as one call
 //     X                                            the same, and no row is lent for the bins
 //
@@ -21,6 +14,7 @@
 //     r BIN TIME AMP.RE AMP.IM DRAG.RE DRAG.IM
 ghost use Prim.Native.Nat.{_<_, _≤_};
 ghost use lib.ListN.{length};
+use command_lines::words::end_of;
 
 mod line;
 mod run;
@@ -55,7 +49,7 @@ fn list_end(text: &[u8], from: usize) -> usize
 {
     let mut at = from;
     while at < text.len() {
-        let next = words::least(words::end_of(text, at) + 1, text.len());
+        let next = words::least(end_of(text, at) + 1, text.len());
         if line::is_end(text[at]) {
             return next;
         }

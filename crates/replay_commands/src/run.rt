@@ -1,12 +1,12 @@
 // One list: its lines read, its commands run as one call.
-use super::line::added;
-use super::line::arranged_of;
-use super::line::is_command;
 use super::line::kind_of;
 use super::show::show;
 use super::show::show_refused;
-use super::words::end_of;
 use super::words::least;
+use command_lines::line::added;
+use command_lines::line::arranged_of;
+use command_lines::line::is_command;
+use command_lines::words::end_of;
 use commands::command::Arranged;
 use owned::Executed;
 use owned::execute_owned;

@@ -1,100 +1,16 @@
-// The words of a line, and the words that are printed.
+// The words that are printed.
 ghost use mathlib.Core.Path.{_≡_};
-ghost use Prim.Native.Nat.{_<_, _≤_, min};
-ghost use lib.ListN.{length};
-ghost use Rattle.replay_commands.specs.Line.{wordIn, floatIn, choiceIn, nameIn};
-use hex::Word;
-use lines::field::float_of;
-use lines::field::number_at;
-use lines::text::line_end;
-use quant::name::Name;
-
-// Word k of a line; 0 where there is none.
-pub(crate) fn word(line: &[u8], k: usize) -> u64
-    requires { ⌜ k ≤ 16 ⌝ }
-    ensures { λ r. ⌜ r ≡ wordIn (now (line .entry)) k ⌝ }
-{
-    match number_at(line, 1 + 17 * k) {
-        Word::Bits(w) => w,
-        Word::Bad => 0,
-    }
-}
-
-pub(crate) fn float(line: &[u8], k: usize) -> f64
-    requires { ⌜ k ≤ 16 ⌝ }
-    ensures { λ r. ⌜ r ≡ floatIn (now (line .entry)) k ⌝ }
-{
-    float_of(word(line, k))
-}
-
-pub(crate) fn choice(line: &[u8], k: usize) -> bool
-    requires { ⌜ k ≤ 16 ⌝ }
-    ensures { λ r. ⌜ r ≡ choiceIn (now (line .entry)) k ⌝ }
-{
-    if word(line, k) == 0 {
-        return false;
-    }
-    true
-}
-
-// The name whose three numbers start at word k.
-pub(crate) fn name(line: &[u8], k: usize) -> Name
-    requires { ⌜ k ≤ 14 ⌝ }
-    ensures { λ r. ⌜ r ≡ nameIn (now (line .entry)) k ⌝ }
-{
-    let first = word(line, k);
-    let second = word(line, k + 1);
-    let len = word(line, k + 2) as usize;
-    Name { first, second, len }
-}
-
-// Whether a line is a letter and so many words.
-pub(crate) fn readable(line: &[u8], count: usize) -> bool
-    requires { ⌜ count ≤ 16 ⌝ }
-{
-    if line.len() != 1 + 17 * count {
-        return false;
-    }
-    let mut left = count;
-    while 0 < left {
-        left -= 1;
-        if !is_word(line, 1 + 17 * left) {
-            return false;
-        }
-    }
-    true
-}
-
-fn is_word(line: &[u8], at: usize) -> bool {
-    match number_at(line, at) {
-        Word::Bits(_) => true,
-        Word::Bad => false,
-    }
-}
+ghost use Prim.Native.Nat.{min};
+use decimal::print::pattern;
 
 pub(crate) fn print_word(w: u64) {
     io::write_all(1, b" ");
     io::print_hex(1, w, 16);
 }
 
-pub(crate) fn print_float(x: f64) {
-    print_word(bits_of(x));
-}
-
 // A NaN's payload is not told.
-fn bits_of(x: f64) -> u64 {
-    if x != x {
-        return 0x7ff8_0000_0000_0000;
-    }
-    f64::to_bits(x)
-}
-
-// Where the line at a place ends, within its text.
-pub(crate) fn end_of(text: &[u8], at: usize) -> usize
-    requires { ⌜ at < length (now text) ⌝ }
-    ensures { λ r. ⌜ (at ≤ r) × (r ≤ length (now (text .entry))) ⌝ }
-{
-    line_end(text, at)
+pub(crate) fn print_float(x: f64) {
+    print_word(pattern(x));
 }
 
 pub(crate) fn least(a: usize, b: usize) -> usize

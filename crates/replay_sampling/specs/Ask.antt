@@ -4,7 +4,7 @@ use mathlib.Core.Bool.{cond}
 use mathlib.Core.List.{List}
 use lib.Dec.{leb}
 use lib.IntN.{ℤ, pos, _-ℤ_}
-use Rattle.replay_sampling.specs.Line.{wordIn, floatIn, nameIn}
+use Rattle.command_lines.specs.Words.{wordIn, floatIn, nameIn}
 use Rattle.replay_sampling.specs.declared.ask.Ask.{Ask}
 
 -- the level that a word stands for; those above 60 stand for none, and are taken for level 0

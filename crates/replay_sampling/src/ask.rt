@@ -1,11 +1,11 @@
 // What a line asks for: a sampling call with its rows, or a part of the crosstalk matrix.
 ghost use mathlib.Core.Path.{_≡_};
 ghost use Rattle.replay_sampling.specs.Ask.{levelOf, askIn};
-use super::words::float;
 use super::words::least;
-use super::words::name;
-use super::words::readable;
-use super::words::word;
+use command_lines::words::float;
+use command_lines::words::name;
+use command_lines::words::readable;
+use command_lines::words::word;
 use crosstalk::names::Crosstalk;
 use quant::name::Name;
 use quant::quantity::Frequency;
@@ -31,7 +31,7 @@ pub(crate) fn kind_of(line: &[u8]) -> u8 {
         b'n' => read_as(b'n', line, 3),
         b'v' => read_as(b'v', line, 1),
         b'm' => read_as(b'm', line, 13),
-        _ => super::line::kind_of(line),
+        _ => command_lines::line::kind_of(line),
     }
 }
 

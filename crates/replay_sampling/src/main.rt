@@ -1,5 +1,5 @@
 // Runs commands and samples a channel: reads jobs on standard input and prints what each comes to. `compare/sampling` makes jobs, and what the
-// Rust comes to. Lines are those of `replay_commands`, and
+// Rust comes to. Lines are those of `command_lines`, and
 //
 //     n NAME                                       a name of the crosstalk matrix
 //     v FACTOR                                     a factor of it, row by row
@@ -15,11 +15,10 @@
 //     q SAMPLE ..
 ghost use Prim.Native.Nat.{_<_, _≤_};
 ghost use lib.ListN.{length};
-use words::end_of;
+use command_lines::words::end_of;
 use words::least;
 
 mod ask;
-mod line;
 mod run;
 mod show;
 mod words;

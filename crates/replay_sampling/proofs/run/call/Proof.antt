@@ -41,17 +41,17 @@ kind-of-requires c κs = search needs
 told-requires : tie.Need-told-requires Inv-loop μ-loop
 told-requires c κs = search needs
 
-sub-tables-after : tie.Need-sub-tables-after Inv-loop μ-loop
-sub-tables-after c = search needs
+sub-added : tie.Need-sub-added Inv-loop μ-loop
+sub-added c = search needs
 
-part-tables-after-start : tie.Need-part-tables-after-start Inv-loop μ-loop
-part-tables-after-start c = search needs
+part-added-start : tie.Need-part-added-start Inv-loop μ-loop
+part-added-start c = search needs
 
-part-tables-after-end : tie.Need-part-tables-after-end Inv-loop μ-loop
-part-tables-after-end c = search needs
+part-added-end : tie.Need-part-added-end Inv-loop μ-loop
+part-added-end c = search needs
 
-tables-after-requires : tie.Need-tables-after-requires Inv-loop μ-loop
-tables-after-requires c κs = search needs
+added-requires : tie.Need-added-requires Inv-loop μ-loop
+added-requires c κs = search needs
 
 least-requires : tie.Need-least-requires Inv-loop μ-loop
 least-requires c κs = search needs
@@ -114,10 +114,10 @@ call-spec =
     part-kind-of-end
     kind-of-requires
     told-requires
-    sub-tables-after
-    part-tables-after-start
-    part-tables-after-end
-    tables-after-requires
+    sub-added
+    part-added-start
+    part-added-end
+    added-requires
     least-requires
     sub-command-after
     part-command-after-start

@@ -1,0 +1,2 @@
+-- The modules of `proofs/` that belong to no one function.
+pub mod Letters
