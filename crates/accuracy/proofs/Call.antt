@@ -12,6 +12,7 @@ use lib.Ieee.{Float, nan, binary64, fits}
 use lib.Ieee.Fits.{mul-fits}
 use lib.Ieee.Scale.{finite}
 use lib.ListN.{length, getD, replicate, length-replicate, getD-replicate}
+use Rattle.exact.specs.Doubles.{nought}
 use Rattle.exact.proofs.Truth.{both}
 use Rattle.quant.specs.declared.complex.Complex.{Complex}
 use Rattle.quant.specs.declared.phaser.Phased.the-variants.{Pair}
@@ -33,7 +34,6 @@ use Rattle.crosstalk.specs.declared.names.Crosstalk.{Crosstalk}
 use Rattle.crosstalk.specs.Crosstalk.{planned}
 use Rattle.mix.specs.Part.{partFits, onPart, firstRow, secondRow}
 use Rattle.mix.specs.Plateau.{carried, real, imaginary}
-use Rattle.mix.specs.Envelope.{nought}
 use Rattle.mix.proofs.Samples.{plateau-before, plateau-behind}
 use Rattle.placing.specs.declared.Flat.{Flat}
 use Rattle.placing.specs.declared.Judged.{Judged}

@@ -8,11 +8,11 @@ use lib.Dec.{T}
 use lib.ListN.{length, getD, replicate, length-replicate}
 use lib.Ieee.{Float, nan, binary64, fits, add, mul}
 use lib.Ieee.Fits.{add-fits, sub-fits}
+use Rattle.exact.specs.Doubles.{nought}
 use Rattle.exact.specs.Signed.{Signed, Apart, times}
 use Rattle.quant.specs.declared.complex.Complex.{Complex}
 use Rattle.quant.specs.Complex.{timesC}
 use Rattle.mix.specs.Plateau.{carried, carrierAfter, real, imaginary}
-use Rattle.mix.specs.Envelope.{nought}
 use Rattle.mix.specs.Part.{onPart, firstRow, secondRow, partFits}
 use Rattle.mix.proofs.Samples.{plateau-on-zeros}
 use Rattle.mix.proofs.Parts.{fits-one, fits-two}

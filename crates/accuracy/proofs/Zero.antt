@@ -7,13 +7,13 @@ use lib.Dec.{T}
 use lib.Pow.{pow-pos}
 use lib.Ieee.{Float, binary64, fits, round, sum, add, ofBits}
 use lib.Ieee.Scale.{finite}
+use Rattle.exact.specs.Doubles.{nought}
 use Rattle.exact.specs.Value.{Units, signOf, unitsOf}
 use Rattle.exact.specs.Signed.{signed}
 use Rattle.exact.proofs.Sum.{sum-like, sum-second, sum-none}
 use Rattle.exact.proofs.Operation.{add-rounds}
 use Rattle.exact.proofs.Value.{own}
 use Rattle.exact.proofs.Few.{Few, few-of, few-value, units-below, value-finite}
-use Rattle.mix.specs.Envelope.{nought}
 use Rattle.accuracy.specs.Exact.{valueOf}
 use Rattle.accuracy.proofs.Product.{value-is}
 

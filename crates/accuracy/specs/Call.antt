@@ -4,6 +4,7 @@ use mathlib.Core.Path.{_≡_}
 use mathlib.Core.List.{List, [], _∷_}
 use lib.Ieee.{Float, nan}
 use lib.ListN.{length, getD, replicate}
+use Rattle.exact.specs.Doubles.{nought}
 use Rattle.quant.specs.declared.aligned.Placed.the-variants.{Start}
 use Rattle.quant.specs.declared.complex.Complex.{Complex}
 use Rattle.quant.specs.declared.settings.Fitting.the-variants.{Fit}
@@ -17,7 +18,6 @@ use Rattle.tables.specs.declared.Tables.{Tables}
 use Rattle.merge.specs.Taking.{partsIn}
 use Rattle.crosstalk.specs.declared.names.Crosstalk.{Crosstalk}
 use Rattle.crosstalk.specs.Crosstalk.{planned}
-use Rattle.mix.specs.Envelope.{nought}
 use Rattle.placing.specs.Phases.{startPair, rotationPair}
 use Rattle.placing.specs.Judged.{placedAt, countOf}
 use Rattle.mixdown.specs.Bins.{binsBy, mergedOf}

@@ -6,7 +6,7 @@ use mathlib.Core.List.{List, [], _∷_}
 use mathlib.Core.Logic.{inl, inr}
 use borrow.Author.Tests.{eq-eqb, ne-eqb}
 use types.Run.{OneOf}
-use Rattle.command_lines.specs.Line.{among}
+use Rattle.exact.specs.Among.{among}
 
 pub one-of : (ks : List ℕ) (kind : ℕ) → OneOf ks kind → among ks kind ≡ true
 unfolding among

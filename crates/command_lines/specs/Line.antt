@@ -1,9 +1,10 @@
 -- What a line says by its letter, in ASCII: b 98, c 99, f 102, F 70, h 104, H 72, p 112, s 115, t 116, w 119, x 120. Definitions only.
 use Prim.Native.Nat.{ℕ}
-use mathlib.Core.Bool.{Bool, false, _&&_, _||_, cond}
+use mathlib.Core.Bool.{Bool, _&&_, _||_, cond}
 use mathlib.Core.List.{List, [], _∷_}
 use lib.Dec.{eqb, ltb}
 use lib.ListN.{getD}
+use Rattle.exact.specs.Among.{among}
 use Rattle.executor.specs.declared.osc.OscState.{OscState}
 use Rattle.tables.specs.declared.Tables.{Tables}
 use Rattle.tables.specs.declared.Tabled.{Tabled}
@@ -13,11 +14,6 @@ use Rattle.commands.specs.declared.command.Command.{Command}
 use Rattle.commands.specs.declared.command.Command.the-variants as C
 use Rattle.commands.specs.declared.command.Arranged.{Arranged}
 use Rattle.command_lines.specs.Words.{floatIn, choiceIn, nameIn, readableAs}
-
--- whether a letter is one of these
-unfoldable pub among : List ℕ → ℕ → Bool
-among [] kind = false
-among (k ∷ ks) kind = eqb kind k || among ks kind
 
 -- F, H, b, f, h, p, w
 unfoldable pub isCommand : ℕ → Bool

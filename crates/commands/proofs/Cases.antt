@@ -9,6 +9,7 @@ use lib.Ieee.{Float, lt}
 use lib.Ieee.Scale.{finite}
 use lib.ListN.{length, take, drop, length-take}
 use borrow.Author.Tests.{leb-true, leb-false}
+use Rattle.exact.specs.Doubles.{nought}
 use Rattle.quant.specs.declared.name.Name.{Name}
 use Rattle.quant.specs.Name.{sameName}
 use Rattle.quant.specs.declared.refusal.Refusal.{Refusal}
@@ -22,7 +23,6 @@ use Rattle.pulse.specs.declared.weight.Weight.{Weight}
 use Rattle.pulse.specs.declared.weight.Weighed.{Weighed}
 use Rattle.pulse.specs.declared.weight.Weighed.the-variants.{Fine, Overflow}
 use Rattle.pulse.specs.Bin.{rowOf, placeOf}
-use Rattle.pulse.specs.Envelope.{nought}
 use Rattle.pulse.specs.Weight.{negligible, weighedOf}
 use Rattle.pulse.proofs.Place.{place-first}
 use Rattle.tables.specs.declared.Tables.{Tables}

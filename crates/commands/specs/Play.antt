@@ -7,6 +7,7 @@ use lib.Dec.{leb}
 use lib.Ieee.{Float, binary64, sub, lt}
 use lib.Ieee.Scale.{finite}
 use lib.ListN.{length, take, drop}
+use Rattle.exact.specs.Doubles.{nought}
 use Rattle.quant.specs.declared.refusal.Refusal.the-variants.{Unfit, Full, UnknownShape, NegativePlateau, UnknownChannel, NotFinite}
 use Rattle.executor.specs.declared.osc.OscState.{OscState}
 use Rattle.executor.specs.Osc.{totalOf}
@@ -17,7 +18,7 @@ use Rattle.pulse.specs.declared.list.Pulse.{Pulse}
 use Rattle.pulse.specs.declared.weight.Weight.{Weight}
 use Rattle.pulse.specs.declared.weight.Weighed.{Weighed}
 use Rattle.pulse.specs.declared.weight.Weighed.the-variants.{Fine, Overflow}
-use Rattle.pulse.specs.Envelope.{nought, envelopeOf}
+use Rattle.pulse.specs.Envelope.{envelopeOf}
 use Rattle.pulse.specs.Bin.{rowOf, placeOf}
 use Rattle.pulse.specs.Weight.{negligible, weighedOf}
 use Rattle.tables.specs.declared.Channel.{Channel}

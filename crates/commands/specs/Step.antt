@@ -5,6 +5,7 @@ use mathlib.Core.Bool.{Bool, true, false, cond}
 use mathlib.Core.List.{List}
 use lib.Ieee.{Float}
 use lib.ListN.{replicate, set}
+use Rattle.exact.specs.Doubles.{nought}
 use Rattle.quant.specs.declared.name.Name.{Name}
 use Rattle.quant.specs.declared.refusal.Refusal.{Refusal}
 use Rattle.quant.specs.declared.refusal.Refusal.the-variants.{Unfit, UnknownChannel, NotFinite}
@@ -14,7 +15,6 @@ use Rattle.executor.specs.declared.osc.Moved.{Moved}
 use Rattle.executor.specs.declared.osc.Swapped.{Swapped}
 use Rattle.executor.specs.Osc.{shiftedPhase, setPhaseTo, shiftedFreq, setFreqTo, swappedPhases}
 use Rattle.pulse.specs.declared.list.Pulse.{Pulse}
-use Rattle.pulse.specs.Envelope.{nought}
 use Rattle.pulse.specs.List.{stored}
 use Rattle.tables.specs.declared.Tables.{Tables}
 use Rattle.tables.specs.declared.Found.{Found}

@@ -7,6 +7,7 @@ use mathlib.Core.Bool.{Bool, true, false, _&&_, not, cond, true≢false}
 use mathlib.Core.List.{List}
 use lib.Ieee.{Float, lt}
 use lib.Ieee.Scale.{finite}
+use Rattle.exact.specs.Doubles.{nought}
 use Rattle.quant.specs.declared.refusal.Refusal.{Refusal}
 use Rattle.quant.specs.declared.refusal.Refusal.the-variants.{Malformed, Full, Oversize, UnknownShape, NegativePlateau, UnknownChannel, NotFinite}
 use Rattle.quant.specs.Name.{sameName}
@@ -19,7 +20,6 @@ use Rattle.pulse.specs.declared.weight.Weight.{Weight}
 use Rattle.pulse.specs.declared.weight.Weighed.{Weighed}
 use Rattle.pulse.specs.declared.weight.Weighed.the-variants.{Fine, Overflow}
 use Rattle.pulse.specs.Bin.{rowOf, placeOf}
-use Rattle.pulse.specs.Envelope.{nought}
 use Rattle.pulse.specs.Weight.{negligible, weighedOf}
 use Rattle.tables.specs.declared.Tables.{Tables}
 use Rattle.tables.specs.declared.Found.{Found}

@@ -8,6 +8,7 @@ use lib.Dec.{leb}
 use lib.Ieee.{Float, binary64, add, lt}
 use lib.Ieee.Scale.{finite}
 use lib.ListN.{length}
+use Rattle.exact.specs.Doubles.{nought}
 use Rattle.quant.specs.declared.name.Name.{Name}
 use Rattle.quant.specs.declared.refusal.Refusal.{Refusal}
 use Rattle.quant.specs.declared.refusal.Refusal.the-variants.{Malformed, Full, Oversize, UnknownShape, NegativePlateau, NotFinite}
@@ -17,7 +18,6 @@ use Rattle.pulse.specs.declared.weight.Weight.{Weight}
 use Rattle.pulse.specs.declared.weight.Weighed.{Weighed}
 use Rattle.pulse.specs.declared.weight.Weighed.the-variants.{Fine, Overflow}
 use Rattle.pulse.specs.Bin.{rowOf, placeOf}
-use Rattle.pulse.specs.Envelope.{nought}
 use Rattle.pulse.specs.Weight.{negligible, weighedOf}
 use Rattle.tables.specs.declared.Channel.{Channel}
 use Rattle.tables.specs.declared.Tables.{Tables}

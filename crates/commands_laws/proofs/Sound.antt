@@ -11,6 +11,7 @@ use lib.Ieee.{Float, isNan, nan, inf, fin}
 use lib.Ieee.Scale.{finite}
 use lib.ListN.{length, getD, set, length-set, length-take, List·getD-map}
 use lib.Seq.{getD-set-same, getD-set-other, map-set-same}
+use Rattle.exact.specs.Doubles.{nought}
 use Rattle.quant.specs.declared.name.Name.{Name}
 use Rattle.quant.specs.declared.refusal.Refusal.the-variants.{Unfit, Malformed, Full, WrongSize}
 use Rattle.quant.specs.Name.{isName}
@@ -25,7 +26,7 @@ use Rattle.tables.specs.declared.Channel.{Channel}
 use Rattle.tables.specs.declared.Tables.{Tables}
 use Rattle.tables.specs.declared.Found.{Found}
 use Rattle.tables.specs.declared.Found.the-variants.{At, Nowhere}
-use Rattle.tables.specs.Tables.{found, isIn, shapesIn, done, refused, noChannel, channelAt, fresh, finiteOsc, withChannels, withChannel, settled, withAdded, withShape, settledShape, withAddedShape, channelsIn, nought, empty, made}
+use Rattle.tables.specs.Tables.{found, isIn, shapesIn, done, refused, noChannel, channelAt, fresh, finiteOsc, withChannels, withChannel, settled, withAdded, withShape, settledShape, withAddedShape, channelsIn, empty, made}
 use Rattle.tables.proofs.Finding.{found-eight, found-under}
 use Rattle.commands.specs.declared.command.Command.{Command}
 use Rattle.commands.specs.declared.command.Arranged.{Arranged}

@@ -9,6 +9,7 @@ use borrow.Author.Tests.{eqb-true}
 use lib.Ieee.{Float, nan, eq, ofBits, ofFields}
 use lib.ListN.{length, take, drop, getD, length-map, length-take, length-drop}
 use lib.Seq.{take-at, getD-take, getD-drop, length-take-le}
+use Rattle.exact.specs.Doubles.{nought, one}
 use Rattle.quant.specs.declared.name.Name.{Name}
 use Rattle.quant.specs.declared.refusal.Refusal.{Refusal}
 use Rattle.quant.specs.Name.{sameName}
@@ -16,12 +17,12 @@ use Rattle.quant.proofs.Naming.{same-exactly}
 use Rattle.tables.specs.declared.Found.{Found}
 use Rattle.tables.specs.declared.Found.the-variants.{At, Nowhere}
 use Rattle.tables.specs.declared.Tables.{Tables}
-use Rattle.tables.specs.Tables.{nought, found}
+use Rattle.tables.specs.Tables.{found}
 use Rattle.tables.proofs.Finding.{found-eight}
 use Rattle.merge.specs.Taking.{Part, part, placeOfPart, factorOfPart, packed, zipped, partsIn}
 use Rattle.crosstalk.specs.declared.names.Crosstalk.{Crosstalk}
 use Rattle.crosstalk.specs.declared.parts.Plan.{Plan}
-use Rattle.crosstalk.specs.Crosstalk.{one, namesIn, crossFits, crossFine, doubledAt, isKnown, allKnown, refusedPlan, acceptedPlan, planned}
+use Rattle.crosstalk.specs.Crosstalk.{namesIn, crossFits, crossFine, doubledAt, isKnown, allKnown, refusedPlan, acceptedPlan, planned}
 use Rattle.crosstalk.specs.Crosstalk.{rowFrom, rowOf, partOf, rowParts, ownParts, rowAt, partsAt, partsFor}
 use Rattle.crosstalk.proofs.Fitting.{fitting, row-below, row-within}
 use Rattle.crosstalk.proofs.Repeats.{nameAt}

@@ -6,11 +6,12 @@ use mathlib.Core.Bool.{true, false}
 use mathlib.Core.List.{List, [], _∷_, _++_, map, append-assoc, append-nil}
 use lib.Ieee.{Float, eq}
 use lib.ListN.{length, drop, set, replicate, length-append, length-map}
+use Rattle.exact.specs.Doubles.{nought}
 use Rattle.quant.specs.declared.name.Name.{Name}
 use Rattle.tables.specs.declared.Found.{Found}
 use Rattle.tables.specs.declared.Found.the-variants.{At, Nowhere}
 use Rattle.tables.specs.declared.Tables.{Tables}
-use Rattle.tables.specs.Tables.{nought, found}
+use Rattle.tables.specs.Tables.{found}
 use Rattle.merge.specs.declared.taking.Taking.{Taking}
 use Rattle.merge.specs.Taking.{Part, part, placeOfPart, factorOfPart, packed}
 use Rattle.crosstalk.specs.Crosstalk.{partOf, rowParts, pushed}

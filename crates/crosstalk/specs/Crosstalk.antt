@@ -4,8 +4,9 @@ use Prim.Native.Nat.{ℕ, suc, _+_, _*_}
 use mathlib.Core.Bool.{Bool, true, false, _&&_, cond}
 use mathlib.Core.List.{List, [], _∷_}
 use lib.Dec.{leb, eqb}
-use lib.Ieee.{Float, binary64, ofBits, eq}
+use lib.Ieee.{Float, eq}
 use lib.ListN.{length, take, drop, set}
+use Rattle.exact.specs.Doubles.{nought, one}
 use Rattle.quant.specs.declared.name.Name.{Name}
 use Rattle.quant.specs.declared.refusal.Answer.the-variants.{Done, Refused}
 use Rattle.quant.specs.declared.refusal.Refusal.{Refusal}
@@ -15,15 +16,11 @@ use Rattle.rows.specs.Rows.{allFinite}
 use Rattle.tables.specs.declared.Found.{Found}
 use Rattle.tables.specs.declared.Found.the-variants.{At, Nowhere}
 use Rattle.tables.specs.declared.Tables.{Tables}
-use Rattle.tables.specs.Tables.{nought, found}
+use Rattle.tables.specs.Tables.{found}
 use Rattle.merge.specs.declared.taking.Taking.{Taking}
 use Rattle.merge.specs.Taking.{Part, part, packed}
 use Rattle.crosstalk.specs.declared.names.Crosstalk.{Crosstalk}
 use Rattle.crosstalk.specs.declared.parts.Plan.{Plan}
-
--- 1.0
-abbrev pub one : Float
-one = ofBits binary64 0x3FF0000000000000
 
 -- the names in reading order
 abbrev pub namesIn : Crosstalk → List Name

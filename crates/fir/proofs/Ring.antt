@@ -14,8 +14,9 @@ use lib.Dec.{leb}
 use lib.ListN.{length, drop, getD, set, replicate, length-set, length-replicate, getD-replicate}
 use lib.Seq.{drop-cons, getD-set-same, getD-set-other}
 use lib.Ieee.{Float, nan, binary64, add, mul}
+use Rattle.exact.specs.Doubles.{nought}
 use Rattle.quant.proofs.Places.{below-or}
-use Rattle.fir.specs.Fir.{plusZero, tapAt, slotOf, put, sumTo, ringSum, filteredFrom, filteredRow}
+use Rattle.fir.specs.Fir.{tapAt, slotOf, put, sumTo, ringSum, filteredFrom, filteredRow}
 use Rattle.fir.proofs.Tap.{tap-back, tap-round}
 
 -- how many samples back the sample of slot j is, where the newest stands in slot s of n
@@ -24,7 +25,7 @@ delay n s j = cond (leb j s) (s - j) (n + s - j)
 
 -- the sample m before sample k
 abbrev pub ago : List Float → ℕ → ℕ → Float
-ago row k m = cond (leb m k) (getD row (k - m) nan) plusZero
+ago row k m = cond (leb m k) (getD row (k - m) nan) nought
 
 -- the product at slot j, after sample k
 abbrev pub product : List Float → List Float → ℕ → ℕ → Float
@@ -34,7 +35,7 @@ product taps row k j =
 
 -- the sum of the first j of these, each added to what is there
 unfoldable pub added : (ℕ → Float) → ℕ → Float
-added p zero = plusZero
+added p zero = nought
 added p (suc j) = add binary64 (p j) (added p j)
 
 -- ---- delays
@@ -53,7 +54,7 @@ delay-within n s j h g = elim (below-or s j) [
 pub ago-in : (row : List Float) (k m : ℕ) → m ≤ k → ago row k m ≡ getD row (k - m) nan
 ago-in row k m h = rw (le-leb m k h)
 
-pub ago-before : (row : List Float) (k m : ℕ) → k < m → ago row k m ≡ plusZero
+pub ago-before : (row : List Float) (k m : ℕ) → k < m → ago row k m ≡ nought
 ago-before row k m h = rw (lt-leb m k h)
 
 -- the sample m before the k-th has the slot j, where n samples make a turn and r samples the turns before it
@@ -98,13 +99,13 @@ untouched j k n h g e = let same : k % n ≡ k = mod-eq-of-lt (omega arith) in o
 
 -- ---- the ring after the first k samples
 unfoldable ringAt : List Float → List Float → ℕ → List Float
-ringAt taps row zero = replicate 256 plusZero
+ringAt taps row zero = replicate 256 nought
 ringAt taps row (suc k) = put taps k (getD row k nan) (ringAt taps row k)
 
 record Holds (taps row : List Float) (k : ℕ) (ring : List Float) : Type 0 where
   room : length ring ≡ 256
   recent : (i : ℕ) → i < k → k ≤ i + length taps → getD ring (slotOf taps i) nan ≡ getD row i nan
-  empty : (j : ℕ) → k ≤ j → j < length taps → getD ring j nan ≡ plusZero
+  empty : (j : ℕ) → k ≤ j → j < length taps → getD ring j nan ≡ nought
 
 module _ (taps row : List Float) (some : 1 ≤ length taps) (few : length taps ≤ 256) where
   slot-within : (k : ℕ) → slotOf taps k < 256
@@ -114,9 +115,9 @@ module _ (taps row : List Float) (some : 1 ≤ length taps) (few : length taps �
   unfolding ringAt
   holds zero =
       record {
-        room = length-replicate 256 plusZero;
+        room = length-replicate 256 nought;
         recent = λ i h g. absurd (not-suc-le-zero h);
-        empty = λ j h g. getD-replicate 256 j plusZero nan (omega arith);
+        empty = λ j h g. getD-replicate 256 j nought nan (omega arith);
       }
   holds (suc k) =
       let before = holds k in

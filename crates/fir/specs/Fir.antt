@@ -6,13 +6,10 @@ use mathlib.Core.List.{List, [], _∷_, _++_, reverse}
 use Prim.Native.Nat.{ℕ, zero, suc, _+_, _-_, _%_, _≤_}
 use lib.Dec.{leb}
 use lib.ListN.{length, take, getD, set, replicate}
-use lib.Ieee.{Float, nan, binary64, add, mul, ofBits}
+use lib.Ieee.{Float, nan, binary64, add, mul}
+use Rattle.exact.specs.Doubles.{nought}
 use Rattle.quant.specs.declared.refusal.Answer.{Answer}
 use Rattle.rows.specs.Rows.{rowsFit, allFinite, answerOf, after}
-
--- 0.0
-abbrev pub plusZero : Float
-plusZero = ofBits binary64 0
 
 -- ---- the taps: the last first, and all of them once more
 unfoldable pub doubled : List Float → List Float
@@ -31,7 +28,7 @@ put taps k x ring = set ring (slotOf taps k) x
 
 -- the sum over the first j slots, slot 0 first: the product is rounded, then the sum
 unfoldable pub sumTo : List Float → List Float → ℕ → ℕ → Float
-sumTo taps ring s zero = plusZero
+sumTo taps ring s zero = nought
 sumTo taps ring s (suc j) = add binary64 (mul binary64 (tapAt taps s j) (getD ring j nan)) (sumTo taps ring s j)
 
 -- over as many slots as there are taps
@@ -45,7 +42,7 @@ filteredFrom taps k ring (x ∷ xs) = ringSum taps (put taps k x ring) (slotOf t
 
 -- a row: the ring is all zero before it
 abbrev pub filteredRow : List Float → List Float → List Float
-filteredRow taps row = filteredFrom taps 0 (replicate 256 plusZero) row
+filteredRow taps row = filteredFrom taps 0 (replicate 256 nought) row
 
 -- the sizes: rows that fit, and 1 to 256 taps
 abbrev pub firFits : ℕ → ℕ → ℕ → ℕ → Bool

@@ -10,8 +10,9 @@ use lib.ListN.{length}
 use lib.Ieee.{Float, binary64, add, sub, mul, ofBits}
 use lib.Ieee.Fits.{and-l, and-r}
 use lib.Ieee.Scale.{finite}
+use Rattle.exact.specs.Doubles.{nought}
 use Rattle.iir.specs.declared.biquad.Biquad.{Biquad}
-use Rattle.iir.specs.Section.{nought, sectionAt, sectionsFrom, sectionsOf, finiteSection, finiteSections, ran}
+use Rattle.iir.specs.Section.{sectionAt, sectionsFrom, sectionsOf, finiteSection, finiteSections, ran}
 use Rattle.iir.specs.Filter.{cascade, pipeline}
 use Rattle.iir.specs.Flight.{through}
 use Rattle.iir.specs.Alike.{Alike, same, AlikeRows, ended, next}

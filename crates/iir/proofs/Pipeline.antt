@@ -7,8 +7,9 @@ use mathlib.Core.List.{List, [], _∷_, _++_}
 use lib.ListN.{length, take, drop, replicate, length-append, length-replicate}
 use lib.Seq.{take-at, drop-at}
 use lib.Ieee.{Float}
+use Rattle.exact.specs.Doubles.{nought}
 use Rattle.iir.specs.declared.biquad.Biquad.{Biquad}
-use Rattle.iir.specs.Section.{nought, ran, sectionAt, sectionsFrom, sectionsOf}
+use Rattle.iir.specs.Section.{ran, sectionAt, sectionsFrom, sectionsOf}
 use Rattle.iir.specs.Filter.{given, cascade, pipelined, turns, pipeline, filtered}
 use Rattle.iir.specs.Flight.{through}
 use Rattle.iir.proofs.Cascade.{passed, in-turn}

@@ -5,8 +5,9 @@ use mathlib.Core.List.{List, [], _∷_, _++_}
 use lib.Dec.{leb, eqb}
 use lib.ListN.{length, drop, replicate}
 use lib.Ieee.{Float}
+use Rattle.exact.specs.Doubles.{nought}
 use Rattle.iir.specs.declared.biquad.Biquad.{Biquad}
-use Rattle.iir.specs.Section.{nought, ran}
+use Rattle.iir.specs.Section.{ran}
 
 -- what the last section gave; with no section, x itself
 unfoldable pub given : Float → List Biquad → Float

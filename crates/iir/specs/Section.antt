@@ -3,13 +3,10 @@ use Prim.Native.Nat.{ℕ, zero, suc, _+_, _*_, _/_}
 use mathlib.Core.Bool.{Bool, true, _&&_}
 use mathlib.Core.List.{List, [], _∷_}
 use lib.ListN.{length, getD}
-use lib.Ieee.{Float, nan, binary64, add, sub, mul, ofBits}
+use lib.Ieee.{Float, nan, binary64, add, sub, mul}
 use lib.Ieee.Scale.{finite}
+use Rattle.exact.specs.Doubles.{nought}
 use Rattle.iir.specs.declared.biquad.Biquad.{Biquad}
-
--- 0.0
-abbrev pub nought : Float
-nought = ofBits binary64 0
 
 -- the section whose six numbers stand at 6k; "state zero per row"
 abbrev pub sectionAt : List Float → ℕ → Biquad

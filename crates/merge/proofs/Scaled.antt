@@ -9,12 +9,12 @@ use lib.Pow.{pow-pos}
 use lib.Ieee.{Float, nan, inf, fin, binary64, round, mul, fits, ofBits}
 use lib.Ieee.Exact.{HasValue}
 use lib.Ieee.Fits.{mul-fits}
+use Rattle.exact.specs.Doubles.{one}
 use Rattle.exact.specs.Value.{Units, unitsOf}
 use Rattle.exact.proofs.Few.{few-of, few-value, units-below}
 use Rattle.exact.proofs.Operation.{mul-rounds}
 use Rattle.exact.proofs.Value.{own, unique}
 use Rattle.exact.proofs.Truth.{like-false}
-use Rattle.quant.specs.Quantity.{one}
 use Rattle.pulse.specs.declared.list.Pulse.{Pulse}
 use Rattle.merge.specs.Sum.{scaledP}
 

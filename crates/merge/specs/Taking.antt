@@ -2,7 +2,8 @@
 use Prim.Native.Nat.{ℕ, _*_, _-_}
 use mathlib.Core.List.{List, [], _∷_, _++_, map}
 use lib.ListN.{length, take, drop, replicate}
-use lib.Ieee.{Float, binary64, ofBits}
+use lib.Ieee.{Float}
+use Rattle.exact.specs.Doubles.{nought}
 use Rattle.pulse.specs.declared.list.Pulse.{Pulse}
 use Rattle.tables.specs.declared.Tables.{Tables}
 use Rattle.tables.specs.Tables.{channelAt}
@@ -29,7 +30,7 @@ packed ps =
     record {
       count = length ps;
       places = map placeOfPart ps ++ replicate (8 - length ps) 0;
-      factors = map factorOfPart ps ++ replicate (8 - length ps) (ofBits binary64 0);
+      factors = map factorOfPart ps ++ replicate (8 - length ps) nought;
     }
 
 -- the records of channel i: 1,024 places a channel, of which the first so many are there

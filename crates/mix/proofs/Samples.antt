@@ -9,10 +9,11 @@ use mathlib.Core.List.{List, [], _∷_, _++_}
 use lib.ListN.{length, getD, take, drop, replicate, getD-replicate, length-drop, length-replicate, List·getD-append}
 use lib.Seq.{getD-take, getD-drop, getD-append-add, length-take-le}
 use lib.Ieee.{Float, nan, binary64, add}
+use Rattle.exact.specs.Doubles.{nought}
 use Rattle.quant.specs.declared.complex.Complex.{Complex}
 use Rattle.quant.specs.Complex.{timesC}
 use Rattle.mix.specs.Plateau.{carried, carrierAfter}
-use Rattle.mix.specs.Envelope.{nought, waveOf, shaped, shapedBy}
+use Rattle.mix.specs.Envelope.{waveOf, shaped, shapedBy}
 use Rattle.mix.specs.Part.{holds, onPart, secondRow}
 
 -- ---- the carrier, and the samples of a part

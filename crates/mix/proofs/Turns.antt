@@ -7,10 +7,11 @@ use mathlib.Core.List.{List, [], _∷_, _++_, append-nil}
 use lib.ListN.{length, getD, take, drop, set, length-set, drop-of-length-le}
 use lib.Seq.{drop-cons, drop-set-lt, getD-drop, take-all, take-suc-set, append-snoc}
 use lib.Ieee.{Float, nan, binary64, add}
+use Rattle.exact.specs.Doubles.{nought}
 use Rattle.quant.specs.declared.complex.Complex.{Complex}
 use Rattle.quant.specs.Complex.{timesC}
 use Rattle.mix.specs.Plateau.{carried}
-use Rattle.mix.specs.Envelope.{nought, waveOf, shaped}
+use Rattle.mix.specs.Envelope.{waveOf, shaped}
 
 -- k samples of the row are laid, and with the rest they make up `all`
 pub record Laid (all row₀ row : List Float) (k : ℕ) (rest : List Float) : Type 0 where

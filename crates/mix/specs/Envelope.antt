@@ -2,17 +2,10 @@
 -- "then carrier *= rotation". Definitions only.
 use mathlib.Core.List.{List, [], _∷_}
 use lib.ListN.{getD}
-use lib.Ieee.{Float, binary64, add, sub, div, ofBits}
+use lib.Ieee.{Float, binary64, add, sub, div}
+use Rattle.exact.specs.Doubles.{nought, two}
 use Rattle.quant.specs.declared.complex.Complex.{Complex}
 use Rattle.quant.specs.Complex.{timesC, plusC, scaledC}
-
--- 0.0
-abbrev pub nought : Float
-nought = ofBits binary64 0
-
--- 2.0
-abbrev pub two : Float
-two = ofBits binary64 0x4000_0000_0000_0000
 
 abbrev pub slopeOf : Float → Float → Float
 slopeOf left right = div binary64 (sub binary64 right left) two

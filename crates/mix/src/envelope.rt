@@ -1,8 +1,9 @@
 // An envelope on two rows: the carrier times the envelope and its slope. The Rust's `mix_add_envelope`.
 ghost use mathlib.Core.Path.{_≡_};
 ghost use lib.ListN.{length, getD};
+ghost use Rattle.exact.specs.Doubles.{nought};
 ghost use Rattle.mix.specs.Plateau.{real, imaginary};
-ghost use Rattle.mix.specs.Envelope.{nought, waveOf, shapedBy};
+ghost use Rattle.mix.specs.Envelope.{waveOf, shapedBy};
 use quant::complex::Complex;
 
 // The carrier's real part goes a sample ahead of its imaginary part. Two parts that are turned at once the compiler keeps in one register, and

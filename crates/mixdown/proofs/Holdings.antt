@@ -10,6 +10,7 @@ use lib.Ieee.{Float, binary64, lt, eq, ofBits, toBits, fits}
 use lib.Ieee.Bits.{ofBits-toBits}
 use lib.ListN.{length, drop}
 use borrow.Author.Tests.{eqb-true}
+use Rattle.exact.specs.Doubles.{nought}
 use Rattle.quant.specs.declared.refusal.Refusal.the-variants.{ShapeTooShort, EndPastRow}
 use Rattle.quant.specs.declared.settings.Settings.{Settings}
 use Rattle.pulse.specs.declared.bin.Bin.{Bin}
@@ -17,7 +18,7 @@ use Rattle.shape.specs.declared.parts.Parts.{Parts}
 use Rattle.shape.specs.declared.parts.Parted.{Parted}
 use Rattle.shape.specs.declared.parts.Parted.the-variants.{Within, Refused}
 use Rattle.shape.specs.declared.envelope.Enveloped.the-variants as enveloped
-use Rattle.shape.specs.Parts.{nought, indexAt, t1, t3, unbroken, broken, ordered, partedOf}
+use Rattle.shape.specs.Parts.{indexAt, t1, t3, unbroken, broken, ordered, partedOf}
 use Rattle.shape.specs.Envelope.{least, Fitting, shapeOf, finitePoints, scratchFilled, envelopedOf, scratchAfter}
 use Rattle.shape.proofs.Filling.{within-fits, fits-more, least-left}
 use Rattle.shape.proofs.Envelopes.{scratch-length, rest-stays}

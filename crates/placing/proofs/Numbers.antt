@@ -6,12 +6,13 @@ use mathlib.Core.Path.{_≡_, refl, sym, ap, _∙_}
 use mathlib.Core.Bool.{true}
 use mathlib.Core.Logic.{_⊎_, inl, inr}
 use lib.Ieee.{Float, lt}
+use Rattle.exact.specs.Doubles.{nought}
 use Rattle.quant.specs.declared.aligned.Placed.the-variants as placed
 use Rattle.quant.specs.declared.refusal.Refusal.{Refusal}
 use Rattle.quant.specs.declared.refusal.Refusal.the-variants.{NotFinite, BeforeRow, StartPastRow, ShapeTooShort, EndPastRow}
 use Rattle.quant.specs.declared.settings.Settings.{Settings}
 use Rattle.shape.specs.declared.envelope.Enveloped.the-variants as enveloped
-use Rattle.shape.specs.Parts.{nought, t1}
+use Rattle.shape.specs.Parts.{t1}
 use Rattle.shape.specs.Envelope.{envelopedOf, least}
 use Rattle.shape.proofs.Envelopes.{eleven, refused-by}
 use Rattle.shape.proofs.Laying.{too-short}

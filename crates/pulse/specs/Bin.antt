@@ -3,16 +3,13 @@
 use Prim.Native.Nat.{ℕ, suc}
 use mathlib.Core.Bool.{Bool, true, false, _&&_, cond}
 use mathlib.Core.List.{List, [], _∷_}
-use lib.Ieee.{Float, binary64, eq, nan, ofBits}
+use lib.Ieee.{Float, eq, nan}
 use lib.ListN.{getD}
+use Rattle.exact.specs.Doubles.{nought, one}
 use Rattle.pulse.specs.declared.bin.Bin.{Bin}
 use Rattle.pulse.specs.declared.envelope.Shape.{Shape}
 use Rattle.pulse.specs.declared.envelope.Shape.the-variants.{Plain, Hann}
-use Rattle.pulse.specs.Envelope.{nought, parts}
-
--- 1.0
-abbrev pub one : Float
-one = ofBits binary64 0x3ff0_0000_0000_0000
+use Rattle.pulse.specs.Envelope.{parts}
 
 -- no shape is 0, Hann 1
 abbrev pub codeOf : Shape → Float

@@ -3,6 +3,7 @@
 use mathlib.Core.Bool.{Bool, _&&_, _||_, cond}
 use lib.Ieee.{Float, eq, le, neg}
 use lib.Ieee.Scale.{finite}
+use Rattle.exact.specs.Doubles.{nought}
 use Rattle.quant.specs.declared.complex.Complex.{Complex}
 use Rattle.quant.specs.declared.phaser.Phased.{Phased}
 use Rattle.quant.specs.declared.phaser.Phased.the-variants.{Pair, NotFinite}
@@ -11,7 +12,6 @@ use Rattle.quant.specs.Phaser.{phasedOf}
 use Rattle.pulse.specs.declared.weight.Weight.{Weight}
 use Rattle.pulse.specs.declared.weight.Weighed.{Weighed}
 use Rattle.pulse.specs.declared.weight.Weighed.the-variants.{Fine, Overflow}
-use Rattle.pulse.specs.Envelope.{nought}
 
 -- equal to 0, or at most the tolerance in size
 abbrev pub negligible : Float → Float → Bool

@@ -3,9 +3,10 @@ use mathlib.Core.Path.{_≡_}
 use mathlib.Core.Bool.{Bool, false, cond}
 use Prim.Native.Nat.{ℕ, _+_, _*_, _^_, _<_}
 use lib.IntN.{ℤ, negℤ}
-use lib.Ieee.{Float, binary64, mul, sub, lt, ofBits}
+use lib.Ieee.{Float, binary64, mul, sub, lt}
 use lib.Ieee.Exact.{HasValue}
 use lib.Ieee.Scale.{finite}
+use Rattle.exact.specs.Doubles.{nought}
 use Rattle.ieee.specs.Ceiling.{ceiling}
 use Rattle.ieee.specs.Cut.{cutOf}
 use Rattle.ieee.specs.Exp2.{exp2Of}
@@ -43,7 +44,7 @@ cutTo a cut.Above = placed.Beyond
 cutTo a cut.NotANumber = placed.NotFinite
 
 abbrev pub startOf : Float → Placed
-startOf a = cond (lt a (ofBits binary64 0)) placed.Before (cutTo a (cutOf a))
+startOf a = cond (lt a nought) placed.Before (cutTo a (cutOf a))
 
 abbrev pub placedOf : Aligned → Placed
 placedOf (aligned.Index a) = startOf a

@@ -1,5 +1,6 @@
 -- Complex numbers as pairs of doubles: "complex products are two products and one sum each". Definitions only.
-use lib.Ieee.{Float, binary64, add, sub, mul, ofBits}
+use lib.Ieee.{Float, binary64, add, sub, mul}
+use Rattle.exact.specs.Doubles.{nought, one}
 use Rattle.quant.specs.declared.complex.Complex.{Complex}
 
 -- the product, its left factor first
@@ -19,4 +20,4 @@ scaledC x k = record { re = mul binary64 (x .re) k; im = mul binary64 (x .im) k 
 
 -- times i, which is (0.0, 1.0)
 abbrev pub turnedC : Complex → Complex
-turnedC x = timesC x (record { re = ofBits binary64 0; im = ofBits binary64 0x3ff0_0000_0000_0000 })
+turnedC x = timesC x (record { re = nought; im = one })

@@ -1,5 +1,4 @@
 pub mod Refusal
-pub mod Quantity
 pub mod Complex
 pub mod Aligned
 pub mod Settings

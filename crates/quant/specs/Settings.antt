@@ -2,20 +2,20 @@
 use mathlib.Core.Bool.{Bool, true, false, _&&_}
 use lib.IntN.{ℤ, pos, negsuc}
 use lib.Signed.{leZ}
-use lib.Ieee.{Float, binary64, div, lt, le, ofBits}
+use lib.Ieee.{Float, binary64, div, lt, le}
 use lib.Ieee.Scale.{finite}
+use Rattle.exact.specs.Doubles.{nought, one}
 use Rattle.quant.specs.declared.quantity.Frequency.{Frequency}
 use Rattle.quant.specs.declared.quantity.Time.{Time}
 use Rattle.quant.specs.declared.settings.Fitting.{Fitting}
 use Rattle.quant.specs.declared.settings.Fitting.the-variants.{Fit, Unfit}
-use Rattle.quant.specs.Quantity.{one}
 
 -- finite and above 0; finite and not below 0, so that -0 is a tolerance; from -20 to 20
 abbrev pub isRate : Float → Bool
-isRate x = finite x && lt (ofBits binary64 0) x
+isRate x = finite x && lt nought x
 
 abbrev pub isTolerance : Float → Bool
-isTolerance x = finite x && le (ofBits binary64 0) x
+isTolerance x = finite x && le nought x
 
 abbrev pub isLevel : ℤ → Bool
 isLevel l = leZ (negsuc 19) l && leZ l (pos 20)

@@ -2,7 +2,7 @@
 ghost use mathlib.Core.Path.{_≡_};
 ghost use lib.Ieee as Ieee;
 ghost use lib.Ieee.{binary64};
-ghost use Rattle.quant.specs.Quantity.{one};
+ghost use Rattle.exact.specs.Doubles.{one};
 
 // Seconds.
 #[repr(C)]

@@ -9,8 +9,8 @@ use mathlib.Core.List.{List}
 use lib.Ieee.{Float, binary64, div}
 use lib.Ieee.Scale.{finite}
 use lib.ListN.{length}
+use Rattle.exact.specs.Doubles.{one}
 use Rattle.exact.proofs.Truth.{both}
-use Rattle.quant.specs.Quantity.{one}
 use Rattle.quant.specs.Settings.{isRate, isLevel, fitting}
 use Rattle.pulse.specs.declared.list.Pulse.{Pulse}
 use Rattle.tables.specs.declared.Tables.{Tables}

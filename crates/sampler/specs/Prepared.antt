@@ -4,13 +4,13 @@ use Prim.Native.Nat.{ℕ}
 use mathlib.Core.Bool.{Bool, true, false, cond}
 use mathlib.Core.List.{List, []}
 use lib.Ieee.{Float, binary64, div}
+use Rattle.exact.specs.Doubles.{one}
 use Rattle.quant.specs.declared.refusal.Answer.the-variants.{Refused}
 use Rattle.quant.specs.declared.refusal.Refusal.{Refusal}
 use Rattle.quant.specs.declared.refusal.Refusal.the-variants as why
 use Rattle.quant.specs.declared.settings.Fitting.{Fitting}
 use Rattle.quant.specs.declared.settings.Fitting.the-variants.{Fit, Unfit}
 use Rattle.quant.specs.declared.settings.Settings.{Settings}
-use Rattle.quant.specs.Quantity.{one}
 use Rattle.quant.specs.Settings.{fittingOf}
 use Rattle.pulse.specs.declared.list.Pulse.{Pulse}
 use Rattle.tables.specs.declared.Tables.{Tables}

@@ -8,8 +8,8 @@ use mathlib.Core.List.{List, [], _∷_, map}
 use lib.Dec.{ltb, eqb}
 use lib.Ieee.{Float, le}
 use borrow.Author.Tests.{ltb-true, eqb-true, eqb-false, ne-eqb}
+use Rattle.exact.specs.Doubles.{one}
 use Rattle.exact.proofs.Truth.{both}
-use Rattle.quant.specs.Quantity.{one}
 use Rattle.pulse.specs.declared.list.Pulse.{Pulse}
 use Rattle.pulse.specs.List.{staysBefore}
 use Rattle.pulse.specs.Sorted.{sorted}

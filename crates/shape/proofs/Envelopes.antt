@@ -10,15 +10,16 @@ use lib.ListN.{length, take, drop, length-drop, getD, replicate, length-append, 
 use lib.Seq.{take-at, drop-at}
 use lib.Dec.{ltb}
 use lib.Ieee.{Float, nan, lt, eq}
+use Rattle.exact.specs.Doubles.{nought, one}
 use Rattle.quant.specs.declared.refusal.Refusal.{Refusal}
 use Rattle.quant.specs.declared.refusal.Refusal.the-variants.{ShapeTooShort, EndPastRow, NotFinite}
 use Rattle.shape.specs.declared.parts.Parts.{Parts}
 use Rattle.shape.specs.declared.parts.Parted.{Parted}
 use Rattle.shape.specs.declared.parts.Parted.the-variants as parted
 use Rattle.shape.specs.declared.envelope.Enveloped.the-variants.{Points, Refused}
-use Rattle.shape.specs.Hann.{one, hannOf}
+use Rattle.shape.specs.Hann.{hannOf}
 use Rattle.shape.specs.Segment.{pointAt, values}
-use Rattle.shape.specs.Parts.{nought, indexAt, t1, t3, unbroken, broken, inOrder, partedOf}
+use Rattle.shape.specs.Parts.{indexAt, t1, t3, unbroken, broken, inOrder, partedOf}
 use Rattle.shape.specs.Envelope.{shapeOf, finitePoints, filledOf, envelopedOf, scratchAfter, Fitting}
 use Rattle.shape.proofs.Filling.{values-length, within-fits}
 

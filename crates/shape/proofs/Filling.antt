@@ -11,14 +11,14 @@ use lib.Seq.{take-at, drop-at, drop-drop}
 use lib.Ieee.{Float, lt, eq}
 use borrow.Author.Tests.{leb-true, leb-false, le-leb, ltb-false}
 use borrow.Rule.Slice.PartMut.{midOf, putMid, post-is, mid-len}
+use Rattle.exact.specs.Doubles.{nought, one}
 use Rattle.exact.proofs.Truth.{both}
 use Rattle.quant.specs.declared.refusal.Refusal.the-variants.{ShapeTooShort, EndPastRow, NotFinite}
 use Rattle.shape.specs.declared.parts.Parts.{Parts}
 use Rattle.shape.specs.declared.parts.Parted.the-variants as parted
 use Rattle.shape.specs.declared.envelope.Enveloped.the-variants.{Points, Refused}
-use Rattle.shape.specs.Hann.{one}
 use Rattle.shape.specs.Segment.{values}
-use Rattle.shape.specs.Parts.{nought, indexAt, t1, t3, unbroken, broken, inOrder, partedOf}
+use Rattle.shape.specs.Parts.{indexAt, t1, t3, unbroken, broken, inOrder, partedOf}
 use Rattle.shape.specs.Envelope.{least, limitOf, shapeOf, finitePoints, filledOf, scratchFilled, Fitting}
 
 -- ys are put into the place from a to e of a scratch that holds `front` and then what it held from a on

@@ -4,9 +4,10 @@ use mathlib.Core.Path.{_≡_}
 use mathlib.Core.Bool.{true, false}
 use lib.Dec.{ltb}
 use lib.Ieee.{Float, lt, eq}
+use Rattle.exact.specs.Doubles.{nought}
 use Rattle.quant.specs.declared.refusal.Refusal.the-variants.{ShapeTooShort, EndPastRow}
 use Rattle.shape.specs.declared.parts.Parted.the-variants.{Within, Refused}
-use Rattle.shape.specs.Parts.{nought, indexAt, t1, t2, t3, x0, dx, x2, unbroken, broken, inOrder, ordered, partedOf}
+use Rattle.shape.specs.Parts.{indexAt, t1, t2, t3, x0, dx, x2, unbroken, broken, inOrder, ordered, partedOf}
 
 module _ (w p o rate dt : Float) (room : ℕ) where
   pub too-short : lt (t1 w p o rate dt) nought ≡ true → Refused ShapeTooShort ≡ partedOf w p o rate dt room

@@ -7,7 +7,8 @@ use mathlib.Core.List.{List, _∷_, _++_, append-nil}
 use lib.ListN.{length, take, set, replicate, length-set}
 use lib.Seq.{take-suc-set, append-snoc, take-all}
 use lib.Ieee.{Float}
-use Rattle.shape.specs.Hann.{one, hannOf}
+use Rattle.exact.specs.Doubles.{one}
+use Rattle.shape.specs.Hann.{hannOf}
 use Rattle.shape.specs.Segment.{pointAt, values}
 
 left-suc : (i n : ℕ) → i < n → n - i ≡ suc (n - (i + 1))

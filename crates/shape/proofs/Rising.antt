@@ -15,6 +15,7 @@ use lib.Ieee.Nearest.{div-mono}
 use lib.Ieee.Order.{round-mono}
 use lib.Ieee.Scale.{finite, grid, round-same}
 use borrow.Author.Tests.{lt-ltb, le-ltb, le-leb}
+use Rattle.exact.specs.Doubles.{nought, two}
 use Rattle.exact.specs.Value.{Units}
 use Rattle.exact.proofs.Order.{compared, Stands}
 use Rattle.exact.proofs.Sum.{sum-like, sum-first, sum-second, sum-none}
@@ -29,8 +30,7 @@ use Rattle.ieee.specs.Cut as Cut
 use Rattle.ieee.proofs.Ceiling.{value}
 use Rattle.ieee.proofs.Comparing.{fractions-of-le}
 use Rattle.ieee.proofs.Cutting.{cut-value, index-within, index-above}
-use Rattle.shape.specs.Parts.{indexOf, indexAt, nought, t1, t2, t3, inOrder}
-use Rattle.shape.specs.Hann.{two}
+use Rattle.shape.specs.Parts.{indexOf, indexAt, t1, t2, t3, inOrder}
 use Rattle.shape.proofs.Between.{smaller-finite, round-either}
 
 abbrev Q : ℕ

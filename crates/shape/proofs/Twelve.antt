@@ -6,11 +6,12 @@ use mathlib.Core.Bool.{Bool, true, false, cond, true≢false}
 use lib.Dec.{T, ltb}
 use lib.Ieee.{Float, binary64, mul, lt, eq, fits}
 use borrow.Author.Tests.{ltb-false}
+use Rattle.exact.specs.Doubles.{nought}
 use Rattle.exact.specs.Value.{Units}
 use Rattle.quant.specs.declared.refusal.Refusal.the-variants.{ShapeTooShort, EndPastRow}
 use Rattle.shape.specs.declared.parts.Parts.{Parts}
 use Rattle.shape.specs.declared.parts.Parted.the-variants.{Within, Refused}
-use Rattle.shape.specs.Parts.{nought, indexAt, t1, t2, t3, unbroken, broken, inOrder, partedOf}
+use Rattle.shape.specs.Parts.{indexAt, t1, t2, t3, unbroken, broken, inOrder, partedOf}
 use Rattle.shape.proofs.Rising.{last, in-order}
 
 -- Of a width and a plateau that are not negative, a rate above 0 and a finite offset.

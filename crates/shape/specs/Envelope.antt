@@ -6,6 +6,7 @@ use mathlib.Core.List.{List, _++_}
 use lib.Dec.{leb}
 use lib.ListN.{drop, replicate}
 use lib.Ieee.{Float}
+use Rattle.exact.specs.Doubles.{one}
 use Rattle.quant.specs.declared.refusal.Refusal.the-variants.{NotFinite}
 use Rattle.rows.specs.Rows.{allFinite}
 use Rattle.shape.specs.declared.parts.Parts.{Parts}
@@ -13,7 +14,6 @@ use Rattle.shape.specs.declared.parts.Parted.{Parted}
 use Rattle.shape.specs.declared.parts.Parted.the-variants as parted
 use Rattle.shape.specs.declared.envelope.Enveloped.{Enveloped}
 use Rattle.shape.specs.declared.envelope.Enveloped.the-variants.{Points, Refused}
-use Rattle.shape.specs.Hann.{one}
 use Rattle.shape.specs.Segment.{points, values}
 
 -- the smaller of two

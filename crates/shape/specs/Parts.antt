@@ -4,7 +4,8 @@
 use Prim.Native.Nat.{ℕ}
 use mathlib.Core.Bool.{Bool, _&&_, cond}
 use lib.Dec.{leb, ltb}
-use lib.Ieee.{Float, binary64, add, sub, mul, div, neg, lt, eq, ofBits}
+use lib.Ieee.{Float, binary64, add, sub, mul, div, neg, lt, eq}
+use Rattle.exact.specs.Doubles.{nought, two}
 use Rattle.ieee.specs.Ceiling.{ceiling}
 use Rattle.ieee.specs.Cut.{cutOf}
 use Rattle.ieee.specs.Fused.{fma}
@@ -14,12 +15,7 @@ use Rattle.quant.specs.declared.refusal.Refusal.the-variants.{ShapeTooShort, En
 use Rattle.shape.specs.declared.parts.Parts.{Parts}
 use Rattle.shape.specs.declared.parts.Parted.{Parted}
 use Rattle.shape.specs.declared.parts.Parted.the-variants.{Within, Refused}
-use Rattle.shape.specs.Hann.{two}
 use Rattle.shape.specs.Segment.{number}
-
--- 0.0
-abbrev pub nought : Float
-nought = ofBits binary64 0
 
 -- an index of what a number is cut to: the Rust's cast stops at 0 and at 2^64 - 1, and takes a NaN to 0
 abbrev pub indexOf : Cut → ℕ

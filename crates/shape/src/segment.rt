@@ -2,8 +2,8 @@
 ghost use mathlib.Core.Path.{_≡_};
 ghost use Prim.Native.Nat.{_≤_};
 ghost use lib.ListN.{length, replicate};
+ghost use Rattle.exact.specs.Doubles.{one};
 ghost use Rattle.rows.specs.Rows.{allFinite};
-ghost use Rattle.shape.specs.Hann.{one};
 ghost use Rattle.shape.specs.Segment.{pointAt, points, values};
 use super::hann::hann;
 use ieee::finite::is_finite;

@@ -5,8 +5,9 @@ use mathlib.Core.Path.{_≡_}
 use mathlib.Core.Bool.{cond}
 use mathlib.Core.List.{List, [], _∷_, _++_}
 use lib.Dec.{ltb}
-use lib.Ieee.{Float, binary64, ofBits}
+use lib.Ieee.{Float}
 use lib.ListN.{length, drop, replicate}
+use Rattle.exact.specs.Doubles.{nought}
 use Rattle.quant.specs.Refusal.{numberOf}
 use Rattle.quant.specs.declared.refusal.Refusal.{Refusal}
 use Rattle.sheet.specs.Sheet.{Outcome, accepts, refuses, outcome, namesOf, matrixOf, sheetOf, sheetText}
@@ -38,7 +39,7 @@ refusedText r line = refusedKey ++ decimal (numberOf r) ++ lineKey ++ decimal li
 
 -- a matrix of 64 numbers, all 0, to be lent to the reader
 unfoldable pub zeros : List Float
-zeros = replicate 64 (ofBits binary64 0)
+zeros = replicate 64 nought
 
 -- the sheet's text with its rows in column order, of what the reader answers and leaves; or why it is refused
 unfoldable pub textFor : Outcome → List ℕ

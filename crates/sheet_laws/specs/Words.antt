@@ -4,8 +4,9 @@ use mathlib.Core.Bool.{true}
 use mathlib.Core.Path.{_≡_}
 use mathlib.Core.Logic.{_↔_}
 use mathlib.Core.List.{List, [], _∷_, _++_}
-use lib.Ieee.{Float, binary64, ofBits}
+use lib.Ieee.{Float}
 use lib.ListN.{length, take, drop, getD}
+use Rattle.exact.specs.Doubles.{nought}
 use Rattle.quant.specs.declared.name.Name.{Name}
 use Rattle.quant.specs.declared.refusal.Answer.{Answer}
 use Rattle.quant.specs.declared.refusal.Answer.the-variants.{Done, Refused}
@@ -86,7 +87,7 @@ countIn (Refused r place) = 0
 
 -- what a caller finds who looks both names up among the names that came back: the row's place times the count, plus the column's place
 unfoldable pub factorFor : Answer → List Name → List Float → Name → Name → Float
-factorFor answer names matrix r c = getD matrix (position r names * countIn answer + position c names) (ofBits binary64 0)
+factorFor answer names matrix r c = getD matrix (position r names * countIn answer + position c names) nought
 
 -- what `read` answers and leaves for a text and a lent matrix, looked up so
 unfoldable pub factorRead : List ℕ → List Float → Name → Name → Float

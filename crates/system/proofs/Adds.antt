@@ -6,6 +6,8 @@ use mathlib.Core.Bool.{Bool, true, false, _&&_, cond}
 use lib.Dec.{ltb}
 use lib.Ieee.{Float}
 use lib.ListN.{set}
+use Rattle.exact.specs.Doubles.{nought}
+use Rattle.exact.specs.Among.{among}
 use Rattle.quant.specs.declared.name.Name.{Name}
 use Rattle.quant.specs.declared.refusal.Refusal.the-variants.{Unfit, Malformed, Full}
 use Rattle.quant.specs.Name.{isName}
@@ -15,9 +17,9 @@ use Rattle.tables.specs.declared.Channel.{Channel}
 use Rattle.tables.specs.declared.Tabled.{Tabled}
 use Rattle.tables.specs.declared.Found.{Found}
 use Rattle.tables.specs.declared.Found.the-variants.{At, Nowhere}
-use Rattle.tables.specs.Tables.{found, isIn, shapesIn, nought, empty, done, refused, fresh, made, finiteOsc, withChannels, settled, withAdded, withShape, settledShape, withAddedShape}
+use Rattle.tables.specs.Tables.{found, isIn, shapesIn, empty, done, refused, fresh, made, finiteOsc, withChannels, settled, withAdded, withShape, settledShape, withAddedShape}
 use Rattle.system.specs.System.{State, tabled}
-use Rattle.system.specs.Said.{among, MakeSaid, AddSaid}
+use Rattle.system.specs.Said.{MakeSaid, AddSaid}
 
 module _ (s : State) where
   pub make-said : (amp time : Float) (oversize : Bool) → let o = tabled s (made amp time oversize) in MakeSaid s (o .answer) (o .after)

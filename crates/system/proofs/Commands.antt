@@ -9,6 +9,7 @@ use borrow.Author.Tests.{leb-true, eqb-true}
 use lib.Dec.{leb, eqb}
 use lib.Ieee.{Float}
 use lib.ListN.{length, take, drop, take-append-drop}
+use Rattle.exact.specs.Among.{among}
 use Rattle.quant.specs.declared.refusal.Answer.{Answer}
 use Rattle.quant.specs.declared.refusal.Answer.the-variants.{Done, Refused}
 use Rattle.quant.specs.declared.refusal.Refusal.{Refusal}
@@ -23,7 +24,7 @@ use Rattle.commands.specs.Run.{Ran, ranTo, refusedAt, stepOf, ran, sizesFit, ex
 use Rattle.commands_laws.specs.Words.{further, secondCall}
 use Rattle.commands_laws.proofs.Calls.{asDone, in-two-calls, refused-call}
 use Rattle.system.specs.System.{State, told, withStored, hasRun, outcome}
-use Rattle.system.specs.Said.{among, commandNumbers, CommandsRemain, before-any, at-one, CommandsSaid}
+use Rattle.system.specs.Said.{commandNumbers, CommandsRemain, before-any, at-one, CommandsSaid}
 use Rattle.system.proofs.Numbers.{step-number}
 
 -- how a run ends, of which k commands have run before: all are run, or it is refused behind fewer

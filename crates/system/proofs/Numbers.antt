@@ -5,6 +5,8 @@ use mathlib.Core.Bool.{Bool, true, false, _&&_, not, cond, true≢false}
 use mathlib.Core.List.{List}
 use lib.Ieee.{Float, lt}
 use lib.Ieee.Scale.{finite}
+use Rattle.exact.specs.Doubles.{nought}
+use Rattle.exact.specs.Among.{among}
 use Rattle.quant.specs.declared.name.Name.{Name}
 use Rattle.quant.specs.declared.refusal.Refusal.the-variants.{Malformed, Full, Oversize, UnknownShape, NegativePlateau, NotFinite}
 use Rattle.quant.specs.Name.{sameName}
@@ -15,7 +17,6 @@ use Rattle.executor.specs.Osc.{swappedPhases}
 use Rattle.pulse.specs.declared.weight.Weighed.{Weighed}
 use Rattle.pulse.specs.declared.weight.Weighed.the-variants.{Fine, Overflow}
 use Rattle.pulse.specs.Bin.{rowOf, placeOf}
-use Rattle.pulse.specs.Envelope.{nought}
 use Rattle.pulse.specs.Weight.{negligible, weighedOf}
 use Rattle.tables.specs.declared.Tables.{Tables}
 use Rattle.tables.specs.declared.Found.{Found}
@@ -30,7 +31,7 @@ use Rattle.commands.specs.Command.{wellFormed, tooLong}
 use Rattle.commands.specs.Step.{stops, goesOn, withOsc, turned, movedBy, turnedAt, swappedTo, swappedAt, swappedBetween}
 use Rattle.commands.specs.Play.{rowsOf, isNew, isFull, stores, storedWith, plateauOf, binFor, playedAt, played}
 use Rattle.commands.specs.Run.{acted, stepOf}
-use Rattle.system.specs.Said.{among, commandNumbers}
+use Rattle.system.specs.Said.{commandNumbers}
 
 -- a step that stops has one of the numbers
 abbrev Numbered : Step → Type 0

@@ -10,13 +10,14 @@ use lib.Dec.{eqb}
 use lib.Ieee.{Float, binary64, div}
 use lib.Ieee.Scale.{finite}
 use lib.ListN.{length, take}
+use Rattle.exact.specs.Doubles.{one}
+use Rattle.exact.specs.Among.{among}
 use Rattle.quant.specs.declared.refusal.Answer.{Answer}
 use Rattle.quant.specs.declared.refusal.Answer.the-variants.{Done, Refused}
 use Rattle.quant.specs.declared.refusal.Refusal.the-variants as why
 use Rattle.quant.specs.declared.settings.Fitting.{Fitting}
 use Rattle.quant.specs.declared.settings.Fitting.the-variants.{Fit, Unfit}
 use Rattle.quant.specs.declared.settings.Settings.{Settings}
-use Rattle.quant.specs.Quantity.{one}
 use Rattle.quant.specs.Settings.{isRate, isLevel, fitting, fittingOf}
 use Rattle.tables.specs.Tables.{found}
 use Rattle.merge.specs.Taking.{packed}
@@ -34,7 +35,7 @@ use Rattle.sampler_laws.specs.Added.{withAll, countIn}
 use Rattle.sampler_laws.proofs.Added.{First}
 use Rattle.sampler_laws.proofs.Calls.{rows-added}
 use Rattle.system.specs.System.{State, withLent, hasSampled}
-use Rattle.system.specs.Said.{among, partsOf, pulsesOf, withPulses, verdict, before-any, doubled, at-one, SampleSaid}
+use Rattle.system.specs.Said.{partsOf, pulsesOf, withPulses, verdict, before-any, doubled, at-one, SampleSaid}
 use Rattle.system.proofs.Verdict.{fewer, bins-verdict}
 
 -- settings that fit are those of the request

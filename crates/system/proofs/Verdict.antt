@@ -8,6 +8,7 @@ use mathlib.Core.List.{List, [], _∷_, _++_}
 use mathlib.Core.Logic.{_⊎_, inl, inr}
 use lib.Ieee.{Float}
 use lib.ListN.{length}
+use Rattle.exact.specs.Among.{among}
 use Rattle.quant.specs.declared.refusal.Answer.{Answer}
 use Rattle.quant.specs.declared.refusal.Answer.the-variants.{Done, Refused}
 use Rattle.quant.specs.declared.refusal.Refusal.{Refusal}
@@ -26,7 +27,7 @@ use Rattle.placing.proofs.Ways.{Way, no-index, before, beyond, past, unshaped, 
 use Rattle.mixdown.specs.Sampled.{Rowed, Out, out, addedTo, unlessRefused, ranPulses, andThen, ranBins}
 use Rattle.mixdown.proofs.Lengths.{i-length}
 use Rattle.sampler_laws.specs.Added.{Due, duesOf, allDues}
-use Rattle.system.specs.Said.{among, pulseNumbers, unless, verdict}
+use Rattle.system.specs.Said.{pulseNumbers, unless, verdict}
 
 -- ---- the numbers of a pulse
 

@@ -3,17 +3,18 @@
 -- the same call remain." Definitions only.
 use Prim.Native.Nat.{ℕ, suc, _<_}
 use mathlib.Core.Path.{_≡_}
-use mathlib.Core.Bool.{Bool, true, false, _||_}
+use mathlib.Core.Bool.{true, false}
 use mathlib.Core.List.{List, [], _∷_}
-use lib.Dec.{eqb}
 use lib.Ieee.{Float}
 use lib.ListN.{length, take, drop}
+use Rattle.exact.specs.Doubles.{nought}
+use Rattle.exact.specs.Among.{among}
 use Rattle.quant.specs.declared.refusal.Answer.{Answer}
 use Rattle.quant.specs.declared.refusal.Answer.the-variants.{Done, Refused}
 use Rattle.quant.specs.declared.refusal.Refusal.{Refusal}
 use Rattle.quant.specs.declared.settings.Settings.{Settings}
 use Rattle.quant.specs.Refusal.{numberOf}
-use Rattle.tables.specs.Tables.{nought, empty}
+use Rattle.tables.specs.Tables.{empty}
 use Rattle.commands.specs.declared.command.Arranged.{Arranged}
 use Rattle.commands.specs.Run.{sizesFit}
 use Rattle.commands_laws.specs.Sound.{Sound}
@@ -29,11 +30,6 @@ use Rattle.sampler.specs.declared.Request.{Request}
 use Rattle.sampler.specs.Prepared.{settingsOf}
 use Rattle.sampler_laws.specs.Added.{Due, allDues, withAll}
 use Rattle.system.specs.System.{State, Call, make, add-channel, add-shape, execute, sample, iq, offset, iir, fir, Event, calls, lends, Outcome, told, withTables, withLent, Promised, outcome}
-
--- whether a number is one of some
-unfoldable pub among : List ℕ → ℕ → Bool
-among [] n = false
-among (m ∷ ms) n = eqb n m || among ms n
 
 -- "Order for a command: 2, 4, 5, 6, 7, 8, 3"
 abbrev pub commandNumbers : List ℕ

@@ -4,9 +4,10 @@ use Prim.Native.Nat.{ℕ, suc, _+_}
 use mathlib.Core.Bool.{Bool, true, false, _&&_, _||_, cond}
 use mathlib.Core.List.{List, [], _∷_}
 use lib.Dec.{ltb}
-use lib.Ieee.{Float, binary64, nan, ofBits}
+use lib.Ieee.{Float, nan}
 use lib.Ieee.Scale.{finite}
 use lib.ListN.{take, getD, set, replicate}
+use Rattle.exact.specs.Doubles.{nought}
 use Rattle.quant.specs.declared.name.Name.{Name}
 use Rattle.quant.specs.declared.refusal.Answer.the-variants.{Done, Refused}
 use Rattle.quant.specs.declared.refusal.Refusal.{Refusal}
@@ -21,10 +22,6 @@ use Rattle.tables.specs.declared.Found.{Found}
 use Rattle.tables.specs.declared.Found.the-variants.{At, Nowhere}
 use Rattle.tables.specs.declared.Told.{Told}
 use Rattle.tables.specs.declared.Told.the-variants.{Of, Unknown}
-
--- 0.0
-abbrev pub nought : Float
-nought = ofBits binary64 0
 
 -- ---- what stands in the tables
 

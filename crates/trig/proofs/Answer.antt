@@ -10,13 +10,14 @@ use native.Mathlib.Omega.{arith}
 use lib.Dec.{T, ltb, lit≤}
 use lib.Pow.{pow-pos}
 use lib.Ieee.{Float, binary64, ofBits, unlike, mul}
+use Rattle.exact.specs.Doubles.{one}
 use Rattle.exact.specs.Value.{Units, unitsOf}
 use Rattle.exact.specs.Near.{Off}
 use Rattle.exact.specs.Signed.{Signed, Same, Apart, signed, times, lessS}
 use Rattle.exact.proofs.Signed.{apart-via, apart-times, apart-cancel, apart-more}
 use Rattle.exact.proofs.Bounded.{mul-off, sub-apart}
 use Rattle.trig.specs.Reduce.{PI}
-use Rattle.trig.specs.Trig.{horner, one}
+use Rattle.trig.specs.Trig.{horner}
 use Rattle.trig.proofs.Series.{ratio, ratios, folded, tail, tail-first}
 use Rattle.trig.proofs.Partial.{fact, fact-next, facing}
 use Rattle.trig.proofs.Step.{product}

@@ -13,12 +13,13 @@ use lib.Dec.{T, lit≤}
 use lib.Pow.{pow-pos}
 use lib.Ieee.{Float, nan, binary64, ofBits, fits, size, mul}
 use lib.Ieee.Scale.{finite}
+use Rattle.exact.specs.Doubles.{one}
 use Rattle.exact.specs.Value.{Units, signOf, unitsOf}
 use Rattle.exact.specs.Signed.{Signed, Same, Apart, signed, times}
 use Rattle.exact.proofs.Value.{own, units-are, sign-is}
 use Rattle.exact.proofs.Few.{value-finite}
 use Rattle.trig.specs.Reduce.{PI, reduced}
-use Rattle.trig.specs.Trig.{horner, one, evens, odds, cosineAt, sineAt, cosineOf, sineOf}
+use Rattle.trig.specs.Trig.{horner, evens, odds, cosineAt, sineAt, cosineOf, sineOf}
 use Rattle.trig.specs.Series.{factorial, odd, Fraction, partial, cosineSum, sineSum, within}
 use Rattle.trig.proofs.Multiple.{reduces}
 use Rattle.trig.proofs.Series.{ratios, ratios-some, folded}

@@ -11,10 +11,11 @@ use lib.Ieee.{Float, nan, inf, fin, binary64, ofBits, sub, mul, fits}
 use lib.Ieee.Fits.{sub-fits, mul-fits}
 use lib.Ieee.Bits.{ofBits-fits}
 use lib.Ieee.Scale.{finite}
+use Rattle.exact.specs.Doubles.{one}
 use Rattle.exact.specs.Value.{signOf, unitsOf}
 use Rattle.exact.proofs.Value.{own, unique}
 use Rattle.trig.specs.Reduce.{reduced}
-use Rattle.trig.specs.Trig.{horner, one, evens, odds, cosineAt, sineAt, cosineOf, sineOf}
+use Rattle.trig.specs.Trig.{horner, evens, odds, cosineAt, sineAt, cosineOf, sineOf}
 use Rattle.trig.proofs.Multiple.{reduces, zero-sign, reduced-zero, reduced-nan, reduced-inf}
 use Rattle.trig.proofs.Bound.{cosine-near, sine-near}
 

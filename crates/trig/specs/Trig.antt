@@ -2,15 +2,13 @@
 use mathlib.Core.Path.{_≡_}
 use mathlib.Core.List.{List, [], _∷_}
 use lib.Ieee.{Float, binary64, ofBits, sub, mul}
+use Rattle.exact.specs.Doubles.{one}
 use Rattle.trig.specs.Reduce.{reduced}
 
 -- Horner's rule with alternating signs: c - y (d - y (e - ..))
 unfoldable pub horner : Float → Float → List Float → Float
 horner y c [] = c
 horner y c (d ∷ ds) = sub binary64 c (mul binary64 y (horner y d ds))
-
-abbrev pub one : Float
-one = ofBits binary64 0x3FF0000000000000
 
 -- the doubles nearest to 1 / (2 k)!, for k from 1 to 13
 abbrev pub evens : List Float

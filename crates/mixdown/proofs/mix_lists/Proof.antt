@@ -1,9 +1,10 @@
 -- `mixdown::mix_lists` meets its contract. Assumes nothing.
 use Rattle.mixdown.proofs.Ending.{Fits, fits}
 use Rattle.mixdown.specs.Sampled.{mixFits, mixedDown}
+use lib.Dec.{leb, eqb}
 use lib.ListN.{length}
-use mathlib.Core.Bool.{Bool, true}
-use mathlib.Core.Path.{_≡_, refl, sym, _∙_}
+use mathlib.Core.Bool.{Bool, true, _&&_}
+use mathlib.Core.Path.{_≡_, refl, sym, ap, ap₂, _∙_}
 use borrow.Author.Needs.{needs}
 use Rattle.mixdown.proofs.mix_lists.Statement.{statement}
 use Rattle.mixdown.proofs.mix_lists.Tie as tie
@@ -18,15 +19,11 @@ module _ (d : tie.After-both6) where
 
   flag : d .both6 .result ≡ asked
   flag =
-      let e-both6 = d .both6 .ensures in
-      let e-both5 = d .before .both5 .ensures in
-      let e-both4 = d .before .before .both4 .ensures in
-      let e-rows-fit = d .before .before .before .rows-fit .ensures in
-      let e-both3 = d .before .before .before .before .both3 .ensures in
-      let e-ends-fit = d .before .before .before .before .before .ends-fit .ensures in
-      let e-both2 = d .before .before .before .before .before .before .before .both2 .ensures in
-      let e-both = d .before .before .before .before .before .before .before .before .both .ensures in
-      cc
+      let rest = d .before .before .before .before .before in
+      let sizes = rest .before .before .both2 .ensures ∙ ap (λ (b : Bool). b && eqb (length (s₀ .args .marks .now)) 8192) (rest .before .before .before .both .ensures) in
+      let lists = d .before .before .before .before .both3 .ensures ∙ ap (λ (b : Bool). leb (s₀ .args .taking .count) 8 && b) (rest .ends-fit .ensures) in
+      let room = d .before .before .both4 .ensures ∙ ap (λ (b : Bool). b && leb (length (s₀ .args .i .now)) (length (s₀ .args .scratch .now))) (d .before .before .before .rows-fit .ensures) in
+      d .both6 .ensures ∙ ap₂ _&&_ (d .before .both5 .ensures ∙ ap₂ _&&_ sizes lists) room
 
   fitting : asked ≡ true → Fits (s₀ .args .taking) (s₀ .args .ends) (length (s₀ .args .bins .now)) (length (s₀ .args .work .now)) (length (s₀ .args .marks .now)) (s₀ .args .rows) (length (s₀ .args .i .now)) (length (s₀ .args .q .now)) (length (s₀ .args .scratch .now))
   fitting e = fits _ _ _ _ _ _ _ _ _ e

@@ -28,7 +28,7 @@ settle-requires c κs = search needs
 returns : tie.Need-returns
 returns c =
     let a = c .before .before .before .before .before .before .before .args in
-    let flag : c .before .before .before .before .both .result ≡ (isName (a .name) && finiteOsc (a .osc)) = cc in
+    let flag : c .before .before .before .before .both .result ≡ (isName (a .name) && finiteOsc (a .osc)) = rw (c .before .before .before .before .both .ensures, c .before .before .before .before .before .is-finite-osc .ensures, c .before .before .before .before .before .before .is-name .ensures) in
     rw (c .settle .ensures, c .before .fresh .ensures, c .before .before .find .ensures, sym flag ∙ c .before .before .before .if1 .taken)
 
 refused-requires : tie.Need-refused-requires
@@ -37,7 +37,7 @@ refused-requires c κs = search needs
 returns-2 : tie.Need-returns-2
 returns-2 c =
     let a = c .before .before .before .before .before .args in
-    let flag : c .before .before .both .result ≡ (isName (a .name) && finiteOsc (a .osc)) = cc in
+    let flag : c .before .before .both .result ≡ (isName (a .name) && finiteOsc (a .osc)) = rw (c .before .before .both .ensures, c .before .before .before .is-finite-osc .ensures, c .before .before .before .before .is-name .ensures) in
     rw (c .refused .ensures, sym flag ∙ c .before .if1 .left)
 
 pub add-channel-spec : {M : Type 1} → statement M

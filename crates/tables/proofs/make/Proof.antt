@@ -24,7 +24,7 @@ done-requires c κs = search needs
 returns : tie.Need-returns
 returns c =
     let a = c .before .before .before .before .before .before .args in
-    let flag : c .before .before .before .both .result ≡ (isTolerance (a .amp .0) && isTolerance (a .time .0)) = cc in
+    let flag : c .before .before .before .both .result ≡ (isTolerance (a .amp .0) && isTolerance (a .time .0)) = rw (c .before .before .before .both .ensures, c .before .before .before .before .is-tolerance2 .ensures, c .before .before .before .before .before .is-tolerance .ensures) in
     rw (c .done .ensures, c .before .empty .ensures, sym flag ∙ c .before .before .if1 .taken)
 
 empty-requires-2 : tie.Need-empty-requires-2
@@ -36,7 +36,7 @@ refused-requires c κs = search needs
 returns-2 : tie.Need-returns-2
 returns-2 c =
     let a = c .before .before .before .before .before .before .args in
-    let flag : c .before .before .before .both .result ≡ (isTolerance (a .amp .0) && isTolerance (a .time .0)) = cc in
+    let flag : c .before .before .before .both .result ≡ (isTolerance (a .amp .0) && isTolerance (a .time .0)) = rw (c .before .before .before .both .ensures, c .before .before .before .before .is-tolerance2 .ensures, c .before .before .before .before .before .is-tolerance .ensures) in
     rw (c .refused .ensures, c .before .empty2 .ensures, sym flag ∙ c .before .before .if1 .left)
 
 pub make-spec : {M : Type 1} → statement M

@@ -5,8 +5,9 @@ use mathlib.Core.Bool.{true, false}
 use native.Mathlib.Omega.{arith}
 use borrow.Author.Needs.{needs}
 use lib.ListN.{length, getD, List·getD-eq-default}
+use Rattle.exact.specs.Among.{among}
 use Rattle.command_lines.specs.Words.{readableAs}
-use Rattle.command_lines.specs.Line.{among, wordsOf, isKnown, kindIn}
+use Rattle.command_lines.specs.Line.{wordsOf, isKnown, kindIn}
 use Rattle.command_lines.proofs.line.kind_of.Statement.{statement}
 use Rattle.command_lines.proofs.line.kind_of.Tie as tie
 

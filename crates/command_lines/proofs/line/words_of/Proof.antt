@@ -1,7 +1,8 @@
 -- `command_lines::line::words_of` meets its contract: by each of the letters, and by none of them. Assumes nothing.
 use mathlib.Core.Logic.{⊎-elim}
 use borrow.Author.Tests.{ne-eqb}
-use Rattle.command_lines.specs.Line.{among, wordsOf}
+use Rattle.exact.specs.Among.{among}
+use Rattle.command_lines.specs.Line.{wordsOf}
 use Rattle.command_lines.proofs.Letters.{none-of}
 use Rattle.command_lines.proofs.line.words_of.Statement.{statement}
 use Rattle.command_lines.proofs.line.words_of.Tie as tie

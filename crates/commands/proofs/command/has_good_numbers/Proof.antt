@@ -40,7 +40,7 @@ both-requires-6 : tie.Need-both-requires-6
 both-requires-6 c κs = search needs
 
 returns : tie.Need-returns
-returns c = cc
+returns c = rw (c .both6 .ensures, c .before .before .both5 .ensures, c .before .before .before .is-finite6 .ensures, c .before .before .before .before .both4 .ensures, c .before .before .before .before .before .is-finite5 .ensures, c .before .before .before .before .before .before .both3 .ensures, c .before .before .before .before .before .before .before .is-finite4 .ensures, c .before .before .before .before .before .before .before .before .both2 .ensures, c .before .before .before .before .before .before .before .before .before .is-finite3 .ensures, c .before .before .before .before .before .before .before .before .before .before .both .ensures, c .before .before .before .before .before .before .before .before .before .before .before .is-finite2 .ensures, c .before .before .before .before .before .before .before .before .before .before .before .before .is-finite .ensures)
 
 pub has-good-numbers-spec : {M : Type 1} → statement M
 has-good-numbers-spec =

@@ -1,11 +1,11 @@
 -- `commands::play::play` meets its contract. Assumes nothing.
 use borrow.Author.Needs.{needs}
+use Rattle.exact.specs.Doubles.{nought}
 use Rattle.commands.specs.Play.{plateauOf, playedAt}
 use Rattle.tables.specs.Tables.{shapesIn, isIn}
-use Rattle.pulse.specs.Envelope.{nought}
 use lib.Ieee.{lt}
-use mathlib.Core.Bool.{true, false, _&&_, not}
-use mathlib.Core.Path.{_≡_, refl, sym, _∙_}
+use mathlib.Core.Bool.{Bool, true, false, _&&_, not}
+use mathlib.Core.Path.{_≡_, refl, sym, ap, _∙_}
 use native.Mathlib.Omega.{arith}
 use Prim.Native.Nat.{_<_}
 use Rattle.tables.proofs.Finding.{found-eight}
@@ -21,7 +21,7 @@ both-requires c κs = search needs
 
 module _ (d : tie.After-both) where
   flag : d .both .result ≡ (d .before .before .before .args .p .shaped && not (isIn (d .before .before .before .args .p .shape) (shapesIn (d .before .before .before .args .t1))))
-  flag = cc
+  flag = d .both .ensures ∙ ap (λ (b : Bool). d .before .before .before .args .p .shaped && not b) (d .before .has-shape .ensures)
 
 stops-requires : tie.Need-stops-requires
 stops-requires c κs = search needs

@@ -25,7 +25,7 @@ both-requires-3 : tie.Need-both-requires-3
 both-requires-3 c κs = search needs
 
 returns : tie.Need-returns
-returns c = cc
+returns c = rw (c .both3 .ensures, c .before .is-finite4 .ensures, c .before .before .both2 .ensures, c .before .before .before .is-finite3 .ensures, c .before .before .before .before .both .ensures, c .before .before .before .before .before .is-finite2 .ensures, c .before .before .before .before .before .before .is-finite .ensures)
 
 pub all-finite-spec : {M : Type 1} → statement M
 all-finite-spec =

@@ -22,7 +22,7 @@ swap-turned-requires : tie.Need-swap-turned-requires
 swap-turned-requires c κs = search needs
 
 returns : tie.Need-returns
-returns c = cc
+returns c = rw (c .swap-turned .ensures, c .before .all-finite .ensures, c .before .before .mul-time .ensures, c .before .before .before .sub .ensures, c .before .before .before .before .total-freq2 .ensures, c .before .before .before .before .before .total-freq .ensures)
 
 pub swap-phase-spec : {M : Type 1} → statement M
 swap-phase-spec =

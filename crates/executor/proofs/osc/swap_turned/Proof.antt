@@ -25,7 +25,7 @@ swapped-to-requires : tie.Need-swapped-to-requires
 swapped-to-requires c κs = search needs
 
 returns : tie.Need-returns
-returns c = cc
+returns c = rw (c .swapped-to .ensures, c .before .both2 .ensures, c .before .before .is-finite2 .ensures, c .before .before .before .both .ensures, c .before .before .before .before .is-finite .ensures, c .before .before .before .before .before .add .ensures, c .before .before .before .before .before .before .sub .ensures)
 
 pub swap-turned-spec : {M : Type 1} → statement M
 swap-turned-spec =

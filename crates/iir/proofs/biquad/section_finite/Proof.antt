@@ -31,7 +31,7 @@ both-requires-4 : tie.Need-both-requires-4
 both-requires-4 c κs = search needs
 
 returns : tie.Need-returns
-returns c = cc
+returns c = rw (c .both4 .ensures, c .before .is-finite5 .ensures, c .before .before .both3 .ensures, c .before .before .before .is-finite4 .ensures, c .before .before .before .before .both2 .ensures, c .before .before .before .before .before .is-finite3 .ensures, c .before .before .before .before .before .before .both .ensures, c .before .before .before .before .before .before .before .is-finite2 .ensures, c .before .before .before .before .before .before .before .before .is-finite .ensures)
 
 pub section-finite-spec : {M : Type 1} → statement M
 section-finite-spec =

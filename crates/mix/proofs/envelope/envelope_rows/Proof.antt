@@ -7,10 +7,11 @@ use mathlib.Core.Path.{_≡_, refl, sym, _∙_}
 use mathlib.Core.List.{List, _++_}
 use lib.ListN.{length, take, drop, getD, length-set}
 use lib.Ieee.{Float}
+use Rattle.exact.specs.Doubles.{nought}
 use Rattle.quant.specs.declared.complex.Complex.{Complex}
 use Rattle.quant.specs.Complex.{timesC}
 use Rattle.mix.specs.Plateau.{real, imaginary}
-use Rattle.mix.specs.Envelope.{nought, shaped, shapedBy}
+use Rattle.mix.specs.Envelope.{shaped, shapedBy}
 use Rattle.mix.proofs.Turns.{Laid, envelope-turn, envelope-end}
 use Rattle.mix.proofs.envelope.envelope_rows.Statement.{statement}
 use Rattle.mix.proofs.envelope.envelope_rows.Tie as tie

@@ -5,8 +5,9 @@ use Prim.Native.Nat.{_-_}
 use native.Mathlib.Omega.{arith}
 use mathlib.Core.Path.{_≡_, refl}
 use lib.ListN.{length, drop, getD, length-set}
+use Rattle.exact.specs.Doubles.{nought}
 use Rattle.mix.specs.Plateau.{real}
-use Rattle.mix.specs.Envelope.{nought, shaped, shapedBy}
+use Rattle.mix.specs.Envelope.{shaped, shapedBy}
 use Rattle.mix.proofs.Turns.{Laid, envelope-turn, envelope-end}
 use Rattle.mix.proofs.one_row.envelope_row.Statement.{statement}
 use Rattle.mix.proofs.one_row.envelope_row.Tie as tie

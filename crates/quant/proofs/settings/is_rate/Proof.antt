@@ -10,7 +10,7 @@ both-requires : tie.Need-both-requires
 both-requires c κs = search needs
 
 returns : tie.Need-returns
-returns c = cc
+returns c = rw (c .both .ensures, c .before .is-finite .ensures)
 
 pub is-rate-spec : {M : Type 1} → statement M
 is-rate-spec = tie.close (tie.spec is-finite-requires both-requires returns)

@@ -7,8 +7,8 @@ use lib.Ieee.Scale.{finite}
 use mir.Syntax.{w32}
 use mir.Val.{toZ, ofZ}
 use mir.ValLaws.{toZ-ofZ}
+use Rattle.exact.specs.Doubles.{one}
 use Rattle.quant.specs.declared.settings.Fitting.the-variants.{Fit}
-use Rattle.quant.specs.Quantity.{one}
 use Rattle.quant.specs.Settings.{isRate, isLevel, fitting}
 use Rattle.quant.proofs.settings.set_up.Statement.{statement}
 use Rattle.quant.proofs.settings.set_up.Tie as tie
@@ -49,7 +49,11 @@ module _ (d : tie.After-both3) where
   same = toZ-ofZ w32 (start .args .level) (start .fits .level)
 
   flag : d .both3 .result ≡ (isRate (start .args .rate .0) && finite (div binary64 one (start .args .rate .0)) && finite (start .args .delay .0) && isLevel (start .args .level))
-  flag = cc same
+  flag =
+      let clock = d .before .before .before .before in
+      let e-clock = clock .both .ensures ∙ (λ i. clock .before .before .is-rate .ensures i && (clock .before .is-finite .ensures ∙ ap finite (made .dt .ensures)) i) in
+      d .both3 .ensures
+      ∙ (λ i. (d .before .before .both2 .ensures ∙ (λ j. e-clock j && d .before .before .before .is-finite2 .ensures j)) i && (d .before .is-level .ensures ∙ ap isLevel same) i)
 
 returns : tie.Need-returns
 returns c =

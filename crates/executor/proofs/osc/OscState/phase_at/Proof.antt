@@ -13,7 +13,7 @@ add-requires : tie.Need-add-requires
 add-requires c κs = search needs
 
 returns : tie.Need-returns
-returns c = cc
+returns c = rw (c .add .ensures, c .before .mul-time .ensures, c .before .before .total-freq .ensures)
 
 pub phase-at-spec : {M : Type 1} → statement M
 phase-at-spec = tie.close (tie.spec total-freq-requires mul-time-requires add-requires returns)

@@ -28,7 +28,7 @@ moved-to-requires : tie.Need-moved-to-requires
 moved-to-requires c κs = search needs
 
 returns : tie.Need-returns
-returns c = cc
+returns c = rw (c .moved-to .ensures, c .before .with-both .ensures, c .before .before .both2 .ensures, c .before .before .before .is-finite3 .ensures, c .before .before .before .before .both .ensures, c .before .before .before .before .before .is-finite2 .ensures, c .before .before .before .before .before .before .is-finite .ensures, c .before .before .before .before .before .before .before .add .ensures)
 
 pub retune-spec : {M : Type 1} → statement M
 retune-spec =

@@ -25,7 +25,7 @@ moved-to-requires : tie.Need-moved-to-requires
 moved-to-requires c κs = search needs
 
 returns : tie.Need-returns
-returns c = cc
+returns c = rw (c .moved-to .ensures, c .before .with-phase .ensures, c .before .before .both .ensures, c .before .before .before .is-finite2 .ensures, c .before .before .before .before .is-finite .ensures, c .before .before .before .before .before .sub .ensures, c .before .before .before .before .before .before .mul-time .ensures)
 
 pub set-phase-spec : {M : Type 1} → statement M
 set-phase-spec =

@@ -16,7 +16,7 @@ moved-to-requires : tie.Need-moved-to-requires
 moved-to-requires c κs = search needs
 
 returns : tie.Need-returns
-returns c = cc
+returns c = rw (c .moved-to .ensures, c .before .with-phase .ensures, c .before .before .is-finite .ensures, c .before .before .before .add .ensures)
 
 pub shift-phase-spec : {M : Type 1} → statement M
 shift-phase-spec =

@@ -10,7 +10,7 @@ with-phase-requires : tie.Need-with-phase-requires
 with-phase-requires c κs = search needs
 
 returns : tie.Need-returns
-returns c = cc
+returns c = rw (c .with-phase .ensures, c .before .phase-at .ensures)
 
 pub with-time-shift-spec : {M : Type 1} → statement M
 with-time-shift-spec = tie.close (tie.spec phase-at-requires with-phase-requires returns)
