@@ -13,7 +13,7 @@ use Rattle.commands.specs.declared.command.Play.{Play}
 use Rattle.commands.specs.declared.command.Command.{Command}
 use Rattle.commands.specs.declared.command.Command.the-variants as C
 use Rattle.commands.specs.declared.command.Arranged.{Arranged}
-use Rattle.command_lines.specs.Words.{floatIn, choiceIn, nameIn, readableAs}
+use Rattle.words.specs.Words.{floatIn, choiceIn, nameIn, readableAs}
 
 -- F, H, b, f, h, p, w
 unfoldable pub isCommand : ℕ → Bool

@@ -10,4 +10,3 @@
 //     b START SPAN                                 Barrier
 //     x                                            the end of a list
 pub mod line;
-pub mod words;

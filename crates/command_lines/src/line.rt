@@ -1,10 +1,6 @@
 // One line read: its letter, what it adds to the tables, or the command that it is.
 ghost use mathlib.Core.Path.{_≡_};
 ghost use Rattle.command_lines.specs.Line.{isCommand, kindIn, isKnown, wordsOf, addedIn, oscIn, arrangedIn, commandIn, playIn};
-use super::words::choice;
-use super::words::float;
-use super::words::name;
-use super::words::readable;
 use commands::command::Arranged;
 use commands::command::Command;
 use commands::command::Play;
@@ -16,6 +12,10 @@ use quant::quantity::Time;
 use quant::refusal::Answer;
 use tables::Tabled;
 use tables::Tables;
+use words::choice;
+use words::float;
+use words::name;
+use words::readable;
 
 // Whether the letter is a command's.
 pub fn is_command(kind: u8) -> bool

@@ -14,12 +14,12 @@
 //     r BIN TIME AMP.RE AMP.IM DRAG.RE DRAG.IM
 ghost use Prim.Native.Nat.{_<_, _≤_};
 ghost use lib.ListN.{length};
-use command_lines::words::end_of;
+use words::end_of;
 
 mod line;
+mod print;
 mod run;
 mod show;
-mod words;
 
 fn main() {
     let mut text = lines::text::room();
@@ -49,7 +49,7 @@ fn list_end(text: &[u8], from: usize) -> usize
 {
     let mut at = from;
     while at < text.len() {
-        let next = words::least(end_of(text, at) + 1, text.len());
+        let next = print::least(end_of(text, at) + 1, text.len());
         if line::is_end(text[at]) {
             return next;
         }

@@ -1,12 +1,11 @@
 // One list: its lines read, its commands run as one call.
 use super::line::kind_of;
+use super::print::least;
 use super::show::show;
 use super::show::show_refused;
-use super::words::least;
 use command_lines::line::added;
 use command_lines::line::arranged_of;
 use command_lines::line::is_command;
-use command_lines::words::end_of;
 use commands::command::Arranged;
 use owned::Executed;
 use owned::execute_owned;
@@ -16,6 +15,7 @@ use quant::quantity::Amplitude;
 use quant::quantity::Time;
 use tables::Tabled;
 use tables::Tables;
+use words::end_of;
 
 pub(crate) fn one(list: &[u8], before: Executed, bins: &mut [[f64; 5]]) -> Executed {
     let tabled = before.tabled;

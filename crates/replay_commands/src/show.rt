@@ -1,8 +1,8 @@
 // What a call came to, printed.
 ghost use Prim.Native.Nat.{_<_, _≤_};
-use super::words::least;
-use super::words::print_float;
-use super::words::print_word;
+use super::print::least;
+use super::print::print_float;
+use super::print::print_word;
 use owned::Executed;
 use pulse::list::Pulse;
 use quant::refusal::Answer;

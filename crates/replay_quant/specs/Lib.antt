@@ -1,4 +1,3 @@
-pub mod Words
 pub mod Align
 pub mod Osc
 pub mod Verdict

@@ -10,9 +10,9 @@ use Rattle.executor.specs.declared.osc.Moved.{Moved}
 use Rattle.executor.specs.declared.osc.Swapped.{Swapped}
 use Rattle.executor.specs.Osc.{shiftedPhase, setPhaseTo, shiftedFreq, setFreqTo, swappedPhases}
 use Rattle.lines.specs.Field.{sameBits}
-use Rattle.replay_quant.specs.Words.{wordIn, floatIn}
+use Rattle.words.specs.Words.{wordIn, floatIn}
 
--- the oscillator whose numbers stand at three places
+-- the oscillator whose numbers are three words
 abbrev pub oscIn : List ℕ → ℕ → ℕ → ℕ → OscState
 oscIn line a b c = record { base = record { 0 = floatIn line a }; delta = record { 0 = floatIn line b }; phase = record { 0 = floatIn line c } }
 
@@ -24,17 +24,17 @@ abbrev pub codeAgrees : List ℕ → ℕ → Bool → Bool
 codeAgrees line at refused = eqb (wordIn line at) (cond refused 8 0)
 
 abbrev pub movedAgrees : List ℕ → Moved → Bool
-movedAgrees line m = codeAgrees line 86 (m .refused) && oscAgrees line 103 120 137 (m .osc)
+movedAgrees line m = codeAgrees line 5 (m .refused) && oscAgrees line 6 7 8 (m .osc)
 
 -- by the first byte: `p` is 112, `P` 80, `f` 102; every other is taken for `F`
 abbrev pub commandOf : ℕ → List ℕ → Moved
 commandOf kind line =
-    cond (eqb kind 112) (shiftedPhase (oscIn line 1 18 35) (floatIn line 52))
-    (cond (eqb kind 80) (setPhaseTo (oscIn line 1 18 35) (floatIn line 52) (floatIn line 69))
-    (cond (eqb kind 102) (shiftedFreq (oscIn line 1 18 35) (floatIn line 52) (floatIn line 69)) (setFreqTo (oscIn line 1 18 35) (floatIn line 52) (floatIn line 69))))
+    cond (eqb kind 112) (shiftedPhase (oscIn line 0 1 2) (floatIn line 3))
+    (cond (eqb kind 80) (setPhaseTo (oscIn line 0 1 2) (floatIn line 3) (floatIn line 4))
+    (cond (eqb kind 102) (shiftedFreq (oscIn line 0 1 2) (floatIn line 3) (floatIn line 4)) (setFreqTo (oscIn line 0 1 2) (floatIn line 3) (floatIn line 4))))
 
 abbrev pub swapAgrees : List ℕ → Swapped → Bool
-swapAgrees line m = codeAgrees line 120 (m .refused) && oscAgrees line 137 154 171 (m .one) && oscAgrees line 188 205 222 (m .two)
+swapAgrees line m = codeAgrees line 7 (m .refused) && oscAgrees line 8 9 10 (m .one) && oscAgrees line 11 12 13 (m .two)
 
 abbrev pub swapRight : List ℕ → Bool
-swapRight line = swapAgrees line (swappedPhases (oscIn line 1 18 35) (oscIn line 52 69 86) (floatIn line 103))
+swapRight line = swapAgrees line (swappedPhases (oscIn line 0 1 2) (oscIn line 3 4 5) (floatIn line 6))

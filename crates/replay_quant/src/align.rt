@@ -1,20 +1,21 @@
 // A case of alignment judged.
 ghost use mathlib.Core.Path.{_≡_};
-ghost use Rattle.replay_quant.specs.Align.{levelOf, placeAgrees, alignRight};
-use super::words::float;
-use super::words::word;
+ghost use Rattle.replay_quant.specs.Align.{placeAgrees, alignRight};
 use lines::field::same;
 use quant::aligned::Placed;
 use quant::aligned::place;
 use quant::judge::both;
 use quant::quantity::Frequency;
 use quant::quantity::Time;
+use words::float;
+use words::level;
+use words::word;
 
 pub(crate) fn align_right(line: &[u8]) -> bool
     ensures { λ r. ⌜ r ≡ alignRight (now (line .entry)) ⌝ }
 {
-    let level = level_of(word(line, 35));
-    let ours = place(Time(float(line, 1)), Frequency(float(line, 18)), level);
+    let level = level(line, 2, 20);
+    let ours = place(Time(float(line, 0)), Frequency(float(line, 1)), level);
     place_agrees(line, ours)
 }
 
@@ -23,20 +24,11 @@ fn place_agrees(line: &[u8], p: Placed) -> bool
 {
     match p {
         Placed::Start(start, offset) => both(
-            both(word(line, 52) == 0, word(line, 69) == start as u64),
-            same(offset, word(line, 86)),
+            both(word(line, 3) == 0, word(line, 4) == start as u64),
+            same(offset, word(line, 5)),
         ),
-        Placed::NotFinite => word(line, 52) == 8,
-        Placed::Before => word(line, 52) == 9,
-        Placed::Beyond => word(line, 52) == 10,
+        Placed::NotFinite => word(line, 3) == 8,
+        Placed::Before => word(line, 3) == 9,
+        Placed::Beyond => word(line, 3) == 10,
     }
-}
-
-fn level_of(w: u64) -> i32
-    ensures { λ r. ⌜ r ≡ levelOf w ⌝ }
-{
-    if 40 < w {
-        return 0;
-    }
-    w as i32 - 20
 }

@@ -1,12 +1,12 @@
 // One line judged: its answer worked out anew and compared with the stored one.
 ghost use mathlib.Core.Path.{_≡_};
-ghost use Rattle.replay_quant.specs.Verdict.{isCommand, wordsOf, caseFits, judgedAs, lineVerdict};
+ghost use Rattle.replay_quant.specs.Verdict.{isCommand, isCase, wordsOf, judgedAs, lineVerdict};
 use super::align::align_right;
 use super::osc::command;
 use super::osc::moved_agrees;
 use super::osc::swap_right;
-use super::words::readable;
 use lines::tally::Verdict;
+use words::readable;
 
 // The first kind is alignment, the second the oscillators.
 pub(crate) fn judged(line: &[u8]) -> Verdict
@@ -16,7 +16,7 @@ pub(crate) fn judged(line: &[u8]) -> Verdict
         return Verdict::Unreadable;
     }
     let kind = line[0];
-    if !case_fits(kind, line.len()) {
+    if !is_case(kind) {
         return Verdict::Unreadable;
     }
     if !readable(line, words_of(kind)) {
@@ -37,22 +37,19 @@ fn judged_as(kind: u8, line: &[u8]) -> Verdict
     Verdict::Second(moved_agrees(line, command(kind, line)))
 }
 
-fn case_fits(kind: u8, size: usize) -> bool
-    ensures { λ r. ⌜ r ≡ caseFits kind size ⌝ }
+fn is_case(kind: u8) -> bool
+    ensures { λ r. ⌜ r ≡ isCase kind ⌝ }
 {
     if kind == b'a' {
-        return size == 103;
+        return true;
     }
     if kind == b's' {
-        return size == 239;
+        return true;
     }
-    if is_command(kind) {
-        return size == 154;
-    }
-    false
+    is_command(kind)
 }
 
-fn words_of(kind: u8) -> usize
+fn words_of(kind: u8) -> u8
     ensures { λ r. ⌜ r ≡ wordsOf kind ⌝ }
 {
     if kind == b'a' {

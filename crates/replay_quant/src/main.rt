@@ -6,7 +6,6 @@ mod align;
 mod judge;
 mod osc;
 mod replay;
-mod words;
 
 fn main() {
     let mut text = lines::text::room();

@@ -1,8 +1,6 @@
 // A case of an oscillator's command judged.
 ghost use mathlib.Core.Path.{_≡_};
 ghost use Rattle.replay_quant.specs.Osc.{oscIn, oscAgrees, codeAgrees, movedAgrees, commandOf, swapAgrees, swapRight};
-use super::words::float;
-use super::words::word;
 use executor::osc::Moved;
 use executor::osc::OscState;
 use executor::osc::Swapped;
@@ -12,13 +10,15 @@ use quant::judge::both;
 use quant::quantity::Frequency;
 use quant::quantity::Phase;
 use quant::quantity::Time;
+use words::float;
+use words::word;
 
 pub(crate) fn command(kind: u8, line: &[u8]) -> Moved
     ensures { λ r. ⌜ r ≡ commandOf kind (now (line .entry)) ⌝ }
 {
-    let osc = osc_in(line, 1, 18, 35);
-    let number = float(line, 52);
-    let time = Time(float(line, 69));
+    let osc = osc_in(line, 0, 1, 2);
+    let number = float(line, 3);
+    let time = Time(float(line, 4));
     if kind == b'p' {
         return osc.shift_phase(Phase(number));
     }
@@ -34,29 +34,29 @@ pub(crate) fn command(kind: u8, line: &[u8]) -> Moved
 pub(crate) fn moved_agrees(line: &[u8], m: Moved) -> bool
     ensures { λ r. ⌜ r ≡ movedAgrees (now (line .entry)) m ⌝ }
 {
-    let coded = code_agrees(line, 86, m.refused);
-    both(coded, osc_agrees(line, 103, 120, 137, m.osc))
+    let coded = code_agrees(line, 5, m.refused);
+    both(coded, osc_agrees(line, 6, 7, 8, m.osc))
 }
 
 pub(crate) fn swap_right(line: &[u8]) -> bool
     ensures { λ r. ⌜ r ≡ swapRight (now (line .entry)) ⌝ }
 {
-    let one = osc_in(line, 1, 18, 35);
-    let two = osc_in(line, 52, 69, 86);
-    swap_agrees(line, swap_phase(one, two, Time(float(line, 103))))
+    let one = osc_in(line, 0, 1, 2);
+    let two = osc_in(line, 3, 4, 5);
+    swap_agrees(line, swap_phase(one, two, Time(float(line, 6))))
 }
 
 fn swap_agrees(line: &[u8], m: Swapped) -> bool
     ensures { λ r. ⌜ r ≡ swapAgrees (now (line .entry)) m ⌝ }
 {
-    let coded = code_agrees(line, 120, m.refused);
-    let first = osc_agrees(line, 137, 154, 171, m.one);
-    let second = osc_agrees(line, 188, 205, 222, m.two);
+    let coded = code_agrees(line, 7, m.refused);
+    let first = osc_agrees(line, 8, 9, 10, m.one);
+    let second = osc_agrees(line, 11, 12, 13, m.two);
     both(both(coded, first), second)
 }
 
-// The oscillator whose numbers stand at three places.
-fn osc_in(line: &[u8], a: usize, b: usize, c: usize) -> OscState
+// The oscillator whose numbers are three words.
+fn osc_in(line: &[u8], a: u8, b: u8, c: u8) -> OscState
     ensures { λ r. ⌜ r ≡ oscIn (now (line .entry)) a b c ⌝ }
 {
     let base = Frequency(float(line, a));
@@ -65,7 +65,7 @@ fn osc_in(line: &[u8], a: usize, b: usize, c: usize) -> OscState
     OscState { base, delta, phase }
 }
 
-fn osc_agrees(line: &[u8], a: usize, b: usize, c: usize, s: OscState) -> bool
+fn osc_agrees(line: &[u8], a: u8, b: u8, c: u8, s: OscState) -> bool
     ensures { λ r. ⌜ r ≡ oscAgrees (now (line .entry)) a b c s ⌝ }
 {
     let base = same(s.base.0, word(line, a));
@@ -74,7 +74,7 @@ fn osc_agrees(line: &[u8], a: usize, b: usize, c: usize, s: OscState) -> bool
     both(both(base, delta), phase)
 }
 
-fn code_agrees(line: &[u8], at: usize, refused: bool) -> bool
+fn code_agrees(line: &[u8], at: u8, refused: bool) -> bool
     ensures { λ r. ⌜ r ≡ codeAgrees (now (line .entry)) at refused ⌝ }
 {
     if refused {

@@ -1,15 +1,8 @@
 -- A line `m NAME RATE DELAY LEVEL ROWS I Q SCRATCH FIRST SECOND FROM`: what it asks for. Definitions only.
 use Prim.Native.Nat.{ℕ}
-use mathlib.Core.Bool.{cond}
 use mathlib.Core.List.{List}
-use lib.Dec.{leb}
-use lib.IntN.{ℤ, pos, _-ℤ_}
-use Rattle.command_lines.specs.Words.{wordIn, floatIn, nameIn}
+use Rattle.words.specs.Words.{wordIn, floatIn, levelOf, nameIn}
 use Rattle.replay_sampling.specs.declared.ask.Ask.{Ask}
-
--- the level that a word stands for; those above 60 stand for none, and are taken for level 0
-abbrev pub levelOf : ℕ → ℤ
-levelOf w = cond (leb w 60) (pos w -ℤ pos 30) (pos 0)
 
 abbrev pub askIn : List ℕ → Ask
 askIn line =
@@ -18,7 +11,7 @@ askIn line =
         channel = nameIn line 0;
         rate = record { 0 = floatIn line 3 };
         delay = record { 0 = floatIn line 4 };
-        level = levelOf (wordIn line 5);
+        level = levelOf 30 (wordIn line 5);
         rows = wordIn line 6;
       };
       i = wordIn line 7;

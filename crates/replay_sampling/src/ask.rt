@@ -1,16 +1,17 @@
 // What a line asks for: a sampling call with its rows, or a part of the crosstalk matrix.
 ghost use mathlib.Core.Path.{_≡_};
-ghost use Rattle.replay_sampling.specs.Ask.{levelOf, askIn};
-use super::words::least;
-use command_lines::words::float;
-use command_lines::words::name;
-use command_lines::words::readable;
-use command_lines::words::word;
+ghost use Rattle.replay_sampling.specs.Ask.{askIn};
+use super::print::least;
 use crosstalk::names::Crosstalk;
 use quant::name::Name;
 use quant::quantity::Frequency;
 use quant::quantity::Time;
 use sampler::Request;
+use words::float;
+use words::level;
+use words::name;
+use words::readable;
+use words::word;
 
 pub(crate) struct Ask {
     pub(crate) request: Request,
@@ -48,7 +49,7 @@ pub(crate) fn ask_of(line: &[u8]) -> Ask
     let channel = name(line, 0);
     let rate = Frequency(float(line, 3));
     let delay = Time(float(line, 4));
-    let level = level_of(word(line, 5));
+    let level = level(line, 5, 30);
     let rows = word(line, 6) as usize;
     let i = word(line, 7) as usize;
     let q = word(line, 8) as usize;
@@ -72,15 +73,6 @@ pub(crate) fn ask_of(line: &[u8]) -> Ask
         second,
         from,
     }
-}
-
-fn level_of(w: u64) -> i32
-    ensures { λ r. ⌜ r ≡ levelOf w ⌝ }
-{
-    if 60 < w {
-        return 0;
-    }
-    w as i32 - 30
 }
 
 // The names with one more; a ninth has no place and is only counted.

@@ -15,13 +15,13 @@
 //     q SAMPLE ..
 ghost use Prim.Native.Nat.{_<_, _≤_};
 ghost use lib.ListN.{length};
-use command_lines::words::end_of;
-use words::least;
+use print::least;
+use words::end_of;
 
 mod ask;
+mod print;
 mod run;
 mod show;
-mod words;
 
 fn main() {
     let mut text = lines::text::room();

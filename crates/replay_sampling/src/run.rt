@@ -5,15 +5,12 @@ use super::ask::kind_of;
 use super::ask::named;
 use super::ask::no_names;
 use super::behind;
+use super::print::least;
 use super::show::show_answer;
 use super::show::show_row;
-use super::words::least;
 use command_lines::line::added;
 use command_lines::line::arranged_of;
 use command_lines::line::is_command;
-use command_lines::words::end_of;
-use command_lines::words::float;
-use command_lines::words::name;
 use commands::command::Arranged;
 use crosstalk::names::Crosstalk;
 use owned::Executed;
@@ -24,6 +21,9 @@ use quant::complex::Complex;
 use quant::quantity::Amplitude;
 use quant::quantity::Time;
 use tables::Tables;
+use words::end_of;
+use words::float;
+use words::name;
 
 // The names of the crosstalk matrix, how many factors it has, and what is asked for.
 struct Wanted {

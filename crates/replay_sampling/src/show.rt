@@ -1,7 +1,7 @@
 // What a job came to, printed.
-use super::words::least;
-use super::words::print_float;
-use super::words::print_word;
+use super::print::least;
+use super::print::print_float;
+use super::print::print_word;
 use quant::refusal::Answer;
 use quant::refusal::number;
 

@@ -6,7 +6,7 @@ use native.Mathlib.Omega.{arith}
 use borrow.Author.Needs.{needs}
 use lib.ListN.{length, getD, List·getD-eq-default}
 use Rattle.exact.specs.Among.{among}
-use Rattle.command_lines.specs.Words.{readableAs}
+use Rattle.words.specs.Words.{readableAs}
 use Rattle.command_lines.specs.Line.{wordsOf, isKnown, kindIn}
 use Rattle.command_lines.proofs.line.kind_of.Statement.{statement}
 use Rattle.command_lines.proofs.line.kind_of.Tie as tie

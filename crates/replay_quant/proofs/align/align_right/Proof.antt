@@ -5,11 +5,8 @@ use mir.ValLaws.{toZ-ofZ}
 use Rattle.replay_quant.proofs.align.align_right.Statement.{statement}
 use Rattle.replay_quant.proofs.align.align_right.Tie as tie
 
-word-requires : tie.Need-word-requires
-word-requires c κs = search needs
-
-level-of-requires : tie.Need-level-of-requires
-level-of-requires c κs = search needs
+level-requires : tie.Need-level-requires
+level-requires c κs = search needs
 
 float-requires : tie.Need-float-requires
 float-requires c κs = search needs
@@ -24,14 +21,13 @@ place-agrees-requires : tie.Need-place-agrees-requires
 place-agrees-requires c κs = search needs
 
 returns : tie.Need-returns
-returns c = rw (c .place-agrees .ensures, c .before .place .ensures, c .before .before .float2 .ensures, c .before .before .before .float .ensures, toZ-ofZ w32 (c .before .before .before .before .level-of .result) (record { sfits = c .before .before .before .before .level-of .ok }), c .before .before .before .before .level-of .ensures, c .before .before .before .before .before .word .ensures)
+returns c = rw (c .place-agrees .ensures, c .before .place .ensures, c .before .before .float2 .ensures, c .before .before .before .float .ensures, toZ-ofZ w32 (c .before .before .before .before .level .result) (record { sfits = c .before .before .before .before .level .ok }), c .before .before .before .before .level .ensures)
 
 pub align-right-spec : {M : Type 1} → statement M
 align-right-spec =
     tie.close
     (tie.spec
-    word-requires
-    level-of-requires
+    level-requires
     float-requires
     float-requires-2
     place-requires
