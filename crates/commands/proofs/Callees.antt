@@ -19,11 +19,8 @@ use prog.Wp.{Heap}
 use ghost.Atoms.{Atoms, sem}
 use contract.Monad.{Fun, fact}
 use types.Kit.{Goal, Given, Item, ‵, Step, _$_, _∵_, !, qed, move, join, fjoin, frame, done}
-use denote.RattleType.{RattleType}
-use denote.Array.{Array}
 use denote.Laws.{Is}
 use denote.Memory.{pointee, mem as memory}
-use denote.Builtin.{f64}
 use denote.Slice.{sliceTy, sliceVal}
 use denote.Steps.{owned, nothing}
 use denote.Struct.Laws as LL
@@ -37,7 +34,7 @@ use Rattle.quant.specs.declared.refusal.Refusal.the-variants.{WrongSize}
 use Rattle.quant.proofs.refusal.Refusal as Y
 use Rattle.quant.proofs.refusal.Refusal.Laws as Y′
 use Rattle.pulse.specs.declared.list.Pulse.{Pulse}
-use Rattle.pulse.proofs.Lent.{Own}
+use Rattle.pulse.proofs.Lent.{Row, Own}
 use Rattle.pulse.proofs.Records.{slice, spell, IsRecord, has-record, has-word}
 use Rattle.pulse.proofs.list.Pulse as P
 use Rattle.pulse.proofs.list.store as store
@@ -47,6 +44,7 @@ use Rattle.tables.proofs.Tables as U
 use Rattle.tables.proofs.Tables.Laws as U′
 use Rattle.tables.proofs.Tabled as X
 use Rattle.tables.proofs.Tabled.Laws as X′
+use Rattle.tables.proofs.Walked.{valU, IsTables, has-tables}
 use Rattle.commands.specs.declared.command.Arranged.{Arranged}
 use Rattle.commands.specs.declared.step.Step.{Step as Stepped}
 use Rattle.commands.specs.Run.{doneAt, refusedAt, sizesFit}
@@ -61,9 +59,6 @@ use Rattle.commands.proofs.execute.refused as refused
 use Rattle.commands.proofs.execute.done as ended
 
 -- ---- machine values
-
-abbrev pub Row : RattleType
-Row = Array f64 5
 
 -- a command's bytes
 abbrev pub bytes : ℕ
@@ -84,9 +79,6 @@ refP = tyRef erased mut (pointee (P.the-row .written))
 abbrev pub sliceP : Ty
 sliceP = slice (named 2)
 
-abbrev pub valU : Tables → Val
-valU = LL.val U.the-type U′.the-laws
-
 abbrev pub valN : Arranged → Val
 valN = LL.val N.the-type N′.the-laws
 
@@ -98,9 +90,6 @@ valX = LL.val X.the-type X′.the-laws
 
 abbrev pub valY : Refusal → Val
 valY = EL.val Y.the-type Y′.the-laws
-
-abbrev pub IsTables : Tables → Type 0
-IsTables u = Is U.the-row u (valU u ∷ [])
 
 abbrev pub IsCommand : Arranged → Type 0
 IsCommand c = Is N.the-row c (valN c ∷ [])
@@ -134,9 +123,6 @@ parts s g =
     }
 
 module _ {M : Type 1} (𝓤 : URA M) (H : Heap 𝓤) (A : Atoms 𝓤) (W : Given 𝓤 H A) where
-  pub typedU : (u : Tables) → IsTables u → T (hasTy U′.mir (valU u)) × WT (valU u)
-  typedU u g = LL.lawful U.the-type U′.the-laws 𝓤 H A W .typed u (valU u ∷ []) g .0
-
   pub typedN : (c : Arranged) → IsCommand c → T (hasTy N′.mir (valN c)) × WT (valN c)
   typedN c g = LL.lawful N.the-type N′.the-laws 𝓤 H A W .typed c (valN c ∷ []) g .0
 
@@ -144,9 +130,6 @@ module _ {M : Type 1} (𝓤 : URA M) (H : Heap 𝓤) (A : Atoms 𝓤) (W : Given
   typedX r g = LL.lawful X.the-type X′.the-laws 𝓤 H A W .typed r (valX r ∷ []) g .0
 
 module _ {M : Type 1} {𝓤 : URA M} {H : Heap 𝓤} {A : Atoms 𝓤} {K : Type 0} {W : Given 𝓤 H A} {Γ : List (Item 𝓤)} {G : Goal 𝓤 H} where
-  pub has-tables : K → (u : Tables) → IsTables u → Step K W (‵ (U.the-row .own u (valU u ∷ [])) ∷ Γ) G Γ G
-  has-tables t u g = owned t U.the-row (Is U.the-row) (LL.makes U.the-type U′.the-plain 𝓤 H A) u (valU u ∷ []) g
-
   has-command : K → (c : Arranged) → IsCommand c → Step K W (‵ (N.the-row .own c (valN c ∷ [])) ∷ Γ) G Γ G
   has-command t c g = owned t N.the-row (Is N.the-row) (LL.makes N.the-type N′.the-plain 𝓤 H A) c (valN c ∷ []) g
 

@@ -13,12 +13,12 @@ use lib.Seq.{drop-cons}
 use Rattle.exact.specs.Doubles.{nought}
 use Rattle.pulse.specs.declared.list.Pulse.{Pulse}
 use Rattle.tables.specs.declared.Tables.{Tables}
+use Rattle.tables.proofs.Walked.{IsTables}
 use Rattle.commands.specs.declared.command.Command.the-variants as C
 use Rattle.commands.specs.declared.command.Arranged.{Arranged}
 use Rattle.commands.specs.declared.step.Step.{Step}
 use Rattle.commands.specs.Step.{binsAfter, pulsesAfter}
 use Rattle.commands.specs.Run.{Ran, ranTo, doneAt, refusedAt, stepOf, ran, sizesFit, executed}
-use Rattle.commands.proofs.Callees.{IsTables}
 use Rattle.commands.proofs.Cases.{refused-leaves}
 
 -- what is read past the end of a list

@@ -19,11 +19,9 @@ use prog.Wp.{Heap}
 use ghost.Atoms.{Atoms, sem}
 use contract.Monad.{Fun, fact}
 use types.Kit.{Goal, Given, Item, ‵, _⊛_, Step, _$_, _∵_, !, qed, move, split, join, fjoin, frame, done}
-use denote.RattleType.{RattleType}
-use denote.Array.{Array}
 use denote.Laws.{Is}
 use denote.Memory.{pointee}
-use denote.Builtin.{f64, usize}
+use denote.Builtin.{usize}
 use denote.Ref.{RefT}
 use denote.Slice.{sliceTy, sliceVal, ShrSlice}
 use denote.Steps.{owned, nothing}
@@ -36,12 +34,13 @@ use Rattle.quant.specs.declared.quantity.Time.{Time}
 use Rattle.quant.proofs.quantity.Time as Q
 use Rattle.quant.proofs.quantity.Time.Laws as Q′
 use Rattle.pulse.specs.declared.list.Pulse.{Pulse}
-use Rattle.pulse.proofs.Lent.{Own}
+use Rattle.pulse.proofs.Lent.{Row, Own}
 use Rattle.pulse.proofs.Records.{spell, IsRecord, has-record, has-word}
 use Rattle.pulse.proofs.list.Pulse as P
 use Rattle.tables.specs.declared.Tables.{Tables}
 use Rattle.tables.proofs.Tables as U
 use Rattle.tables.proofs.Tables.Laws as U′
+use Rattle.tables.proofs.Walked.{valU, IsTables, has-tables}
 use Rattle.merge.specs.declared.taking.Taking.{Taking}
 use Rattle.merge.specs.declared.work.Ends.{Ends}
 use Rattle.merge.specs.declared.work.Span.{Span}
@@ -62,9 +61,6 @@ use Rattle.merge.proofs.work.sum_list as sum-list
 use Rattle.merge.proofs.work.keep as keep
 
 -- ---- machine values
-
-abbrev pub Row : RattleType
-Row = Array f64 5
 
 abbrev pub Rows : Type 0
 Rows = List (List Float)
@@ -90,9 +86,6 @@ valQ = LL.val Q.the-type Q′.the-laws
 abbrev pub IsTime : Time → Type 0
 IsTime t = Is Q.the-row t (valQ t ∷ [])
 
-abbrev pub valU : Tables → Val
-valU = LL.val U.the-type U′.the-laws
-
 abbrev pub valL : Taking → Val
 valL = LL.val L.the-type L′.the-laws
 
@@ -101,9 +94,6 @@ valE = LL.val E.the-type E′.the-laws
 
 abbrev pub valS : Span → Val
 valS = LL.val S.the-type S′.the-laws
-
-abbrev pub IsTables : Tables → Type 0
-IsTables u = Is U.the-row u (valU u ∷ [])
 
 abbrev pub IsTaking : Taking → Type 0
 IsTaking u = Is L.the-row u (valL u ∷ [])
@@ -118,9 +108,6 @@ module _ {M : Type 1} (𝓤 : URA M) (H : Heap 𝓤) (A : Atoms 𝓤) (W : Given
   pub typedQ : (t : Time) → IsTime t → T (hasTy Q′.mir (valQ t)) × WT (valQ t)
   typedQ t g = LL.lawful Q.the-type Q′.the-laws 𝓤 H A W .typed t (valQ t ∷ []) g .0
 
-  pub typedU : (u : Tables) → IsTables u → T (hasTy U′.mir (valU u)) × WT (valU u)
-  typedU u g = LL.lawful U.the-type U′.the-laws 𝓤 H A W .typed u (valU u ∷ []) g .0
-
   pub typedL : (u : Taking) → IsTaking u → T (hasTy L′.mir (valL u)) × WT (valL u)
   typedL u g = LL.lawful L.the-type L′.the-laws 𝓤 H A W .typed u (valL u ∷ []) g .0
 
@@ -131,9 +118,6 @@ module _ {M : Type 1} (𝓤 : URA M) (H : Heap 𝓤) (A : Atoms 𝓤) (W : Given
   typedS s g = LL.lawful S.the-type S′.the-laws 𝓤 H A W .typed s (valS s ∷ []) g .0
 
 module _ {M : Type 1} {𝓤 : URA M} {H : Heap 𝓤} {A : Atoms 𝓤} {K : Type 0} {W : Given 𝓤 H A} {Γ : List (Item 𝓤)} {G : Goal 𝓤 H} where
-  pub has-tables : K → (u : Tables) → IsTables u → Step K W (‵ (U.the-row .own u (valU u ∷ [])) ∷ Γ) G Γ G
-  has-tables k u g = owned k U.the-row (Is U.the-row) (LL.makes U.the-type U′.the-plain 𝓤 H A) u (valU u ∷ []) g
-
   pub has-taking : K → (u : Taking) → IsTaking u → Step K W (‵ (L.the-row .own u (valL u ∷ [])) ∷ Γ) G Γ G
   has-taking k u g = owned k L.the-row (Is L.the-row) (LL.makes L.the-type L′.the-plain 𝓤 H A) u (valL u ∷ []) g
 

@@ -10,7 +10,7 @@ use Rattle.pulse.specs.declared.list.Pulse.{Pulse}
 use Rattle.merge.specs.Join.{joinedTwo, joined}
 use Rattle.merge.specs.Next.{passed, against, bestFrom, popped}
 
-joined-none : (l : List Pulse) → joinedTwo l [] ≡ l
+pub joined-none : (l : List Pulse) → joinedTwo l [] ≡ l
 unfolding joinedTwo
 joined-none [] = refl
 joined-none (x ∷ l) = refl

@@ -13,6 +13,7 @@ use borrow.Author.Tests.{ltb-true, ltb-false, eqb-true, eqb-false}
 use Rattle.pulse.specs.declared.list.Pulse.{Pulse}
 use Rattle.merge.specs.Sum.{scaledP}
 use Rattle.merge.specs.Join.{joinedTwo, joined}
+use Rattle.merge.proofs.Next.{joined-none}
 use Rattle.mixdown.specs.declared.runs.Run.{Run}
 use Rattle.mixdown.specs.declared.runs.Runs.{Runs}
 use Rattle.mixdown.specs.declared.runs.Picked.{Picked}
@@ -20,11 +21,6 @@ use Rattle.mixdown.specs.Runs.{pulseAt, pulsesIn, runIn, runsIn, timeAt,
 use Rattle.mixdown.proofs.Marked.{run-next, run-none}
 
 -- ---- joining
-
-two-nil : (xs : List Pulse) → joinedTwo xs [] ≡ xs
-unfolding joinedTwo
-two-nil [] = refl
-two-nil (x ∷ xs) = refl
 
 nil-two : (ys : List Pulse) → joinedTwo [] ys ≡ ys
 unfolding joinedTwo
@@ -96,7 +92,7 @@ module _ (work : List (List Float)) (marks : List ℕ) (same : length work ≡ l
 
       alone : (p : Picked) → p .some ≡ false → First (suc k) rs p → First k (r ∷ rs) (picked k j)
       unfolding joined
-      alone p e rest = taken (rw (next, rest .none e) (two-nil _ ∙ ap (λ (ps : List Pulse). x ∷ ps) (sym (two-nil _))))
+      alone p e rest = taken (rw (next, rest .none e) (joined-none _ ∙ ap (λ (ps : List Pulse). x ∷ ps) (sym (joined-none _))))
 
       module _ (p : Picked) (e : p .some ≡ true) (rest : First (suc k) rs p) where
         abbrev y : Pulse

@@ -17,12 +17,18 @@ use types.Kit.{Goal, Soaks, Given, Item, ‵, _⊛_, some, later, Seq, Step, ste
 use types.SemTy.{cells, Arr}
 use types.Tokens.{lft-new, lft-end}
 use denote.RattleType.{RattleType}
+use denote.Array.{Array}
+use denote.Builtin.{f64}
 use denote.Shadow.{pureL, pureI}
 use denote.Memory.{mem}
 use denote.Ref.{RefT}
 use denote.Slice.{sliceVal, MutSlice, heres, Room, finally, at-slice, codedHoleys}
 use denote.Lend.{Held, lends-slice, slice-back}
 use denote.Index.{row, whole-out, whole-in, opens-slice, closes-slice}
+
+-- a bin or a work row: five numbers
+abbrev pub Row : RattleType
+Row = Array f64 5
 
 -- what a `&α mut [T]` owns, at the list ys, with the count n
 abbrev pub Own : (R : RattleType) → ℕ → ℕ → ℕ → Lft → GName → List (R .Denot) → Fml

@@ -36,13 +36,14 @@ use Rattle.quant.proofs.refusal.Answer.Laws as N′
 use Rattle.quant.proofs.settings.Settings as S
 use Rattle.quant.proofs.settings.Settings.Laws as S′
 use Rattle.pulse.specs.declared.list.Pulse.{Pulse}
-use Rattle.pulse.proofs.Lent.{Own}
+use Rattle.pulse.proofs.Lent.{Row, Own}
 use Rattle.pulse.proofs.Records.{has-word}
 use Rattle.pulse.proofs.list.Pulse as P
 use Rattle.tables.specs.declared.Tables.{Tables}
+use Rattle.tables.proofs.Walked.{valU, IsTables, has-tables}
 use Rattle.merge.specs.declared.taking.Taking.{Taking}
 use Rattle.merge.specs.declared.work.Ends.{Ends}
-use Rattle.merge.proofs.Callees.{Row, Rows, valU, valL, valE, IsTables, IsTaking, IsEnds, has-tables, has-taking, has-ends}
+use Rattle.merge.proofs.Callees.{Rows, valL, valE, IsTaking, IsEnds, has-taking, has-ends}
 use Rattle.merge.proofs.work.sum_lists as sum-lists
 use Rattle.crosstalk.specs.declared.names.Crosstalk.{Crosstalk}
 use Rattle.crosstalk.proofs.names.Crosstalk as X

@@ -17,12 +17,13 @@ use denote.Signature.{plain, typesAt}
 use denote.Struct.Laws as LL
 use denote.Triple.Walked.{Stays, stay-none-slice, gave-slice, stay-none, AllGo, goes-none-slice, goes-gave-slice, goes-none}
 use denote.Exit.{yes}
+use Rattle.pulse.proofs.Lent.{Row}
 use Rattle.pulse.specs.declared.list.Pulse.{Pulse}
 use Rattle.pulse.proofs.list.Pulse as P
 use Rattle.tables.specs.declared.Tables.{Tables}
 use Rattle.tables.proofs.Tables as U
 use Rattle.tables.proofs.Tables.Laws as U′
-use Rattle.merge.proofs.Callees.{Row, Rows}
+use Rattle.merge.proofs.Callees.{Rows}
 use Rattle.crosstalk.specs.declared.names.Crosstalk.{Crosstalk}
 use Rattle.crosstalk.proofs.names.Crosstalk as X
 use Rattle.crosstalk.proofs.names.Crosstalk.Laws as X′

@@ -141,7 +141,7 @@ unfolding namesSize
 size-most [] = omega arith
 size-most (n ∷ l) = omega (arith, two-most n, size-most l)
 
-factors-long : (l : List ℕ) → length (factorsText l) ≡ 24 * length l
+pub factors-long : (l : List ℕ) → length (factorsText l) ≡ 24 * length l
 unfolding factorsText factorKey
 factors-long [] = refl
 factors-long (b ∷ l) =

@@ -14,10 +14,10 @@ use lib.Seq.{append-snoc}
 use Rattle.hex.specs.Hex.{digits}
 use Rattle.quant.specs.Name.{every, isName, bytesOf}
 use Rattle.quant.specs.declared.name.Name.{Name}
-use Rattle.hex.proofs.Number.{length-digits}
 use Rattle.quant.proofs.Naming.{well-formed, length-bytes}
 use Rattle.exact.proofs.Truth.{both}
 use Rattle.sheet.specs.Sheet.{channelsKey, columnKey, rowKey, factorKey, isIn, SoFar, nothing, complete, accepts, readFrom, cut, outcome, Block, Sheet, rowNames, goodNames, single, among, finiteBits, fullBlocks, WellFormed, countText, columnsText, factorsText, blocksText, sheetText}
+use Rattle.sheet.proofs.Printing.{factors-long}
 use Rattle.sheet_laws.specs.Words.{factorsOf, contents}
 use Rattle.sheet_laws.proofs.Lines.{plain, plain-above, every-both, plain-name, plain-digits, Accepts, line-taken}
 use Rattle.sheet_laws.proofs.Names.{good-one, is-in, fresh}
@@ -114,11 +114,6 @@ columns-long [] good = omega arith
 columns-long (n ∷ ns) good =
     let goods = both (isName n) (goodNames ns) good in
     simp length-append (omega (arith, name-long n (goods .0), columns-long ns (goods .1)))
-
-factors-long : (fs : List ℕ) → length (factorsText fs) ≡ 24 * length fs
-unfolding factorsText factorKey
-factors-long [] = refl
-factors-long (f ∷ fs) = simp (length-append, length-digits) (omega (arith, factors-long fs))
 
 blocks-long : (columns : List Name) (count : ℕ) (bs : List Block) → goodNames columns ≡ true → count ≤ 8 → among columns (rowNames bs) ≡ true
     → fullBlocks count bs ≡ true → length (blocksText bs) ≤ 213 * length bs

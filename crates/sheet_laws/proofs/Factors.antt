@@ -16,6 +16,7 @@ use Rattle.quant.specs.declared.name.Name.{Name}
 use Rattle.quant.proofs.Naming.{same-exactly}
 use Rattle.sheet.specs.Sheet.{position, SoFar, accepts, answerOf, blank, eight, namesOf, doubles, under, rowsFor, matrixOf, Sheet, single, WellFormed}
 use Rattle.sheet.proofs.Each.{same-self}
+use Rattle.sheet.proofs.Filling.{doubles-long}
 use Rattle.sheet_laws.specs.Words.{In, here, there, contents, Reads, AtColumn, first, later, Stands, countIn, factorFor, factorRead, Entry, entries, SameUpToOrder}
 use Rattle.sheet_laws.proofs.Names.{single-rest}
 use Rattle.sheet_laws.proofs.Once.{rows-are}
@@ -68,11 +69,6 @@ unfolding doubles
 doubles-at [] i = refl
 doubles-at (f ∷ fs) zero = refl
 doubles-at (f ∷ fs) (suc i) = doubles-at fs i
-
-pub doubles-long : (fs : List ℕ) → length (doubles fs) ≡ length fs
-unfolding doubles
-doubles-long [] = refl
-doubles-long (f ∷ fs) = ap suc (doubles-long fs)
 
 module _ (t : SoFar) (count : ℕ) where
   pub rows-long : (ns : List Name) → ((n : Name) → In n ns → length (under t n) ≡ count) → length (rowsFor t ns) ≡ length ns * count

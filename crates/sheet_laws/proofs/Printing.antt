@@ -19,10 +19,11 @@ use Rattle.exact.proofs.Truth.{both, number-if-finite}
 use Rattle.quant.proofs.Places.{below-or}
 use Rattle.sheet.specs.declared.print.Printed.{Printed}
 use Rattle.sheet.specs.Sheet.{cut, SoFar, nothing, Outcome, accepts, refuses, readFrom, outcome, answerOf, blank, eight, namesOf, doubles, under, rowsFor, matrixOf, Block, Sheet, finiteBits, WellFormed, sheetText, patterns, blocksOf, sheetOf, allFinite, printFits, printedOf, bytesAfter}
+use Rattle.sheet.proofs.Filling.{doubles-long, doubles-append}
 use Rattle.sheet_laws.specs.Words.{In, here, there, contents, Reads, countIn, textPrinted, printAnswers, printLeaves, ReadAlike, PrintedBack}
 use Rattle.sheet_laws.proofs.Accepted.{accepted, sheet-long}
 use Rattle.sheet_laws.proofs.Arranged.{ordered, arranged, arranged-formed, arranged-matrix, fine, in-order}
-use Rattle.sheet_laws.proofs.Factors.{doubles-long, eight-are, rows-long, wide}
+use Rattle.sheet_laws.proofs.Factors.{eight-are, rows-long, wide}
 
 -- ---- doubles and their bits
 
@@ -33,11 +34,6 @@ patterns-back (f ∷ fs) e =
     let outer = both (ltb f (2 ^ 64) && finite (ofBits binary64 f)) (finiteBits fs) e in
     let inner = both (ltb f (2 ^ 64)) (finite (ofBits binary64 f)) (outer .0) in
     rw (toBits-ofBits binary64 f (ltb-true f (2 ^ 64) (inner .0)) (number-if-finite (ofBits binary64 f) (inner .1)), patterns-back fs (outer .1))
-
-doubles-both : (a b : List ℕ) → doubles (a ++ b) ≡ doubles a ++ doubles b
-unfolding doubles
-doubles-both [] b = refl
-doubles-both (f ∷ fs) b = ap (λ (l : List Float). ofBits binary64 f ∷ l) (doubles-both fs b)
 
 all-finite : (fs more : List ℕ) → finiteBits fs ≡ true → allFinite (doubles more) ≡ true → allFinite (doubles (fs ++ more)) ≡ true
 unfolding finiteBits doubles allFinite
@@ -59,7 +55,7 @@ module _ (t : SoFar) (count : ℕ) where
       let more = doubles (rowsFor t ns) ++ rest in
       let long : length row ≡ count = doubles-long (under t n) ∙ wide n here in
       let parted : doubles (under t n ++ rowsFor t ns) ++ rest ≡ row ++ more =
-      rw (doubles-both (under t n) (rowsFor t ns)) (append-assoc row (doubles (rowsFor t ns)) rest) in
+      rw (doubles-append (under t n) (rowsFor t ns)) (append-assoc row (doubles (rowsFor t ns)) rest) in
       rw (
         parted,
         take-at row more count long,

@@ -1,3 +1,4 @@
 pub mod Sizes
 pub mod Finding
 pub mod Laws
+pub mod Walked

@@ -48,7 +48,7 @@ use denote.Triple.Walked.{says, Stays, gave-slice, stay-none, walkOf, goes-gave-
 use denote.Exit.{yes}
 use borrow.Rule.Array.Share.{room-take}
 use Rattle.pulse.specs.declared.list.Pulse.{Pulse}
-use Rattle.pulse.proofs.Lent.{Own}
+use Rattle.pulse.proofs.Lent.{Row, Own}
 use Rattle.pulse.proofs.Walk.{cell, part, into, calls-plain}
 use Rattle.pulse.proofs.Records.{has-word}
 use Rattle.pulse.proofs.list.Pulse as P
@@ -59,9 +59,10 @@ use Rattle.tables.proofs.Tables as U
 use Rattle.tables.proofs.Tables.Laws as U′
 use Rattle.tables.proofs.Tabled as X
 use Rattle.tables.proofs.Tabled.Laws as X′
+use Rattle.tables.proofs.Walked.{valU, IsTables, typedU, has-tables}
 use Rattle.commands.specs.declared.command.Arranged.{Arranged}
 use Rattle.commands.specs.Run.{ranTo, executed}
-use Rattle.commands.proofs.Callees.{Row, valU, valX, IsTables, IsTabled, typedU, has-tables, has-tabled}
+use Rattle.commands.proofs.Callees.{valX, IsTabled, has-tabled}
 use Rattle.commands.proofs.command.Arranged as N
 use Rattle.commands.proofs.command.Arranged.Laws as N′
 use Rattle.commands.proofs.execute.execute as ex

@@ -48,6 +48,7 @@ use denote.Exit.{yes}
 use Rattle.quant.specs.declared.refusal.Answer.{Answer}
 use Rattle.quant.proofs.refusal.Answer as N
 use Rattle.quant.proofs.refusal.Answer.Laws as N′
+use Rattle.pulse.proofs.Lent.{Row}
 use Rattle.pulse.specs.declared.list.Pulse.{Pulse}
 use Rattle.pulse.proofs.Walk.{cell, part, into}
 use Rattle.pulse.proofs.list.Pulse as P
@@ -55,7 +56,8 @@ use Rattle.pulse.proofs.list.Pulse.Laws as P′
 use Rattle.tables.specs.declared.Tables.{Tables}
 use Rattle.tables.proofs.Tables as U
 use Rattle.tables.proofs.Tables.Laws as U′
-use Rattle.merge.proofs.Callees.{Row, Rows, valU, IsTables, typedU, has-tables}
+use Rattle.tables.proofs.Walked.{valU, IsTables, typedU, has-tables}
+use Rattle.merge.proofs.Callees.{Rows}
 use Rattle.crosstalk.specs.declared.names.Crosstalk.{Crosstalk}
 use Rattle.crosstalk.proofs.names.Crosstalk as X
 use Rattle.crosstalk.proofs.names.Crosstalk.Laws as X′

@@ -40,17 +40,19 @@ use denote.Triple.Walked.{says, walkOf, Walks, ends-at, walked, walk-meets}
 use Rattle.quant.specs.declared.refusal.Answer.{Answer}
 use Rattle.quant.proofs.refusal.Answer as N
 use Rattle.quant.proofs.refusal.Answer.Laws as N′
+use Rattle.pulse.proofs.Lent.{Row}
 use Rattle.pulse.specs.declared.list.Pulse.{Pulse}
 use Rattle.pulse.proofs.Walk.{is-true, is-false, word, cell, part, into}
 use Rattle.pulse.proofs.list.Pulse as P
 use Rattle.tables.specs.declared.Tables.{Tables}
 use Rattle.tables.proofs.Tables as U
 use Rattle.tables.proofs.Tables.Laws as U′
+use Rattle.tables.proofs.Walked.{valU, IsTables, typedU, has-tables}
 use Rattle.merge.specs.declared.taking.Taking.{Taking}
 use Rattle.merge.specs.declared.work.Ends.{Ends}
 use Rattle.merge.specs.Taking.{partsIn}
 use Rattle.merge.specs.Work.{gathered, gatheredOf}
-use Rattle.merge.proofs.Callees.{Row, Rows, slicesP, refW, sliceW, refM, sliceM, valU, valE, IsTables, IsEnds, typedU, has-tables}
+use Rattle.merge.proofs.Callees.{Rows, slicesP, refW, sliceW, refM, sliceM, valE, IsEnds}
 use Rattle.merge.proofs.Lending.{lends-both, come-both}
 use Rattle.merge.proofs.work.Ends as E
 use Rattle.merge.proofs.work.Ends.Laws as E′

@@ -52,7 +52,7 @@ use denote.Exit.{yes}
 use Rattle.quant.specs.declared.refusal.Refusal.the-variants.{WrongSize}
 use Rattle.pulse.specs.declared.list.Pulse.{Pulse}
 use Rattle.pulse.specs.List.{stored}
-use Rattle.pulse.proofs.Lent.{Own, lends, comes}
+use Rattle.pulse.proofs.Lent.{Row, Own, lends, comes}
 use Rattle.pulse.proofs.Walk.{is-true, is-false, word, after, cell, part, into, again-into, calls-plain}
 use Rattle.pulse.proofs.list.Pulse as P
 use Rattle.pulse.proofs.list.store as put
@@ -65,12 +65,13 @@ use Rattle.tables.proofs.Tables as U
 use Rattle.tables.proofs.Tables.Laws as U′
 use Rattle.tables.proofs.Tabled as X
 use Rattle.tables.proofs.Tabled.Laws as X′
+use Rattle.tables.proofs.Walked.{valU, IsTables, typedU, has-tables}
 use Rattle.commands.specs.declared.command.Arranged.{Arranged}
 use Rattle.commands.specs.declared.step.Step.{Step}
 use Rattle.commands.specs.Step.{binsAfter, pulsesAfter}
 use Rattle.commands.specs.Run.{ranTo, refusedAt, sizesFit, executed}
 use Rattle.commands.proofs.Turns.{none, at-end, stopped, rows-fit, Upto, begun, command, step, next}
-use Rattle.commands.proofs.Callees.{Row, bytes, sliceC, refB, sliceB, refP, sliceP, valU, valN, valS, valX, IsTables, IsStep, IsTabled, typedU, typedN, typedX, parts, has-tables, has-tabled, Fits as SizesFit, Misfits, Acts, Refuses, Stores, Ends, fits-of, misfit-of, refused-of, done-of, to-fits, goes-fits, to-misfit, goes-misfit, to-refused, goes-refused, to-done, goes-done, to-act, goes-act, to-store, goes-store}
+use Rattle.commands.proofs.Callees.{bytes, sliceC, refB, sliceB, refP, sliceP, valN, valS, valX, IsStep, IsTabled, typedN, typedX, parts, has-tabled, Fits as SizesFit, Misfits, Acts, Refuses, Stores, Ends, fits-of, misfit-of, refused-of, done-of, to-fits, goes-fits, to-misfit, goes-misfit, to-refused, goes-refused, to-done, goes-done, to-act, goes-act, to-store, goes-store}
 use Rattle.commands.proofs.command.Arranged as N
 use Rattle.commands.proofs.command.Arranged.Laws as N′
 use Rattle.commands.proofs.step.Step as S

@@ -50,7 +50,7 @@ use Rattle.quant.specs.declared.quantity.Time.{Time}
 use Rattle.quant.proofs.quantity.Time as Q
 use Rattle.quant.proofs.quantity.Time.Laws as Q′
 use Rattle.pulse.specs.declared.list.Pulse.{Pulse}
-use Rattle.pulse.proofs.Lent.{Own}
+use Rattle.pulse.proofs.Lent.{Row, Own}
 use Rattle.pulse.proofs.Placed.{none}
 use Rattle.pulse.proofs.Records.{spell, bytes, typed, has-word}
 use Rattle.pulse.proofs.Walk.{word, after, cell, part, into}
@@ -59,7 +59,7 @@ use Rattle.pulse.proofs.list.Pulse.Laws as P′
 use Rattle.merge.specs.Sum.{summed}
 use Rattle.merge.specs.Work.{laid, laidOn}
 use Rattle.merge.specs.Keep.{keptIn}
-use Rattle.merge.proofs.Callees.{Row, Rows, slicesP, refW, sliceW, refM, sliceM, valQ, IsTime, typedQ, has-time, Keeps, to-keep, goes-keep}
+use Rattle.merge.proofs.Callees.{Rows, slicesP, refW, sliceW, refM, sliceM, valQ, IsTime, typedQ, has-time, Keeps, to-keep, goes-keep}
 use Rattle.merge.proofs.Lending.{lends-both, come-both}
 use Rattle.merge.proofs.Turns.{Upto, begin, next, at-end}
 use Rattle.merge.proofs.work.keep as keep

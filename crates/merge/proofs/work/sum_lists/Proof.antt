@@ -48,12 +48,13 @@ use denote.Triple.Walked.{says, Stays, stay-slice, stay-none-slice, stay-none, w
 use denote.Exit.{yes}
 use Rattle.quant.specs.declared.quantity.Time.{Time}
 use Rattle.pulse.specs.declared.list.Pulse.{Pulse}
-use Rattle.pulse.proofs.Lent.{Own}
+use Rattle.pulse.proofs.Lent.{Row, Own}
 use Rattle.pulse.proofs.Walk.{is-false, word, after, cell, part, into, calls-plain}
 use Rattle.pulse.proofs.list.Pulse as P
 use Rattle.tables.specs.declared.Tables.{Tables}
 use Rattle.tables.proofs.Tables as U
 use Rattle.tables.proofs.Tables.Laws as U′
+use Rattle.tables.proofs.Walked.{valU, IsTables, typedU, has-tables}
 use Rattle.merge.specs.declared.taking.Taking.{Taking}
 use Rattle.merge.specs.declared.work.Ends.{Ends}
 use Rattle.merge.specs.declared.work.Span.{Span}
@@ -61,7 +62,7 @@ use Rattle.merge.specs.Sum.{summed}
 use Rattle.merge.specs.Taking.{partsIn}
 use Rattle.merge.specs.Work.{Laid, laid, laidOn, sizesFit, noEnds, gathered, gatheredOf}
 use Rattle.merge.specs.Keep.{listsIn, spanOf, withEnd}
-use Rattle.merge.proofs.Callees.{Row, Rows, slicesP, refW, sliceW, refM, sliceM, valU, valL, valE, valS, IsTables, IsTaking, IsEnds, IsSpan, typedU, typedL, typedE, typedS, has-tables, has-taking, has-ends, from-fits, count-fits, time-of, eight-places, eight-factors, NoEnds, SizesFit, Counts, Finds, Notes, Sums, none-told, fit-told, count-told, span-told, end-told, to-none, goes-none as goes-none-ends, to-fit, goes-fit, to-count, goes-count, to-find, goes-find, to-note, goes-note, to-sum, goes-sum}
+use Rattle.merge.proofs.Callees.{Rows, slicesP, refW, sliceW, refM, sliceM, valL, valE, valS, IsTaking, IsEnds, IsSpan, typedL, typedE, typedS, has-taking, has-ends, from-fits, count-fits, time-of, eight-places, eight-factors, NoEnds, SizesFit, Counts, Finds, Notes, Sums, none-told, fit-told, count-told, span-told, end-told, to-none, goes-none as goes-none-ends, to-fit, goes-fit, to-count, goes-count, to-find, goes-find, to-note, goes-note, to-sum, goes-sum}
 use Rattle.merge.proofs.Lending.{lends-both, come-both}
 use Rattle.merge.proofs.Lists.{Sizes, sizes, at-most-8, Upto, begun, place, over-all, Asked, asked, next}
 use Rattle.merge.proofs.taking.Taking as L
