@@ -4,7 +4,7 @@ ghost use lib.ListN.{length};
 use super::state::least;
 use decimal::print::pattern;
 use decimal::print::put_double;
-use quant::name::Name;
+use naming::Name;
 use quant::refusal::Answer;
 use quant::refusal::number;
 use tables::Channel;
@@ -86,7 +86,7 @@ fn show_state(c: Channel) {
 
 fn show_name(n: Name) {
     let mut bytes = [0u8; 16];
-    quant::name::write(n, &mut bytes, 0);
+    naming::write(n, &mut bytes, 0);
     io::write_all(1, &bytes[..least(n.len, 16)]);
 }
 

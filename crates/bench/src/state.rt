@@ -10,7 +10,7 @@ use crosstalk::names::Crosstalk;
 use fields::value::Called;
 use fields::value::name_in;
 use job::line::Line;
-use quant::name::Name;
+use naming::Name;
 use quant::quantity::Amplitude;
 use quant::quantity::Frequency;
 use quant::quantity::Time;

@@ -5,11 +5,11 @@ use lib.Ieee.{add, sub, mul, div, rem, neg, lt, eq, le, sum, round, ofBits, ofIn
 use Rattle.ieee.specs.Ceiling.{ceiling}
 use Rattle.ieee.specs.Cut.{cutOf}
 use Rattle.ieee.specs.Exp2.{exp2Of}
-use Rattle.ieee.specs.Fused.{fma}
+use Rattle.fma.specs.Fused.{fma}
 use Rattle.trig.specs.Reduce.{wrapped, reduced}
 use Rattle.trig.specs.Trig.{horner, cosineAt, sineAt, cosineOf, sineOf}
 use Rattle.rows.specs.Rows.{allFinite}
-use Rattle.quant.specs.Name.{nameByte, every, lowBytes, bytesOfWord, sixteen, bytesOf, pastEnd, isName, sameName}
+use Rattle.naming.specs.Name.{nameByte, every, lowBytes, bytesOfWord, sixteen, bytesOf, pastEnd, isName, sameName}
 use Rattle.iir.specs.Section.{ran, sectionsFrom, finiteSections}
 use Rattle.iir.specs.Filter.{given, pipelined, turns}
 use Rattle.shape.specs.Segment.{points}

@@ -4,8 +4,8 @@ use mathlib.Core.Bool.{Bool, true, false, _&&_, _||_, not, cond}
 use lib.Ieee.{Float, binary64, add, lt}
 use lib.Ieee.Scale.{finite}
 use Rattle.exact.specs.Doubles.{nought}
-use Rattle.quant.specs.declared.name.Name.{Name}
-use Rattle.quant.specs.Name.{isName}
+use Rattle.naming.specs.declared.Name.{Name}
+use Rattle.naming.specs.Name.{isName}
 use Rattle.tables.specs.declared.Tables.{Tables}
 use Rattle.tables.specs.Tables.{noName}
 use Rattle.commands.specs.declared.command.Play.{Play}

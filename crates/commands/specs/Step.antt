@@ -6,10 +6,10 @@ use mathlib.Core.List.{List}
 use lib.Ieee.{Float}
 use lib.ListN.{replicate, set}
 use Rattle.exact.specs.Doubles.{nought}
-use Rattle.quant.specs.declared.name.Name.{Name}
+use Rattle.naming.specs.declared.Name.{Name}
 use Rattle.quant.specs.declared.refusal.Refusal.{Refusal}
 use Rattle.quant.specs.declared.refusal.Refusal.the-variants.{Unfit, UnknownChannel, NotFinite}
-use Rattle.quant.specs.Name.{sameName}
+use Rattle.naming.specs.Name.{sameName}
 use Rattle.executor.specs.declared.osc.OscState.{OscState}
 use Rattle.executor.specs.declared.osc.Moved.{Moved}
 use Rattle.executor.specs.declared.osc.Swapped.{Swapped}

@@ -2,9 +2,9 @@
 ghost use mathlib.Core.Path.{_≡_};
 ghost use Rattle.commands.specs.Command.{goodNames, goodNumbers, good, wellFormed, required, tooLong};
 use ieee::finite::is_finite;
+use naming::Name;
+use naming::is_name;
 use quant::judge::both;
-use quant::name::Name;
-use quant::name::is_name;
 use quant::quantity::Amplitude;
 use quant::quantity::Frequency;
 use quant::quantity::Phase;

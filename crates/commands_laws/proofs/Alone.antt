@@ -11,9 +11,9 @@ use lib.Ieee.{Float}
 use lib.ListN.{length, take, drop, set, length-take, length-drop}
 use lib.Seq.{getD-set-same, take-suc-set, take-set-lt, drop-set-add}
 use Rattle.exact.proofs.Truth.{both}
-use Rattle.quant.specs.declared.name.Name.{Name}
-use Rattle.quant.specs.Name.{isName, sameName}
-use Rattle.quant.proofs.Naming.{same-exactly}
+use Rattle.naming.specs.declared.Name.{Name}
+use Rattle.naming.specs.Name.{isName, sameName}
+use Rattle.naming.proofs.Named.{same-exactly}
 use Rattle.executor.specs.declared.osc.OscState.{OscState}
 use Rattle.pulse.specs.declared.list.Pulse.{Pulse}
 use Rattle.pulse.specs.declared.weight.Weight.{Weight}

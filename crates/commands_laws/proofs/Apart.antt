@@ -10,9 +10,9 @@ use lib.Dec.{ltb}
 use lib.Ieee.{Float}
 use lib.ListN.{take, drop, getD, set, length-take}
 use lib.Seq.{getD-set-other, getD-take, map-set-same, take-set-le, drop-set-lt}
-use Rattle.quant.specs.declared.name.Name.{Name}
-use Rattle.quant.specs.Name.{sameName}
-use Rattle.quant.proofs.Naming.{same-exactly}
+use Rattle.naming.specs.declared.Name.{Name}
+use Rattle.naming.specs.Name.{sameName}
+use Rattle.naming.proofs.Named.{same-exactly}
 use Rattle.pulse.specs.declared.list.Pulse.{Pulse}
 use Rattle.pulse.specs.List.{stored}
 use Rattle.tables.specs.declared.Channel.{Channel}

@@ -9,7 +9,7 @@ use lib.Ieee.{Float, binary64, add, lt}
 use lib.Ieee.Scale.{finite}
 use lib.ListN.{length}
 use Rattle.exact.specs.Doubles.{nought}
-use Rattle.quant.specs.declared.name.Name.{Name}
+use Rattle.naming.specs.declared.Name.{Name}
 use Rattle.quant.specs.declared.refusal.Refusal.{Refusal}
 use Rattle.quant.specs.declared.refusal.Refusal.the-variants.{Malformed, Full, Oversize, UnknownShape, NegativePlateau, NotFinite}
 use Rattle.executor.specs.declared.osc.OscState.{OscState}

@@ -5,10 +5,10 @@ use mathlib.Core.Path.{_≡_}
 use mathlib.Core.Bool.{Bool, true, false, _&&_, not, cond}
 use mathlib.Core.List.{List, [], _∷_}
 use lib.Ieee.{Float}
-use Rattle.quant.specs.declared.name.Name.{Name}
+use Rattle.naming.specs.declared.Name.{Name}
 use Rattle.quant.specs.declared.refusal.Answer.{Answer}
 use Rattle.quant.specs.declared.refusal.Answer.the-variants.{Done, Refused}
-use Rattle.quant.specs.Name.{sameName}
+use Rattle.naming.specs.Name.{sameName}
 use Rattle.pulse.specs.declared.list.Pulse.{Pulse}
 use Rattle.tables.specs.declared.Tables.{Tables}
 use Rattle.tables.specs.declared.Found.the-variants.{At}

@@ -8,8 +8,8 @@ use mathlib.Core.List.{List, [], _∷_}
 use borrow.Author.Tests.{leb-true}
 use lib.Dec.{leb}
 use lib.ListN.{length, length-take}
-use Rattle.quant.specs.declared.name.Name.{Name}
-use Rattle.quant.specs.Name.{sameName}
+use Rattle.naming.specs.declared.Name.{Name}
+use Rattle.naming.specs.Name.{sameName}
 use Rattle.exact.proofs.Truth.{both}
 use Rattle.tables.specs.declared.Found.the-variants.{At}
 use Rattle.crosstalk.specs.declared.names.Crosstalk.{Crosstalk}

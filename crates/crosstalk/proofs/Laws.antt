@@ -10,10 +10,10 @@ use lib.Ieee.{Float, nan, eq, ofBits, ofFields}
 use lib.ListN.{length, take, drop, getD, length-map, length-take, length-drop}
 use lib.Seq.{take-at, getD-take, getD-drop, length-take-le}
 use Rattle.exact.specs.Doubles.{nought, one}
-use Rattle.quant.specs.declared.name.Name.{Name}
+use Rattle.naming.specs.declared.Name.{Name}
 use Rattle.quant.specs.declared.refusal.Refusal.{Refusal}
-use Rattle.quant.specs.Name.{sameName}
-use Rattle.quant.proofs.Naming.{same-exactly}
+use Rattle.naming.specs.Name.{sameName}
+use Rattle.naming.proofs.Named.{same-exactly}
 use Rattle.tables.specs.declared.Found.{Found}
 use Rattle.tables.specs.declared.Found.the-variants.{At, Nowhere}
 use Rattle.tables.specs.declared.Tables.{Tables}

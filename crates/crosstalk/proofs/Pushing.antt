@@ -7,7 +7,7 @@ use mathlib.Core.List.{List, [], _∷_, _++_, map, append-assoc, append-nil}
 use lib.Ieee.{Float, eq}
 use lib.ListN.{length, drop, set, replicate, length-append, length-map}
 use Rattle.exact.specs.Doubles.{nought}
-use Rattle.quant.specs.declared.name.Name.{Name}
+use Rattle.naming.specs.declared.Name.{Name}
 use Rattle.tables.specs.declared.Found.{Found}
 use Rattle.tables.specs.declared.Found.the-variants.{At, Nowhere}
 use Rattle.tables.specs.declared.Tables.{Tables}

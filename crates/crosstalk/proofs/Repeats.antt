@@ -8,9 +8,9 @@ use mathlib.Core.List.{List, [], _∷_}
 use borrow.Author.Tests.{eqb-true, eqb-false}
 use lib.Dec.{eqb}
 use lib.ListN.{length, getD}
-use Rattle.quant.specs.declared.name.Name.{Name}
-use Rattle.quant.specs.Name.{sameName}
-use Rattle.quant.proofs.Naming.{same-exactly}
+use Rattle.naming.specs.declared.Name.{Name}
+use Rattle.naming.specs.Name.{sameName}
+use Rattle.naming.proofs.Named.{same-exactly}
 use Rattle.tables.specs.Tables.{noName}
 use Rattle.crosstalk.specs.Crosstalk.{repeatOf, doubledFrom, doubledAt}
 

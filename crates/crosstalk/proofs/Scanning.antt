@@ -6,8 +6,8 @@ use borrow.Author.Tests.{ne-eqb}
 use mathlib.Core.Path.{_≡_}
 use mathlib.Core.Bool.{true, false}
 use mathlib.Core.List.{List, [], _∷_}
-use Rattle.quant.specs.declared.name.Name.{Name}
-use Rattle.quant.specs.Name.{isName, sameName}
+use Rattle.naming.specs.declared.Name.{Name}
+use Rattle.naming.specs.Name.{isName, sameName}
 use Rattle.tables.specs.declared.Found.the-variants.{At, Nowhere}
 use Rattle.tables.specs.declared.Tables.{Tables}
 use Rattle.tables.specs.Tables.{found}

@@ -7,11 +7,11 @@ use lib.Dec.{leb, eqb}
 use lib.Ieee.{Float, eq}
 use lib.ListN.{length, take, drop, set}
 use Rattle.exact.specs.Doubles.{nought, one}
-use Rattle.quant.specs.declared.name.Name.{Name}
+use Rattle.naming.specs.declared.Name.{Name}
 use Rattle.quant.specs.declared.refusal.Answer.the-variants.{Done, Refused}
 use Rattle.quant.specs.declared.refusal.Refusal.{Refusal}
 use Rattle.quant.specs.declared.refusal.Refusal.the-variants as why
-use Rattle.quant.specs.Name.{isName, sameName}
+use Rattle.naming.specs.Name.{isName, sameName}
 use Rattle.rows.specs.Rows.{allFinite}
 use Rattle.tables.specs.declared.Found.{Found}
 use Rattle.tables.specs.declared.Found.the-variants.{At, Nowhere}

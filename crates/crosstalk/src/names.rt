@@ -2,9 +2,9 @@
 ghost use mathlib.Core.Path.{_≡_};
 ghost use Prim.Native.Nat.{_≤_};
 ghost use Rattle.crosstalk.specs.Crosstalk.{namesIn, allNames, doubledAt, allKnown, rowOf};
-use quant::name::Name;
-use quant::name::is_name;
-use quant::name::same;
+use naming::Name;
+use naming::is_name;
+use naming::same;
 use tables::Found;
 use tables::Tables;
 use tables::find;

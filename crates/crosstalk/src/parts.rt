@@ -8,7 +8,7 @@ ghost use Rattle.crosstalk.specs.Crosstalk.{namesIn, partsFor, rowParts,
 use super::names::Crosstalk;
 use super::names::row_of;
 use merge::taking::Taking;
-use quant::name::Name;
+use naming::Name;
 use quant::refusal::Answer;
 use quant::refusal::Refusal;
 use tables::Found;

@@ -1,9 +1,20 @@
--- Laws of naturals that the library lacks: a difference times a number, and orders of equal fractions. Assumes nothing.
-use mathlib.Core.Path.{_≡_, sym, ap, _∙_, subst}
-use Prim.Native.Nat.{ℕ, _-_, _*_, _<_}
+-- Laws of naturals that the library lacks: which of two is below the other, a difference times a number, and orders of equal fractions.
+-- Assumes nothing.
+use mathlib.Core.Path.{_≡_, refl, sym, ap, _∙_, subst}
+use mathlib.Core.Bool.{Bool, true, false}
+use mathlib.Core.Logic.{_⊎_, inl, inr}
+use Prim.Native.Nat.{ℕ, _-_, _*_, _<_, _≤_}
 use native.Mathlib.Nat.{lt-of-mul-lt-mul-right, mul-comm, mul-sub, mul-lt-mul-of-pos-right}
+use borrow.Author.Tests.{ltb-true, ltb-false}
 use lib.Dec.{ltb}
 use Rattle.exact.proofs.Order.{ltb-same}
+
+pub below-or : (a b : ℕ) → (a < b) ⊎ (b ≤ a)
+below-or a b = by (ltb a b) refl
+  where
+    by : (t : Bool) → ltb a b ≡ t → (a < b) ⊎ (b ≤ a)
+    by true e = inl (ltb-true a b e)
+    by false e = inr (ltb-false a b e)
 
 pub sub-mul : (x y u : ℕ) → (x - y) * u ≡ x * u - y * u
 sub-mul x y u = mul-comm (x - y) u ∙ mul-sub u x y ∙ ap (λ (z : ℕ). z - u * y) (mul-comm u x) ∙ ap (λ (z : ℕ). x * u - z) (mul-comm u y)

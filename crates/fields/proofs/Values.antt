@@ -25,7 +25,7 @@ use Rattle.fields.specs.declared.words.Span.the-variants.{At, Missing}
 use Rattle.fields.specs.declared.value.Flag.the-variants as flag
 use Rattle.fields.specs.declared.value.Level.the-variants as level
 use Rattle.fields.specs.Words.{wordIn, Found, bare}
-use Rattle.quant.specs.Name.{accepted, isName, named, namingOf}
+use Rattle.naming.specs.Name.{accepted, isName, named, namingOf}
 use Rattle.fields.specs.Value.{flagBy, flagOf, levelOf, nameOf, signed}
 
 module _ (line : List ℕ) (k : ℕ) (key : List ℕ) (r : Span) (found : Found line k key r) where

@@ -11,10 +11,10 @@ use Rattle.decimal.specs.declared.digits.Digits.{Digits}
 use Rattle.decimal.specs.declared.digits.Digits.the-variants as digits
 use Rattle.decimal.specs.declared.number.Number.{Number}
 use Rattle.decimal.specs.declared.number.Number.the-variants as number
-use Rattle.quant.specs.Name.{namingOf}
-use Rattle.quant.specs.declared.name.Name.{Name}
-use Rattle.quant.specs.declared.name.Naming.{Naming}
-use Rattle.quant.specs.declared.name.Naming.the-variants as naming
+use Rattle.naming.specs.Name.{namingOf}
+use Rattle.naming.specs.declared.Name.{Name}
+use Rattle.naming.specs.declared.Naming.{Naming}
+use Rattle.naming.specs.declared.Naming.the-variants as naming
 use Rattle.sheet.specs.Sheet.{Behind, value, other, behind, blank}
 use Rattle.fields.specs.declared.pair.Pair.{Pair}
 use Rattle.fields.specs.declared.pair.Pair.the-variants as pair

@@ -7,9 +7,9 @@ use super::words::value_at;
 use decimal::digits::Digits;
 use decimal::digits::figures;
 use decimal::number::Number;
-use quant::name::Name;
-use quant::name::Naming;
-use quant::name::from_bytes;
+use naming::Name;
+use naming::Naming;
+use naming::from_bytes;
 use sheet::names::blank;
 
 // A name that breaks document 01's rule is handed on as the name of no bytes, which breaks it too.

@@ -4,7 +4,7 @@ ghost use lib.Ieee.{binary64};
 ghost use Rattle.executor.specs.Osc.{shiftedPhase, setPhaseTo, shiftedFreq, setFreqTo, swappedPhases};
 ghost use Rattle.fir.specs.Fir.{Fir};
 ghost use Rattle.ieee.specs.Ceiling.{ceiling};
-ghost use Rattle.ieee.specs.Fused.{fma};
+ghost use Rattle.fma.specs.Fused.{fma};
 ghost use Rattle.host.specs.Coded.{Coded};
 ghost use Rattle.host.specs.Places.{indexOf, placeOf, refusedPlace};
 ghost use Rattle.iir.specs.Iir.{Iir};
@@ -32,7 +32,7 @@ use quant::refusal::number;
 pub extern "C" fn skierralu_mul_add(a: f64, b: f64, c: f64) -> f64
     ensures { λ r. ⌜ r ≡ fma binary64 a b c ⌝ }
 {
-    ieee::fma::mul_add(a, b, c)
+    fma::mul_add(a, b, c)
 }
 
 #[no_mangle]

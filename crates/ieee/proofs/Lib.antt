@@ -4,12 +4,3 @@ pub mod Fractions
 pub mod Ceiling
 pub mod Powers
 pub mod Cutting
-pub mod Words
-pub mod StickyBit
-pub mod Shifting
-pub mod Leading
-pub mod Quarters
-pub mod Packing
-pub mod Rounds
-pub mod Aligning
-pub mod Fusing

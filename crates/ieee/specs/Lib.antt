@@ -3,9 +3,3 @@ pub mod Ceiling
 pub mod Fraction
 pub mod Exp2
 pub mod Cut
-pub mod Fused
-pub mod Words
-pub mod Sticky
-pub mod Significand
-pub mod Pack
-pub mod Aligned

@@ -3,8 +3,3 @@ pub mod ceil;
 pub mod cut;
 pub mod exp2;
 pub mod finite;
-pub mod fma;
-mod pack;
-mod significand;
-mod sticky;
-mod wide;

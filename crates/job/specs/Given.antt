@@ -19,7 +19,7 @@ use Rattle.fields.specs.declared.value.Level.{Level}
 use Rattle.fields.specs.declared.value.Level.the-variants as levels
 use Rattle.fields.specs.declared.value.Shaped.{Shaped}
 use Rattle.fields.specs.declared.value.Shaped.the-variants as shaped
-use Rattle.quant.specs.declared.name.Name.{Name}
+use Rattle.naming.specs.declared.Name.{Name}
 
 -- word k of a line's words, from 0
 abbrev pub word : List (List ℕ) → ℕ → List ℕ

@@ -19,7 +19,7 @@ use fields::value::number_in;
 use fields::value::whole_in;
 use fields::words::count;
 use fields::words::is_word;
-use quant::name::Name;
+use naming::Name;
 use quant::quantity::Amplitude;
 use quant::quantity::Frequency;
 use quant::quantity::Phase;

@@ -9,7 +9,7 @@ use fields::value::Called;
 use fields::value::name_in;
 use fields::value::number_in;
 use fields::words::count;
-use quant::name::Name;
+use naming::Name;
 
 pub enum Turn {
     By(Name, f64, f64, f64),

@@ -2,7 +2,7 @@
 ghost use mathlib.Core.Path.{_≡_};
 ghost use lib.ListN.{length};
 ghost use Rattle.mixer.specs.Mixer.{mixedRow, raisedRow, Iq, Offset};
-use ieee::fma::mul_add;
+use fma::mul_add;
 use quant::refusal::Answer;
 use rows::all_finite;
 use rows::answer;

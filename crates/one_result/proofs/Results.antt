@@ -6,10 +6,10 @@ use mathlib.Core.Bool.{Bool, true, false, true≢false}
 use mathlib.Core.List.{List, _++_}
 use lib.ListN.{length, take, drop}
 use lib.Ieee.{Float}
-use Rattle.quant.specs.declared.name.Name.{Name}
+use Rattle.naming.specs.declared.Name.{Name}
 use Rattle.quant.specs.declared.refusal.Answer.{Answer}
 use Rattle.quant.specs.Refusal.{codeOf}
-use Rattle.quant.specs.Name as Name
+use Rattle.naming.specs.Name as Name
 use Rattle.hex.specs.Hex as Hex
 use Rattle.trig.specs.Trig.{Both}
 use Rattle.mixer.specs.Mixer.{Iq, Offset}

@@ -1,5 +1,2 @@
 pub mod Judging
 pub mod Offset
-pub mod Words
-pub mod Places
-pub mod Naming

@@ -3,4 +3,3 @@ pub mod Complex
 pub mod Aligned
 pub mod Settings
 pub mod Phaser
-pub mod Name

@@ -3,7 +3,7 @@ use Prim.Native.Nat.{ℕ}
 use mathlib.Core.List.{List}
 use lib.Ieee.{binary64, ofBits}
 use Rattle.ieee.specs.Ceiling.{ceiling}
-use Rattle.ieee.specs.Fused.{fma}
+use Rattle.fma.specs.Fused.{fma}
 use Rattle.lines.specs.Field.{sameBits}
 use Rattle.lines.specs.declared.tally.Verdict.{Verdict}
 use Rattle.lines.specs.declared.tally.Verdict.the-variants.{First, Second, Unreadable}

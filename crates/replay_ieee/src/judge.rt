@@ -12,7 +12,7 @@ pub(crate) fn judged(case: Case) -> Verdict
 {
     match case {
         Case::Fused(a, b, c, r) => {
-            let ours = ieee::fma::mul_add(float_of(a), float_of(b), float_of(c));
+            let ours = fma::mul_add(float_of(a), float_of(b), float_of(c));
             Verdict::First(same(ours, r))
         }
         Case::Ceil(x, r) => {

@@ -3,7 +3,7 @@ ghost use mathlib.Core.Path.{_≡_};
 ghost use Rattle.replay_sampling.specs.Ask.{askIn};
 use super::print::least;
 use crosstalk::names::Crosstalk;
-use quant::name::Name;
+use naming::Name;
 use quant::quantity::Frequency;
 use quant::quantity::Time;
 use sampler::Request;

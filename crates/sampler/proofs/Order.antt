@@ -16,7 +16,7 @@ use Rattle.pulse.specs.declared.list.Pulse.{Pulse}
 use Rattle.tables.specs.declared.Tables.{Tables}
 use Rattle.quant.specs.declared.refusal.Answer.the-variants.{Refused}
 use Rattle.rows.specs.Rows.{rowsFit}
-use Rattle.quant.specs.declared.name.Name.{Name}
+use Rattle.naming.specs.declared.Name.{Name}
 use Rattle.merge.specs.Taking.{packed, partsIn}
 use Rattle.merge.specs.Work as Work
 use Rattle.merge.specs.Work.{Gathered, gatheredOf}

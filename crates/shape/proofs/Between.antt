@@ -17,8 +17,8 @@ use lib.Ieee.Scale.{finite}
 use Rattle.exact.proofs.Order.{compared, Stands}
 use Rattle.exact.proofs.Sum.{sum-like, sum-first, sum-second, sum-none}
 use Rattle.exact.proofs.Value.{rescale, scale}
-use Rattle.ieee.specs.Fused.{fma}
-use Rattle.ieee.proofs.Fusing.{fma-at}
+use Rattle.fma.specs.Fused.{fma}
+use Rattle.fma.proofs.Fusing.{fma-at}
 use Rattle.shape.specs.Segment.{number, pointAt}
 
 -- ---- rounding: whether the result is finite does not depend on the sign, and a smaller size is finite where a larger one is

@@ -8,7 +8,7 @@ use lib.Ieee.{Float, binary64, add, sub, mul, div, neg, lt, eq}
 use Rattle.exact.specs.Doubles.{nought, two}
 use Rattle.ieee.specs.Ceiling.{ceiling}
 use Rattle.ieee.specs.Cut.{cutOf}
-use Rattle.ieee.specs.Fused.{fma}
+use Rattle.fma.specs.Fused.{fma}
 use Rattle.ieee.specs.declared.cut.Cut.{Cut}
 use Rattle.ieee.specs.declared.cut.Cut.the-variants as cut
 use Rattle.quant.specs.declared.refusal.Refusal.the-variants.{ShapeTooShort, EndPastRow}

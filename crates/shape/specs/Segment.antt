@@ -3,7 +3,7 @@ use Prim.Native.Nat.{ℕ, zero, suc}
 use mathlib.Core.List.{List, [], _∷_}
 use lib.IntN.{pos}
 use lib.Ieee.{Float, binary64, ofInt}
-use Rattle.ieee.specs.Fused.{fma}
+use Rattle.fma.specs.Fused.{fma}
 use Rattle.shape.specs.Hann.{hannOf}
 
 -- an index as a double; exact up to 2^53

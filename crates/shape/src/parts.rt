@@ -1,10 +1,10 @@
 // Where the parts of an envelope begin and end among the samples. The Rust's `get_envelope_cached`, without its points.
 ghost use mathlib.Core.Path.{_≡_};
 ghost use Rattle.shape.specs.Parts.{indexAt, inOrder, broken, ordered, partedOf};
+use fma::mul_add;
 use ieee::ceil::ceil;
 use ieee::cut::Cut;
 use ieee::cut::cut_off;
-use ieee::fma::mul_add;
 use quant::quantity::Frequency;
 use quant::quantity::Time;
 use quant::refusal::Refusal;

@@ -6,8 +6,8 @@ ghost use Rattle.exact.specs.Doubles.{one};
 ghost use Rattle.rows.specs.Rows.{allFinite};
 ghost use Rattle.shape.specs.Segment.{pointAt, points, values};
 use super::hann::hann;
+use fma::mul_add;
 use ieee::finite::is_finite;
-use ieee::fma::mul_add;
 use quant::judge::both;
 use std::num::nearest_u64_to_f64;
 

@@ -7,10 +7,10 @@ use mathlib.Core.Path.{_≡_, refl, sym, ap, _∙_}
 use native.Mathlib.Omega.{arith}
 use borrow.Author.Tests.{not-true}
 use lib.ListN.{length}
-use Rattle.quant.proofs.Naming.{same-exactly}
+use Rattle.naming.proofs.Named.{same-exactly}
 use Rattle.exact.proofs.Truth.{both, neither}
-use Rattle.quant.specs.Name.{sameName}
-use Rattle.quant.specs.declared.name.Name.{Name}
+use Rattle.naming.specs.Name.{sameName}
+use Rattle.naming.specs.declared.Name.{Name}
 use Rattle.sheet.specs.Sheet.{isIn, single, among}
 
 pub same-self : (n : Name) → sameName n n ≡ true

@@ -5,7 +5,7 @@ use mathlib.Core.Path.{_≡_, refl}
 use lib.Ieee.{nan, ofBits, toBits}
 use lib.ListN.{replicate}
 use Rattle.hex.specs.Hex.{allDigits, number, digits, digitValue, digitOf}
-use Rattle.quant.specs.Name.{nameByte, every, accepted, wordOf, lowBytes, bytesOfWord, sixteen, bytesOf, named, namingOf, sameName}
+use Rattle.naming.specs.Name.{nameByte, every, accepted, wordOf, lowBytes, bytesOfWord, sixteen, bytesOf, named, namingOf, sameName}
 use Rattle.quant.specs.declared.refusal.Answer.the-variants.{Done, Refused}
 use Rattle.quant.specs.declared.refusal.Refusal.the-variants.{WrongSize, Layout}
 use Rattle.sheet.specs.Sheet as sheet

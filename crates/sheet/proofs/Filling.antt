@@ -13,8 +13,8 @@ use lib.Ieee.{Float, binary64, ofBits}
 use lib.ListN.{length, getD, take, drop, length-append, length-drop}
 use lib.Seq.{getD-take, getD-drop, length-take-le}
 use Rattle.exact.proofs.Truth.{both}
-use Rattle.quant.specs.Name.{sameName}
-use Rattle.quant.specs.declared.name.Name.{Name}
+use Rattle.naming.specs.Name.{sameName}
+use Rattle.naming.specs.declared.Name.{Name}
 use Rattle.sheet.specs.Puts.{pasted}
 use Rattle.sheet.specs.Reader.{soFar, Fits}
 use Rattle.sheet.specs.Sheet.{SoFar, isIn, position, among, complete, doubles, under, rowsFor}

@@ -13,12 +13,12 @@ use lib.ListN.{length, getD, take, drop, length-append, length-drop}
 use lib.Seq.{append-snoc, drop-cons, drop-drop, length-take-le, take-all}
 use Rattle.hex.proofs.Number.{length-digits}
 use Rattle.hex.specs.Hex as hex
-use Rattle.quant.proofs.Naming.{well-formed, length-bytes, writes}
+use Rattle.naming.proofs.Named.{well-formed, length-bytes, writes}
 use Rattle.exact.proofs.Truth.{both}
-use Rattle.quant.proofs.Words.{length-sixteen}
-use Rattle.quant.specs.Name as quant
-use Rattle.quant.specs.Name.{bytesOf, sixteen, isName}
-use Rattle.quant.specs.declared.name.Name.{Name}
+use Rattle.naming.proofs.Words.{length-sixteen}
+use Rattle.naming.specs.Name as quant
+use Rattle.naming.specs.Name.{bytesOf, sixteen, isName}
+use Rattle.naming.specs.declared.Name.{Name}
 use Rattle.quant.specs.declared.refusal.Refusal.{Refusal}
 use Rattle.quant.specs.declared.refusal.Refusal.the-variants.{Malformed, WrongSize, Crosstalk}
 use Rattle.rows.specs.Rows as rows

@@ -15,10 +15,10 @@ use lib.ListN.{length, getD, take, drop, set, replicate, length-set, length-drop
 use lib.Seq.{drop-cons, drop-length, drop-set-lt, length-take-le, take-all, take-append-add, take-suc-set}
 use Rattle.hex.specs.Hex.{allDigits, number, room, field, wordAt}
 use Rattle.hex.specs.declared.Word.the-variants as word
-use Rattle.quant.specs.Name.{namingOf}
-use Rattle.quant.specs.declared.name.Name.{Name}
-use Rattle.quant.specs.declared.name.Naming.{Naming}
-use Rattle.quant.specs.declared.name.Naming.the-variants.{Named, Bad}
+use Rattle.naming.specs.Name.{namingOf}
+use Rattle.naming.specs.declared.Name.{Name}
+use Rattle.naming.specs.declared.Naming.{Naming}
+use Rattle.naming.specs.declared.Naming.the-variants.{Named, Bad}
 use Rattle.quant.specs.declared.refusal.Refusal.the-variants.{Layout}
 use Rattle.sheet.specs.Reader.{soFar, begun, Fits}
 use Rattle.sheet.specs.Sheet.{channelsKey, columnKey, rowKey, factorKey, behind, eight, step, complete, value, SoFar, goes, stops, countStep, columnNamed, columnStep, rowNamed, rowStep, factorBits, factorStep, isIn, blank, among}

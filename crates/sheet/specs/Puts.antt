@@ -6,8 +6,8 @@ use mathlib.Core.Path.{_≡_}
 use lib.Ieee.{Float, binary64, toBits}
 use lib.ListN.{length, take, drop}
 use Rattle.hex.specs.Hex.{digits}
-use Rattle.quant.specs.Name.{bytesOf}
-use Rattle.quant.specs.declared.name.Name.{Name}
+use Rattle.naming.specs.Name.{bytesOf}
+use Rattle.naming.specs.declared.Name.{Name}
 use Rattle.sheet.specs.Sheet.{rowKey, factorKey, goodNames, allFinite, patterns, factorsText}
 
 -- a list with others in the place of as many of its own, from a place on

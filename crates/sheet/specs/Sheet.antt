@@ -9,10 +9,10 @@ use lib.Ieee.{Float, binary64, ofBits, toBits}
 use lib.Ieee.Scale.{finite}
 use lib.ListN.{length, take, drop, replicate}
 use Rattle.hex.specs.Hex.{allDigits, number, digits}
-use Rattle.quant.specs.Name.{namingOf, sameName, isName, bytesOf}
-use Rattle.quant.specs.declared.name.Name.{Name}
-use Rattle.quant.specs.declared.name.Naming.{Naming}
-use Rattle.quant.specs.declared.name.Naming.the-variants.{Named, Bad}
+use Rattle.naming.specs.Name.{namingOf, sameName, isName, bytesOf}
+use Rattle.naming.specs.declared.Name.{Name}
+use Rattle.naming.specs.declared.Naming.{Naming}
+use Rattle.naming.specs.declared.Naming.the-variants.{Named, Bad}
 use Rattle.quant.specs.declared.refusal.Answer.{Answer}
 use Rattle.quant.specs.declared.refusal.Answer.the-variants.{Done, Refused}
 use Rattle.quant.specs.declared.refusal.Refusal.{Refusal}

@@ -3,8 +3,8 @@ ghost use mathlib.Core.Path.{_≡_};
 ghost use Prim.Native.Nat.{_+_, _≤_};
 ghost use lib.ListN.{take, drop};
 ghost use Rattle.sheet.specs.Sheet.{blank, position, isIn};
-use quant::name::Name;
-use quant::name::same;
+use naming::Name;
+use naming::same;
 
 // What stands where no name is.
 pub fn blank() -> Name

@@ -6,8 +6,8 @@ ghost use Rattle.sheet.specs.Sheet.{Print, goodNames, single, printFits}
 ghost use Rattle.sheet.specs.Puts.{twoLines, namesSize};
 use super::names::stands_in;
 use super::put::put_sheet;
-use quant::name::Name;
-use quant::name::is_name;
+use naming::Name;
+use naming::is_name;
 use quant::refusal::Refusal;
 use rows::all_finite;
 

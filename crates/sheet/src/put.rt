@@ -5,10 +5,10 @@ ghost use mathlib.Core.List.{[], _∷_};
 ghost use Prim.Native.Nat.{_+_, _≤_};
 ghost use lib.Ieee.Scale.{finite};
 ghost use lib.ListN.{length, take};
-ghost use Rattle.quant.specs.Name.{isName};
+ghost use Rattle.naming.specs.Name.{isName};
 ghost use Rattle.sheet.specs.Sheet.{columnKey, goodNames, allFinite, patterns, countText, columnsText, factorsText, blocksText, blocksOf, sheetOf, sheetText};
 ghost use Rattle.sheet.specs.Puts.{Put, Printable, blockText, nameLine, factorLine};
-use quant::name::Name;
+use naming::Name;
 
 // The whole sheet, at the start.
 pub(crate) fn put_sheet(count: usize, names: [Name; 8], matrix: &[f64], out: &mut [u8]) -> usize
@@ -91,7 +91,7 @@ fn put_name(key: &[u8], n: Name, out: &mut [u8], from: usize) -> usize
     ensures { λ r. ⌜ Put (nameLine (now (key .entry)) n) (now (out .entry)) from r (now (out .exit)) ⌝ }
 {
     let at = put(key, out, from);
-    quant::name::write(n, out, at);
+    naming::write(n, out, at);
     put_byte(b'\n', out, at + n.len)
 }
 

@@ -16,7 +16,7 @@ use super::state::fresh;
 use super::state::step;
 use lines::field::float_of;
 use lines::text::line_end;
-use quant::name::Name;
+use naming::Name;
 use quant::refusal::Answer;
 use quant::refusal::Refusal;
 

@@ -1,7 +1,7 @@
 // What the lines of a sheet have said so far, and one line more.
 ghost use mathlib.Core.Path.{_≡_};
 ghost use Prim.Native.Nat.{_*_, _<_, _≤_};
-ghost use Rattle.quant.specs.declared.name.Naming.the-variants.{Named};
+ghost use Rattle.naming.specs.declared.Naming.the-variants.{Named};
 ghost use Rattle.sheet.specs.Sheet.{channelsKey, columnKey, rowKey, factorKey, behind, countStep, columnNamed, columnStep, rowNamed, rowStep, factorBits, factorStep, step, complete, stops, goes};
 ghost use Rattle.sheet.specs.Reader.{soFar, Begins, Fits, Steps};
 use super::line::starts;
@@ -10,9 +10,9 @@ use super::names::stands_in;
 use hex::Word;
 use ieee::finite::is_finite;
 use lines::field::float_of;
-use quant::name::Name;
-use quant::name::Naming;
-use quant::name::from_bytes;
+use naming::Name;
+use naming::Naming;
+use naming::from_bytes;
 use quant::refusal::Refusal;
 
 // A count of 0: the first line is still to come. `column`, `row` and `factor` are how many of each are read; a column not read is blank.

@@ -12,9 +12,9 @@ use lib.Ieee.Scale.{finite}
 use lib.ListN.{length, length-append}
 use lib.Seq.{append-snoc}
 use Rattle.hex.specs.Hex.{digits}
-use Rattle.quant.specs.Name.{every, isName, bytesOf}
-use Rattle.quant.specs.declared.name.Name.{Name}
-use Rattle.quant.proofs.Naming.{well-formed, length-bytes}
+use Rattle.naming.specs.Name.{every, isName, bytesOf}
+use Rattle.naming.specs.declared.Name.{Name}
+use Rattle.naming.proofs.Named.{well-formed, length-bytes}
 use Rattle.exact.proofs.Truth.{both}
 use Rattle.sheet.specs.Sheet.{channelsKey, columnKey, rowKey, factorKey, isIn, SoFar, nothing, complete, accepts, readFrom, cut, outcome, Block, Sheet, rowNames, goodNames, single, among, finiteBits, fullBlocks, WellFormed, countText, columnsText, factorsText, blocksText, sheetText}
 use Rattle.sheet.proofs.Printing.{factors-long}

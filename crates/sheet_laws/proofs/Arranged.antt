@@ -8,7 +8,7 @@ use borrow.Author.Tests.{eq-eqb}
 use lib.Dec.{eqb}
 use lib.Ieee.{Float}
 use lib.ListN.{length}
-use Rattle.quant.specs.declared.name.Name.{Name}
+use Rattle.naming.specs.declared.Name.{Name}
 use Rattle.exact.proofs.Truth.{both}
 use Rattle.sheet.specs.Sheet.{SoFar, accepts, under, matrixOf, Block, Sheet, rowNames, single, among, finiteBits, fullBlocks, WellFormed}
 use Rattle.sheet_laws.specs.Words.{In, here, there, Permuted, nil, keep, swap, then, contents, InColumnOrder}

@@ -11,13 +11,13 @@ use lib.Ieee.{binary64, ofBits}
 use lib.Ieee.Scale.{finite}
 use lib.ListN.{length}
 use Rattle.hex.specs.Hex.{allDigits, number, digits}
-use Rattle.quant.specs.Name.{namingOf, isName, bytesOf}
-use Rattle.quant.specs.declared.name.Name.{Name}
-use Rattle.quant.specs.declared.name.Naming.{Naming}
-use Rattle.quant.specs.declared.name.Naming.the-variants.{Named, Bad}
+use Rattle.naming.specs.Name.{namingOf, isName, bytesOf}
+use Rattle.naming.specs.declared.Name.{Name}
+use Rattle.naming.specs.declared.Naming.{Naming}
+use Rattle.naming.specs.declared.Naming.the-variants.{Named, Bad}
 use Rattle.quant.specs.declared.refusal.Refusal.{Refusal}
 use Rattle.quant.specs.declared.refusal.Refusal.the-variants.{Malformed, Crosstalk, Layout}
-use Rattle.quant.proofs.Naming.{read, bytes-back, is-named}
+use Rattle.naming.proofs.Named.{read, bytes-back, is-named}
 use Rattle.exact.proofs.Truth.{both}
 use Rattle.sheet.specs.Sheet.{channelsKey, columnKey, rowKey, factorKey, Behind, value, other, behind, isIn, SoFar, goes, stops, countStep, columnNamed, columnStep, rowNamed, rowStep, factorBits, factorStep}
 use Rattle.sheet_laws.proofs.Spelled.{number-small, digits-back}

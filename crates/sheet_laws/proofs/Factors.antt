@@ -11,9 +11,9 @@ use lib.Arith.{digits-lt}
 use lib.Ieee.{Float, binary64, ofBits}
 use lib.ListN.{length, take, drop, getD, replicate, length-append, List·getD-append}
 use lib.Seq.{take-append-add, getD-append-add}
-use Rattle.quant.specs.Name.{sameName}
-use Rattle.quant.specs.declared.name.Name.{Name}
-use Rattle.quant.proofs.Naming.{same-exactly}
+use Rattle.naming.specs.Name.{sameName}
+use Rattle.naming.specs.declared.Name.{Name}
+use Rattle.naming.proofs.Named.{same-exactly}
 use Rattle.sheet.specs.Sheet.{position, SoFar, accepts, answerOf, blank, eight, namesOf, doubles, under, rowsFor, matrixOf, Sheet, single, WellFormed}
 use Rattle.sheet.proofs.Each.{same-self}
 use Rattle.sheet.proofs.Filling.{doubles-long}

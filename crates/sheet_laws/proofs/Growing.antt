@@ -10,8 +10,8 @@ use lib.Dec.{ltb}
 use lib.Ieee.{binary64, ofBits}
 use lib.Ieee.Scale.{finite}
 use lib.ListN.{length, length-append}
-use Rattle.quant.specs.Name.{isName}
-use Rattle.quant.specs.declared.name.Name.{Name}
+use Rattle.naming.specs.Name.{isName}
+use Rattle.naming.specs.declared.Name.{Name}
 use Rattle.quant.specs.declared.refusal.Refusal.the-variants.{Layout}
 use Rattle.exact.proofs.Truth.{both}
 use Rattle.sheet.specs.Sheet.{columnKey, rowKey, factorKey, behind, columnStep, rowStep, factorStep, isIn, SoFar, goes, stops, step, goodNames, single, among, finiteBits, countText, columnsText, blocksText}

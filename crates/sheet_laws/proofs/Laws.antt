@@ -7,7 +7,7 @@ use mathlib.Core.Path.{_≡_, sym, _∙_}
 use mathlib.Core.List.{List}
 use lib.Ieee.{Float, binary64, ofBits}
 use lib.ListN.{length}
-use Rattle.quant.specs.declared.name.Name.{Name}
+use Rattle.naming.specs.declared.Name.{Name}
 use Rattle.sheet.specs.declared.read.Reading.{Reading}
 use Rattle.sheet.specs.Sheet.{SoFar, accepts, outcome, matrixOf, Read, Sheet, WellFormed, sheetText}
 use Rattle.sheet_laws.specs.Words.{In, Permuted, contents, sheetRead, Reads, EachOnce, Stands, factorFor, factorRead, SameUpToOrder, PrintedBack}

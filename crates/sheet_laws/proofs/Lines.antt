@@ -7,11 +7,11 @@ use native.Mathlib.Omega.{arith}
 use borrow.Author.Tests.{eq-eqb, ne-eqb, not-true}
 use lib.Dec.{eqb, ltb}
 use Rattle.hex.specs.Hex.{digitOf, digits}
-use Rattle.quant.specs.Name.{nameByte, every, bytesOf}
-use Rattle.quant.specs.declared.name.Name.{Name}
-use Rattle.quant.proofs.Naming.{standing, well-formed}
+use Rattle.naming.specs.Name.{nameByte, every, bytesOf}
+use Rattle.naming.specs.declared.Name.{Name}
+use Rattle.naming.proofs.Named.{standing, well-formed}
 use Rattle.exact.proofs.Truth.{both}
-use Rattle.quant.specs.Name.{isName}
+use Rattle.naming.specs.Name.{isName}
 use Rattle.sheet.specs.Sheet.{value, behind, onto, cut, SoFar, goes, step, accepts, onward, readFrom}
 
 -- ---- bytes that are no LF

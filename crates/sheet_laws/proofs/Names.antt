@@ -4,9 +4,9 @@ use mathlib.Core.Path.{_≡_, refl, sym, subst, _∙_}
 use mathlib.Core.Bool.{Bool, true, false, _||_, not, true≢false}
 use mathlib.Core.List.{List, [], _∷_, _++_}
 use borrow.Author.Tests.{not-true}
-use Rattle.quant.specs.Name.{sameName, isName}
-use Rattle.quant.specs.declared.name.Name.{Name}
-use Rattle.quant.proofs.Naming.{same-exactly}
+use Rattle.naming.specs.Name.{sameName, isName}
+use Rattle.naming.specs.declared.Name.{Name}
+use Rattle.naming.proofs.Named.{same-exactly}
 use Rattle.exact.proofs.Truth.{both}
 use Rattle.sheet.specs.Sheet.{isIn, goodNames, single, among}
 use Rattle.sheet_laws.specs.Words.{In, here, there}

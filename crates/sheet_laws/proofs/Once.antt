@@ -7,7 +7,7 @@ use mathlib.Core.Logic.{_↔_}
 use mathlib.Core.List.{List, [], _∷_}
 use native.Mathlib.Omega.{arith}
 use lib.ListN.{length}
-use Rattle.quant.specs.declared.name.Name.{Name}
+use Rattle.naming.specs.declared.Name.{Name}
 use Rattle.sheet.specs.Sheet.{isIn, SoFar, accepts, outcome, Sheet, rowNames, single, WellFormed}
 use Rattle.sheet_laws.specs.Words.{In, here, there, contents, sheetRead, EachOnce}
 use Rattle.sheet_laws.proofs.Accepted.{row-names-long}

@@ -13,8 +13,8 @@ use lib.Ieee.Scale.{finite}
 use lib.ListN.{length, take, drop, length-append, length-drop, take-append-drop}
 use lib.Seq.{take-nil, take-all, take-append-le, drop-append-le, length-take-le}
 use Rattle.hex.specs.Hex.{digits}
-use Rattle.quant.specs.Name.{bytesOf}
-use Rattle.quant.specs.declared.name.Name.{Name}
+use Rattle.naming.specs.Name.{bytesOf}
+use Rattle.naming.specs.declared.Name.{Name}
 use Rattle.exact.proofs.Truth.{both}
 use Rattle.sheet.specs.Sheet.{columnKey, rowKey, factorKey, rowNames, finiteBits, fullBlocks, columnsText, factorsText, blocksText}
 use Rattle.sheet_laws.specs.Words.{factorsOf, blocksFrom}

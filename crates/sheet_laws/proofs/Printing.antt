@@ -13,10 +13,10 @@ use lib.Ieee.Bits.{toBits-ofBits}
 use lib.Ieee.Scale.{finite}
 use lib.ListN.{length, take, drop, replicate, length-append}
 use lib.Seq.{take-at, drop-at}
-use Rattle.quant.specs.declared.name.Name.{Name}
+use Rattle.exact.proofs.Naturals.{below-or}
+use Rattle.naming.specs.declared.Name.{Name}
 use Rattle.quant.specs.declared.refusal.Refusal.the-variants.{WrongSize}
 use Rattle.exact.proofs.Truth.{both, number-if-finite}
-use Rattle.quant.proofs.Places.{below-or}
 use Rattle.sheet.specs.declared.print.Printed.{Printed}
 use Rattle.sheet.specs.Sheet.{cut, SoFar, nothing, Outcome, accepts, refuses, readFrom, outcome, answerOf, blank, eight, namesOf, doubles, under, rowsFor, matrixOf, Block, Sheet, finiteBits, WellFormed, sheetText, patterns, blocksOf, sheetOf, allFinite, printFits, printedOf, bytesAfter}
 use Rattle.sheet.proofs.Filling.{doubles-long, doubles-append}

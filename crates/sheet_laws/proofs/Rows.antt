@@ -11,9 +11,9 @@ use lib.Dec.{eqb}
 use lib.Ieee.{Float}
 use lib.ListN.{length, take, drop}
 use lib.Seq.{take-at, drop-append-add}
-use Rattle.quant.specs.Name.{sameName}
-use Rattle.quant.specs.declared.name.Name.{Name}
-use Rattle.quant.proofs.Naming.{same-exactly}
+use Rattle.naming.specs.Name.{sameName}
+use Rattle.naming.specs.declared.Name.{Name}
+use Rattle.naming.proofs.Named.{same-exactly}
 use Rattle.exact.proofs.Truth.{both}
 use Rattle.sheet.specs.Sheet.{position, SoFar, accepts, outcome, doubles, under, rowsFor, matrixOf, Block, Sheet, rowNames, single, finiteBits, fullBlocks, WellFormed}
 use Rattle.sheet.proofs.Each.{same-self}

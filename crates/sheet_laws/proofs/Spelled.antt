@@ -11,11 +11,11 @@ use borrow.Author.Tests.{ltb-true}
 use lib.Arith.{digits-div, digits-mod}
 use lib.Dec.{ltb}
 use lib.ListN.{length}
+use Rattle.exact.proofs.Naturals.{below-or}
 use Rattle.hex.specs.Hex.{digitValue, digitOf, allDigits, number, digits}
 use Rattle.hex.proofs.Digits.{value-below, value-figure, value-between, value-letter, value-above, figure-of, letter-of}
 use Rattle.hex.proofs.Number.{all-digits, length-digits, number-digits, number-lt}
 use Rattle.exact.proofs.Truth.{both}
-use Rattle.quant.proofs.Places.{below-or}
 
 digit-back : (b : ℕ) → digitValue b < 16 → digitOf (digitValue b) ≡ b
 digit-back b h =

@@ -13,10 +13,10 @@ use lib.Ieee.Scale.{finite}
 use lib.ListN.{length}
 use Rattle.hex.specs.Hex.{number, digits}
 use Rattle.hex.proofs.Number.{all-digits, length-digits, number-digits}
-use Rattle.quant.specs.Name.{namingOf, isName, bytesOf}
-use Rattle.quant.specs.declared.name.Name.{Name}
-use Rattle.quant.specs.declared.name.Naming.the-variants.{Named}
-use Rattle.quant.proofs.Naming.{named-back, bytes-accepted}
+use Rattle.naming.specs.Name.{namingOf, isName, bytesOf}
+use Rattle.naming.specs.declared.Name.{Name}
+use Rattle.naming.specs.declared.Naming.the-variants.{Named}
+use Rattle.naming.proofs.Named.{named-back, bytes-accepted}
 use Rattle.sheet.specs.Sheet.{channelsKey, columnKey, rowKey, factorKey, isIn, SoFar, nothing, goes, countStep, columnNamed, columnStep, rowNamed, rowStep, factorBits, factorStep, step}
 use Rattle.sheet_laws.proofs.Lines.{behind-key}
 

@@ -1,8 +1,8 @@
 -- Document 01, "The sheet": its example, line by line, as data, as it is printed, and with its columns in the other order. Definitions only.
 use Prim.Native.Nat.{ℕ}
 use mathlib.Core.List.{List, [], _∷_, _++_}
-use Rattle.quant.specs.Name.{named}
-use Rattle.quant.specs.declared.name.Name.{Name}
+use Rattle.naming.specs.Name.{named}
+use Rattle.naming.specs.declared.Name.{Name}
 use Rattle.sheet.specs.Sheet.{Sheet}
 
 -- ---- the lines

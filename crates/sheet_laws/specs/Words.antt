@@ -7,7 +7,7 @@ use mathlib.Core.List.{List, [], _∷_, _++_}
 use lib.Ieee.{Float}
 use lib.ListN.{length, take, drop, getD}
 use Rattle.exact.specs.Doubles.{nought}
-use Rattle.quant.specs.declared.name.Name.{Name}
+use Rattle.naming.specs.declared.Name.{Name}
 use Rattle.quant.specs.declared.refusal.Answer.{Answer}
 use Rattle.quant.specs.declared.refusal.Answer.the-variants.{Done, Refused}
 use Rattle.sheet.specs.Sheet.{position, SoFar, accepts, outcome, answerOf, namesOf, matrixOf, Block, Sheet, rowNames, single, WellFormed, sheetText, sheetOf, printedOf, bytesAfter}

@@ -8,9 +8,9 @@ use lib.Ieee.{Float}
 use lib.ListN.{set}
 use Rattle.exact.specs.Doubles.{nought}
 use Rattle.exact.specs.Among.{among}
-use Rattle.quant.specs.declared.name.Name.{Name}
+use Rattle.naming.specs.declared.Name.{Name}
 use Rattle.quant.specs.declared.refusal.Refusal.the-variants.{Unfit, Malformed, Full}
-use Rattle.quant.specs.Name.{isName}
+use Rattle.naming.specs.Name.{isName}
 use Rattle.quant.specs.Settings.{isTolerance}
 use Rattle.executor.specs.declared.osc.OscState.{OscState}
 use Rattle.tables.specs.declared.Channel.{Channel}

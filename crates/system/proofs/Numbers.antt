@@ -7,9 +7,9 @@ use lib.Ieee.{Float, lt}
 use lib.Ieee.Scale.{finite}
 use Rattle.exact.specs.Doubles.{nought}
 use Rattle.exact.specs.Among.{among}
-use Rattle.quant.specs.declared.name.Name.{Name}
+use Rattle.naming.specs.declared.Name.{Name}
 use Rattle.quant.specs.declared.refusal.Refusal.the-variants.{Malformed, Full, Oversize, UnknownShape, NegativePlateau, NotFinite}
-use Rattle.quant.specs.Name.{sameName}
+use Rattle.naming.specs.Name.{sameName}
 use Rattle.quant.specs.Refusal.{numberOf}
 use Rattle.executor.specs.declared.osc.Moved.{Moved}
 use Rattle.executor.specs.declared.osc.Swapped.{Swapped}

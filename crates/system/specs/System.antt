@@ -6,7 +6,7 @@ use mathlib.Core.Bool.{Bool}
 use mathlib.Core.List.{List}
 use lib.Ieee.{Float, nan}
 use lib.ListN.{length, getD}
-use Rattle.quant.specs.declared.name.Name.{Name}
+use Rattle.naming.specs.declared.Name.{Name}
 use Rattle.quant.specs.declared.refusal.Answer.{Answer}
 use Rattle.rows.specs.Rows as rows
 use Rattle.mixer.specs.Mixer as mixer

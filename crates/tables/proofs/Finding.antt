@@ -7,8 +7,8 @@ use mathlib.Core.Bool.{Bool, true, false, cond}
 use mathlib.Core.List.{List, [], _∷_}
 use lib.ListN.{length, take, drop, getD, length-take, drop-of-length-le}
 use lib.Seq.{drop-cons, getD-take}
-use Rattle.quant.specs.declared.name.Name.{Name}
-use Rattle.quant.specs.Name.{sameName}
+use Rattle.naming.specs.declared.Name.{Name}
+use Rattle.naming.specs.Name.{sameName}
 use Rattle.tables.specs.declared.Channel.{Channel}
 use Rattle.tables.specs.declared.Found.the-variants.{At, Nowhere}
 use Rattle.tables.specs.declared.Tables.{Tables}

@@ -7,12 +7,12 @@ use mathlib.Core.Bool.{Bool, true, false, _&&_, cond}
 use borrow.Author.Tests.{ltb-false, le-ltb}
 use lib.Dec.{ltb}
 use lib.ListN.{set}
-use Rattle.quant.specs.declared.name.Name.{Name}
+use Rattle.naming.specs.declared.Name.{Name}
 use Rattle.quant.specs.declared.refusal.Answer.{Answer}
 use Rattle.quant.specs.declared.refusal.Answer.the-variants.{Done, Refused}
 use Rattle.quant.specs.declared.refusal.Refusal.{Refusal}
 use Rattle.quant.specs.declared.refusal.Refusal.the-variants.{Malformed, Full}
-use Rattle.quant.specs.Name.{isName}
+use Rattle.naming.specs.Name.{isName}
 use Rattle.quant.specs.Refusal.{codeOf}
 use Rattle.executor.specs.declared.osc.OscState.{OscState}
 use Rattle.tables.specs.declared.Channel.{Channel}

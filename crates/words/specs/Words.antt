@@ -10,7 +10,7 @@ use Rattle.hex.specs.declared.Word.{Word}
 use Rattle.hex.specs.declared.Word.the-variants.{Bits, Bad}
 use Rattle.lines.specs.Field.{numberAt}
 use Rattle.lines.specs.Text.{lineLength}
-use Rattle.quant.specs.declared.name.Name.{Name}
+use Rattle.naming.specs.declared.Name.{Name}
 
 abbrev pub bitsOf : Word → ℕ
 bitsOf (Bits w) = w

@@ -8,7 +8,7 @@ use hex::Word;
 use lines::field::float_of;
 use lines::field::number_at;
 use lines::text::line_end;
-use quant::name::Name;
+use naming::Name;
 
 // Word k of a line; 0 where there is none.
 pub fn word(line: &[u8], k: u8) -> u64

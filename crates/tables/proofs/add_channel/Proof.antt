@@ -2,7 +2,7 @@
 use borrow.Author.Needs.{needs}
 use mathlib.Core.Path.{_≡_, sym, _∙_}
 use mathlib.Core.Bool.{_&&_}
-use Rattle.quant.specs.Name.{isName}
+use Rattle.naming.specs.Name.{isName}
 use Rattle.tables.specs.Tables.{finiteOsc}
 use Rattle.tables.proofs.add_channel.Statement.{statement}
 use Rattle.tables.proofs.add_channel.Tie as tie

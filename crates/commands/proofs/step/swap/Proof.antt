@@ -6,8 +6,8 @@ use Rattle.tables.specs.declared.Found.the-variants.{At}
 use Rattle.tables.specs.declared.Tables.{Tables}
 use Rattle.executor.specs.Osc.{swappedPhases}
 use Rattle.executor.specs.declared.osc.Swapped.{Swapped}
-use Rattle.quant.specs.Name.{sameName}
-use Rattle.quant.specs.declared.name.Name.{Name}
+use Rattle.naming.specs.Name.{sameName}
+use Rattle.naming.specs.declared.Name.{Name}
 use lib.Ieee.{Float}
 use mathlib.Core.Bool.{false}
 use Prim.Native.Nat.{ℕ}

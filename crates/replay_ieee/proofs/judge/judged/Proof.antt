@@ -3,7 +3,7 @@ use borrow.Author.Needs.{needs}
 use mathlib.Core.Path.{sym, ap, _∙_}
 use lib.Ieee.{Float, binary64}
 use Rattle.ieee.specs.Ceiling.{ceiling}
-use Rattle.ieee.specs.Fused.{fma}
+use Rattle.fma.specs.Fused.{fma}
 use Rattle.lines.specs.declared.tally.Verdict.the-variants.{First, Second}
 use Rattle.lines.specs.Field.{sameBits}
 use Rattle.replay_ieee.specs.Verdict.{verdictOf}

@@ -1,7 +1,7 @@
 -- `sheet::print::two_lines` meets its contract: a name over 16 bytes long is cut at 16. Assumes nothing.
 use native.Mathlib.Omega.{arith}
 use borrow.Author.Needs.{needs}
-use Rattle.quant.proofs.Naming.{length-bytes}
+use Rattle.naming.proofs.Named.{length-bytes}
 use Rattle.sheet.specs.Puts.{twoLines}
 use Rattle.sheet.proofs.Printing.{bytes-cut}
 use Rattle.sheet.proofs.print.two_lines.Statement.{statement}

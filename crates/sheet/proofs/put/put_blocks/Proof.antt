@@ -10,8 +10,8 @@ use borrow.Author.Needs.{needs}
 use lib.Ieee.{Float}
 use lib.ListN.{length, getD, take, drop}
 use Rattle.exact.proofs.Truth.{both}
-use Rattle.quant.specs.Name.{isName}
-use Rattle.quant.specs.declared.name.Name.{Name}
+use Rattle.naming.specs.Name.{isName}
+use Rattle.naming.specs.declared.Name.{Name}
 use Rattle.sheet.specs.Puts.{blockText}
 use Rattle.sheet.specs.Sheet.{blank, goodNames, allFinite, blocksText, blocksOf}
 use Rattle.sheet.proofs.Parts.{part-end, part-of, row-within, few}

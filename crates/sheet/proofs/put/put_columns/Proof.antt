@@ -7,7 +7,7 @@ use native.Mathlib.Omega.{arith}
 use borrow.Author.Needs.{needs}
 use lib.ListN.{getD, take, drop}
 use Rattle.exact.proofs.Truth.{both}
-use Rattle.quant.specs.Name.{isName}
+use Rattle.naming.specs.Name.{isName}
 use Rattle.sheet.specs.Puts.{nameLine}
 use Rattle.sheet.specs.Sheet.{blank, columnKey, goodNames, columnsText}
 use Rattle.sheet.proofs.Parts.{part-end}

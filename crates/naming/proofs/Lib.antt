@@ -1,0 +1,4 @@
+-- What is proved of no one function.
+pub mod Words
+pub mod Places
+pub mod Named
