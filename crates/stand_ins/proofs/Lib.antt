@@ -1,0 +1,3 @@
+pub mod StandIns
+pub mod Tried
+pub mod Whole

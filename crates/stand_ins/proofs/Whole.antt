@@ -1,0 +1,111 @@
+-- No program for the nine calls of `system` that keeps their promises is a stand-in: each promise allows one outcome (`only`, of `system`), and at the calls that
+-- are tried it is another than the stand-in's. Assumes nothing.
+use Prim.Native.Nat.{_+_, _*_}
+use mathlib.Core.Path.{_≡_, refl, ap, _∙_}
+use mathlib.Core.Bool.{Bool, true, false, cond}
+use mathlib.Core.List.{List, [], _∷_}
+use lib.Dec.{eqb}
+use lib.Ieee.{Float, nan, eq, round}
+use lib.ListN.{getD}
+use Rattle.quant.specs.declared.refusal.Answer.{Answer}
+use Rattle.mixdown.specs.Sampled.{Rowed}
+use Rattle.sampler_laws.specs.Added.{countIn}
+use Rattle.bench_table.specs.Numbers.{whole}
+use Rattle.system.specs.System.{Outcome, outcome}
+use Rattle.system.proofs.Promised as promised
+use Rattle.stand_ins.specs.StandIns.{NotAllRefused, NotAlways, NotFixed}
+use Rattle.stand_ins.specs.Whole.{Asking, isDone, whole-system, Row, I, Q, rowLeft, answerOf, rowCame, lengthCame, anything, sampling-call, rowsLeft, firstPulse, firstBin, Sampling, askingOf, OnRows, plateau, sort, on, execute, no-command, no-pulse, two-pulses, two-bins, else, samplingOf, Trial, ones, noughts, also, tryOf}
+use Rattle.stand_ins.proofs.StandIns.{Only, not-all-refused, not-always, not-fixed}
+use Rattle.stand_ins.proofs.Tried.{tried}
+
+abbrev comesTo : Asking → Outcome
+comesTo a = outcome (a .state) (a .call)
+
+only : (a : Asking) → Only whole-system a (comesTo a)
+only a o p = promised.only (a .state) (a .call) o p
+
+takes : (t : Trial) → isDone (comesTo (tryOf t .asking) .answer) ≡ true
+takes t = ap isDone (tried .each t .answer)
+
+row-is : (t : Trial) (x : Row) → rowLeft x (comesTo (tryOf t .asking)) ≡ whole (tryOf t .sample) ∷ []
+row-is t I = tried .each t .i
+row-is t Q = tried .each t .q
+
+-- whether a row's first sample is 2
+isTwo : List Float → Bool
+isTwo row = eq (getD row 0 nan) (whole 2)
+
+-- rows of 1 hold 2 then, and rows of 0 do not
+two-of-ones : (adds : Bool) → isTwo (whole (cond adds (1 + 1) (2 * 1)) ∷ []) ≡ true
+unfolding isTwo eq round
+two-of-ones true = refl
+two-of-ones false = refl
+
+not-of-noughts : (adds : Bool) → isTwo (whole (cond adds (0 + 1) (2 * 0)) ∷ []) ≡ false
+unfolding isTwo eq round
+not-of-noughts true = refl
+not-of-noughts false = refl
+
+one-is-not : isTwo (whole 1 ∷ []) ≡ false
+unfolding isTwo eq round
+one-is-not = refl
+
+came-one : (k : OnRows) (x : Row) → rowCame x (on 1 k .asking) ≡ whole 1 ∷ []
+came-one k I = refl
+came-one k Q = refl
+
+as-long : (k : OnRows) (x : Row) → lengthCame x (on 1 k .asking) ≡ lengthCame x (on 0 k .asking)
+as-long k I = refl
+as-long k Q = refl
+
+-- ---- each kind of call that is tried accepts something
+
+pub all-refused : (t : Trial) → NotAllRefused whole-system (tryOf t .asking)
+all-refused t = not-all-refused whole-system (tryOf t .asking) (comesTo (tryOf t .asking)) (only (tryOf t .asking)) (takes t)
+
+-- ---- of the calls on rows, a sampling of a plateau, one of Hann's shape and the four steps, in I and in Q
+
+pub rows-untouched : (k : OnRows) (x : Row) → NotAlways whole-system (rowLeft x) (rowCame x) (on 1 k .asking)
+rows-untouched k x =
+    let a = on 1 k .asking in
+    not-always whole-system (rowLeft x) (rowCame x) isTwo a (comesTo a) (only a) (takes (ones k)) (ap isTwo (row-is (ones k) x) ∙ two-of-ones (sort k .adds)) (ap isTwo (came-one k x) ∙ one-is-not)
+
+pub fixed-row : (k : OnRows) (x : Row) → NotFixed whole-system (rowLeft x) (lengthCame x) (on 1 k .asking) (on 0 k .asking)
+fixed-row k x =
+    let a = on 1 k .asking in
+    let b = on 0 k .asking in
+    not-fixed whole-system (rowLeft x) (lengthCame x) isTwo a b (comesTo a) (comesTo b) (only a) (only b) (takes (ones k)) (takes (noughts k)) (as-long k x)
+    (ap isTwo (row-is (ones k) x) ∙ two-of-ones (sort k .adds))
+    (ap isTwo (row-is (noughts k) x) ∙ not-of-noughts (sort k .adds))
+
+-- ---- of the sampling call: both pulses, and both bins, are on the rows, which hold 2
+
+only-sampled : (x : Sampling) → Only sampling-call x (comesTo (askingOf x))
+only-sampled x = only (askingOf x)
+
+first-alone : (x : Sampling) (would : Sampling → Rowed) → isDone (comesTo (askingOf x) .answer) ≡ true → comesTo (askingOf x) .after .rows .i ≡ whole 2 ∷ [] → would x .i ≡ whole 1 ∷ []
+    → NotAlways sampling-call rowsLeft would x
+first-alone x would done both one =
+    not-always sampling-call rowsLeft would (λ (rows : Rowed). isTwo (rows .i)) x (comesTo (askingOf x)) (only-sampled x) done (ap isTwo both ∙ two-of-ones true) (ap isTwo one ∙ one-is-not)
+
+pub first-pulse : NotAlways sampling-call rowsLeft firstPulse (samplingOf two-pulses)
+first-pulse = first-alone (samplingOf two-pulses) firstPulse (takes (also two-pulses)) (row-is (also two-pulses) I) (tried .first .pulse)
+
+pub first-bin : NotAlways sampling-call rowsLeft firstBin (samplingOf two-bins)
+first-bin = first-alone (samplingOf two-bins) firstBin (takes (also two-bins)) (row-is (also two-bins) I) (tried .first .bin)
+
+-- ---- a list of one is counted 1, and one of none 0
+
+counted : (s t : Trial) → eqb (tryOf s .count) 1 ≡ true → eqb (tryOf t .count) 1 ≡ false → NotFixed whole-system answerOf anything (tryOf s .asking) (tryOf t .asking)
+counted s t one none =
+    let a = tryOf s .asking in
+    let b = tryOf t .asking in
+    not-fixed whole-system answerOf anything (λ (r : Answer). eqb (countIn r) 1) a b (comesTo a) (comesTo b) (only a) (only b) (takes s) (takes t) refl
+    (ap (λ (r : Answer). eqb (countIn r) 1) (tried .each s .answer) ∙ one)
+    (ap (λ (r : Answer). eqb (countIn r) 1) (tried .each t .answer) ∙ none)
+
+pub commands-counted : NotFixed whole-system answerOf anything (else execute .asking) (else no-command .asking)
+commands-counted = counted (also execute) (also no-command) refl refl
+
+pub pulses-counted : NotFixed whole-system answerOf anything (on 0 plateau .asking) (else no-pulse .asking)
+pulses-counted = counted (noughts plateau) (also no-pulse) refl refl

@@ -1,0 +1,3 @@
+pub mod StandIns
+pub mod Whole
+pub mod Calls
