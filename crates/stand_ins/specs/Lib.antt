@@ -1,3 +1,5 @@
 pub mod StandIns
 pub mod Whole
-pub mod Calls
+pub mod ByValue
+pub mod Texts
+pub mod Buffers

@@ -1,0 +1,244 @@
+-- The calls that take values and give one back: what each promises, as its contract has it, and when it has accepted. Definitions only.
+use Prim.Native.Nat.{ℕ}
+use mathlib.Core.Bool.{Bool, true, false, not}
+use mathlib.Core.List.{List}
+use lib.Dec.{eqb}
+use lib.IntN.{ℤ}
+use lib.Ieee.{Float}
+use Rattle.trig.specs.Trig.{cosineOf, sineOf, Both}
+use Rattle.naming.specs.declared.Name.{Name}
+use Rattle.quant.specs.declared.aligned.Aligned.{Aligned}
+use Rattle.quant.specs.declared.aligned.Aligned.the-variants as aligned
+use Rattle.quant.specs.declared.aligned.Placed.{Placed}
+use Rattle.quant.specs.declared.aligned.Placed.the-variants as placed
+use Rattle.quant.specs.declared.phaser.Phased.{Phased}
+use Rattle.quant.specs.declared.phaser.Phased.the-variants as phased
+use Rattle.quant.specs.declared.quantity.Frequency.{Frequency}
+use Rattle.quant.specs.declared.quantity.Time.{Time}
+use Rattle.quant.specs.declared.settings.Fitting.{Fitting}
+use Rattle.quant.specs.declared.settings.Fitting.the-variants as fitting
+use Rattle.quant.specs.declared.settings.Settings.{Settings}
+use Rattle.quant.specs.Aligned.{alignedOf, placedOf}
+use Rattle.quant.specs.Phaser.{phasedOf}
+use Rattle.quant.specs.Settings.{fittingOf}
+use Rattle.rows.specs.Rows as rows
+use Rattle.executor.specs.declared.osc.OscState.{OscState}
+use Rattle.executor.specs.declared.osc.Moved.{Moved}
+use Rattle.executor.specs.declared.osc.Swapped.{Swapped}
+use Rattle.executor.specs.Osc.{shiftedPhase, setPhaseTo, shiftedFreq, setFreqTo, swappedPhases}
+use Rattle.pulse.specs.declared.bin.Bin.{Bin}
+use Rattle.pulse.specs.declared.list.Pulse.{Pulse}
+use Rattle.pulse.specs.declared.weight.Weighed.{Weighed}
+use Rattle.pulse.specs.declared.weight.Weighed.the-variants as weighed
+use Rattle.pulse.specs.Weight.{weighedOf}
+use Rattle.tables.specs.declared.Tables.{Tables}
+use Rattle.tables.specs.declared.Found.{Found}
+use Rattle.tables.specs.declared.Found.the-variants as found
+use Rattle.tables.specs.declared.Told.{Told}
+use Rattle.tables.specs.declared.Told.the-variants as told
+use Rattle.tables.specs.Tables as tables
+use Rattle.shape.specs.declared.parts.Parted.{Parted}
+use Rattle.shape.specs.declared.parts.Parted.the-variants as parted
+use Rattle.shape.specs.declared.envelope.Enveloped.{Enveloped}
+use Rattle.shape.specs.declared.envelope.Enveloped.the-variants as enveloped
+use Rattle.shape.specs.Hann.{hannOf}
+use Rattle.shape.specs.Parts.{partedOf}
+use Rattle.shape.specs.Envelope.{least, envelopedOf}
+use Rattle.placing.specs.declared.Judged.{Judged}
+use Rattle.placing.specs.declared.Judged.the-variants as judgement
+use Rattle.placing.specs.Judged.{judged}
+use Rattle.crosstalk.specs.declared.names.Crosstalk.{Crosstalk}
+use Rattle.crosstalk.specs.declared.parts.Plan.{Plan}
+use Rattle.crosstalk.specs.Crosstalk.{planned}
+use Rattle.host.specs.declared.Index.{Index}
+use Rattle.host.specs.declared.Place.{Place}
+use Rattle.host.specs.Places.{indexOf, placeOf}
+use Rattle.stand_ins.specs.StandIns.{Call, equation}
+use Rattle.stand_ins.specs.Whole.{isDone}
+
+-- ---- cosine and sine: nothing is refused
+
+abbrev pub always : {A : Type 0} → A → Bool
+always x = true
+
+abbrev pub cosine : Call
+cosine = equation cosineOf always
+
+abbrev pub sine : Call
+sine = equation sineOf always
+
+abbrev pub hann : Call
+hann = equation hannOf always
+
+abbrev pub both : Call
+both = record { Given = Float; Left = Float × Float; Promise = λ x y. Both x (y .0) (y .1); accepted = always }
+
+-- ---- alignment: a time, a rate and a level; a phase; the clock
+
+pub record Timed : Type 0 where
+  pub time : Float
+  pub rate : Float
+  pub level : ℤ
+
+abbrev pub isIndex : Aligned → Bool
+isIndex (aligned.Index a) = true
+isIndex aligned.NotFinite = false
+
+abbrev pub align : Call
+align = equation (λ (x : Timed). alignedOf (x .time) (x .rate) (x .level)) isIndex
+
+abbrev pub isStart : Placed → Bool
+isStart (placed.Start start offset) = true
+isStart placed.NotFinite = false
+isStart placed.Before = false
+isStart placed.Beyond = false
+
+abbrev pub place : Call
+place = equation (λ (x : Timed). placedOf (alignedOf (x .time) (x .rate) (x .level))) isStart
+
+-- over the C border
+abbrev pub align-c : Call
+align-c = equation (λ (x : Timed). indexOf (alignedOf (x .time) (x .rate) (x .level))) (λ (y : Index). eqb (y .code) 0)
+
+abbrev pub place-c : Call
+place-c = equation (λ (x : Timed). placeOf (placedOf (alignedOf (x .time) (x .rate) (x .level)))) (λ (y : Place). eqb (y .code) 0)
+
+abbrev pub isPair : Phased → Bool
+isPair (phased.Pair z) = true
+isPair phased.NotFinite = false
+
+abbrev pub phaser : Call
+phaser = equation phasedOf isPair
+
+pub record Clocked : Type 0 where
+  pub rate : Frequency
+  pub delay : Time
+  pub level : ℤ
+
+abbrev pub isFit : Fitting → Bool
+isFit (fitting.Fit s) = true
+isFit fitting.Unfit = false
+
+abbrev pub set-up : Call
+set-up = equation (λ (x : Clocked). fittingOf (x .rate) (x .delay) (x .level)) isFit
+
+-- ---- the oscillators: a state, a number and a time
+
+pub record Turning : Type 0 where
+  pub osc : OscState
+  pub number : Float
+  pub time : Float
+
+abbrev pub hasMoved : Moved → Bool
+hasMoved y = not (y .refused)
+
+abbrev pub shift-phase : Call
+shift-phase = equation (λ (x : Turning). shiftedPhase (x .osc) (x .number)) hasMoved
+
+abbrev pub set-phase : Call
+set-phase = equation (λ (x : Turning). setPhaseTo (x .osc) (x .number) (x .time)) hasMoved
+
+abbrev pub shift-freq : Call
+shift-freq = equation (λ (x : Turning). shiftedFreq (x .osc) (x .number) (x .time)) hasMoved
+
+abbrev pub set-freq : Call
+set-freq = equation (λ (x : Turning). setFreqTo (x .osc) (x .number) (x .time)) hasMoved
+
+pub record Swapping : Type 0 where
+  pub one : OscState
+  pub two : OscState
+  pub time : Float
+
+abbrev pub swap-phase : Call
+swap-phase = equation (λ (x : Swapping). swappedPhases (x .one) (x .two) (x .time)) (λ (y : Swapped). not (y .refused))
+
+-- ---- a pulse: its weight, its envelope's parts, its place
+
+pub record Weighing : Type 0 where
+  pub amplitude : Float
+  pub phase : Float
+  pub drag : Float
+
+abbrev pub isFine : Weighed → Bool
+isFine (weighed.Fine w) = true
+isFine weighed.Overflow = false
+
+abbrev pub weigh : Call
+weigh = equation (λ (x : Weighing). weighedOf (x .amplitude) (x .phase) (x .drag)) isFine
+
+pub record Curve : Type 0 where
+  pub width : Float
+  pub plateau : Float
+  pub offset : Float
+  pub rate : Float
+  pub dt : Float
+  pub room : ℕ
+
+abbrev pub partsFor : Curve → ℕ → Parted
+partsFor x room = partedOf (x .width) (x .plateau) (x .offset) (x .rate) (x .dt) room
+
+abbrev pub isWithin : Parted → Bool
+isWithin (parted.Within p) = true
+isWithin (parted.Refused r) = false
+
+abbrev pub lay-out : Call
+lay-out = equation (λ (x : Curve). partsFor x (x .room)) isWithin
+
+abbrev pub hasPoints : Enveloped → Bool
+hasPoints (enveloped.Points n) = true
+hasPoints (enveloped.Refused r) = false
+
+abbrev pub measure : Call
+measure = equation (λ (x : Curve). envelopedOf (partsFor x (least (x .room) 65536))) hasPoints
+
+pub record Pulsed : Type 0 where
+  pub settings : Settings
+  pub bin : Bin
+  pub pulse : Pulse
+  pub len : ℕ
+
+abbrev pub isPlaced : Judged → Bool
+isPlaced (judgement.Plateau f) = true
+isPlaced (judgement.Shaped c) = true
+isPlaced (judgement.Refused r) = false
+
+abbrev pub judge : Call
+judge = equation (λ (x : Pulsed). judged (x .settings) (x .bin) (x .pulse) (x .len)) isPlaced
+
+-- ---- the tables: a channel's state, its place; the plan of a sampling
+
+pub record Looking : Type 0 where
+  pub tables : Tables
+  pub name : Name
+
+abbrev pub isKnown : Told → Bool
+isKnown (told.Of osc) = true
+isKnown told.Unknown = false
+
+abbrev pub state : Call
+state = equation (λ (x : Looking). tables.stateOf (x .tables) (x .name)) isKnown
+
+abbrev pub isThere : Found → Bool
+isThere (found.At i) = true
+isThere found.Nowhere = false
+
+abbrev pub find : Call
+find = equation (λ (x : Looking). tables.found (x .tables) (x .name)) isThere
+
+pub record Planning : Type 0 where
+  pub tables : Tables
+  pub channel : Name
+  pub cross : Crosstalk
+  pub factors : List Float
+
+abbrev pub plan : Call
+plan = equation (λ (x : Planning). planned (x .tables) (x .channel) (x .cross) (x .factors)) (λ (y : Plan). not (y .refused))
+
+-- ---- what the steps on rows answer: whether the sizes fit, and whether the numbers are fine
+
+pub record Verdict : Type 0 where
+  pub fits : Bool
+  pub fine : Bool
+
+abbrev pub answer : Call
+answer = equation (λ (x : Verdict). rows.answerOf (x .fits) (x .fine)) isDone
