@@ -1,6 +1,9 @@
 pub mod StandIns
 pub mod Tried
 pub mod Whole
+pub mod ByValue
+pub mod Texts
+pub mod Buffers
 pub mod Says
 pub mod EnsuredWhole
 pub mod EnsuredByValue

@@ -1,21 +1,21 @@
 -- No program for the nine calls of `system` that keeps their promises is a stand-in: each promise allows one outcome (`only`, of `system`), and at the calls that
 -- are tried it is another than the stand-in's. Assumes nothing.
-use Prim.Native.Nat.{_+_, _*_}
+use Prim.Native.Nat.{ℕ, _+_, _*_}
 use mathlib.Core.Path.{_≡_, refl, ap, _∙_}
 use mathlib.Core.Bool.{Bool, true, false, cond}
-use mathlib.Core.List.{List, [], _∷_}
+use mathlib.Core.List.{[], _∷_}
 use lib.Dec.{eqb}
-use lib.Ieee.{Float, nan, eq, round}
-use lib.ListN.{getD}
+use lib.Ieee.{eq, round}
 use Rattle.quant.specs.declared.refusal.Answer.{Answer}
 use Rattle.mixdown.specs.Sampled.{Rowed}
 use Rattle.sampler_laws.specs.Added.{countIn}
 use Rattle.bench_table.specs.Numbers.{whole}
 use Rattle.system.specs.System.{Outcome, outcome}
 use Rattle.system.proofs.Promised as promised
-use Rattle.stand_ins.specs.StandIns.{NotAllRefused, NotAlways, NotFixed}
-use Rattle.stand_ins.specs.Whole.{Asking, isDone, whole-system, Row, I, Q, rowLeft, answerOf, rowCame, lengthCame, anything, sampling-call, rowsLeft, firstPulse, firstBin, Sampling, askingOf, OnRows, plateau, sort, on, execute, no-command, no-pulse, two-pulses, two-bins, else, samplingOf, Trial, ones, noughts, also, tryOf}
-use Rattle.stand_ins.proofs.StandIns.{Only, not-all-refused, not-always, not-fixed}
+use Rattle.stand_ins.specs.StandIns.{NotAllRefused, NotAlways, NotFixed, Row, I, Q, RowsMove}
+use Rattle.stand_ins.specs.Whole.{Asking, isDone, whole-system, rowLeft, answerOf, rowCame, anything, sampling-call, rowsLeft, firstPulse, firstBin, Sampling, askingOf, OnRows, plateau, sort, on, execute, no-command, no-pulse, two-pulses, two-bins, else, samplingOf, Trial, ones, noughts, also, tryOf}
+use Rattle.stand_ins.proofs.StandIns as law
+use Rattle.stand_ins.proofs.StandIns.{Only, not-all-refused, not-always, not-fixed, isTwo, one-is-not}
 use Rattle.stand_ins.proofs.Tried.{tried}
 
 abbrev comesTo : Asking → Outcome
@@ -31,10 +31,6 @@ row-is : (t : Trial) (x : Row) → rowLeft x (comesTo (tryOf t .asking)) ≡ who
 row-is t I = tried .each t .i
 row-is t Q = tried .each t .q
 
--- whether a row's first sample is 2
-isTwo : List Float → Bool
-isTwo row = eq (getD row 0 nan) (whole 2)
-
 -- rows of 1 hold 2 then, and rows of 0 do not
 two-of-ones : (adds : Bool) → isTwo (whole (cond adds (1 + 1) (2 * 1)) ∷ []) ≡ true
 unfolding isTwo eq round
@@ -46,17 +42,9 @@ unfolding isTwo eq round
 not-of-noughts true = refl
 not-of-noughts false = refl
 
-one-is-not : isTwo (whole 1 ∷ []) ≡ false
-unfolding isTwo eq round
-one-is-not = refl
-
-came-one : (k : OnRows) (x : Row) → rowCame x (on 1 k .asking) ≡ whole 1 ∷ []
-came-one k I = refl
-came-one k Q = refl
-
-as-long : (k : OnRows) (x : Row) → lengthCame x (on 1 k .asking) ≡ lengthCame x (on 0 k .asking)
-as-long k I = refl
-as-long k Q = refl
+came : (n : ℕ) (k : OnRows) (x : Row) → rowCame x (on n k .asking) ≡ whole n ∷ []
+came n k I = refl
+came n k Q = refl
 
 -- ---- each kind of call that is tried accepts something
 
@@ -65,18 +53,13 @@ all-refused t = not-all-refused whole-system (tryOf t .asking) (comesTo (tryOf t
 
 -- ---- of the calls on rows, a sampling of a plateau, one of Hann's shape and the four steps, in I and in Q
 
-pub rows-untouched : (k : OnRows) (x : Row) → NotAlways whole-system (rowLeft x) (rowCame x) (on 1 k .asking)
-rows-untouched k x =
-    let a = on 1 k .asking in
-    not-always whole-system (rowLeft x) (rowCame x) isTwo a (comesTo a) (only a) (takes (ones k)) (ap isTwo (row-is (ones k) x) ∙ two-of-ones (sort k .adds)) (ap isTwo (came-one k x) ∙ one-is-not)
-
-pub fixed-row : (k : OnRows) (x : Row) → NotFixed whole-system (rowLeft x) (lengthCame x) (on 1 k .asking) (on 0 k .asking)
-fixed-row k x =
+pub rows-move : (k : OnRows) → RowsMove whole-system rowLeft rowCame (on 1 k .asking) (on 0 k .asking)
+rows-move k =
     let a = on 1 k .asking in
     let b = on 0 k .asking in
-    not-fixed whole-system (rowLeft x) (lengthCame x) isTwo a b (comesTo a) (comesTo b) (only a) (only b) (takes (ones k)) (takes (noughts k)) (as-long k x)
-    (ap isTwo (row-is (ones k) x) ∙ two-of-ones (sort k .adds))
-    (ap isTwo (row-is (noughts k) x) ∙ not-of-noughts (sort k .adds))
+    law.rows-move whole-system rowLeft rowCame a b (comesTo a) (comesTo b) (only a) (only b) (takes (ones k)) (takes (noughts k)) (came 1 k) (came 0 k)
+    (λ x. ap isTwo (row-is (ones k) x) ∙ two-of-ones (sort k .adds))
+    (λ x. ap isTwo (row-is (noughts k) x) ∙ not-of-noughts (sort k .adds))
 
 -- ---- of the sampling call: both pulses, and both bins, are on the rows, which hold 2
 

@@ -1,11 +1,10 @@
 -- The other calls on what is lent: what each promises, as its contract has it, and when it has accepted. Definitions only.
 use Prim.Native.Nat.{ℕ}
 use mathlib.Core.Path.{_≡_}
-use mathlib.Core.Bool.{Bool}
 use mathlib.Core.List.{List, map}
 use lib.Dec.{eqb}
 use lib.Ieee.{Float}
-use lib.ListN.{length, take, replicate}
+use lib.ListN.{length, take}
 use Rattle.quant.specs.declared.complex.Complex.{Complex}
 use Rattle.quant.specs.declared.refusal.Answer.{Answer}
 use Rattle.quant.specs.declared.settings.Settings.{Settings}

@@ -3,6 +3,9 @@
 -- anything at all: whatever it is asked, it is enough that one input, or two, are among it. Definitions only.
 use mathlib.Core.Path.{_≡_}
 use mathlib.Core.Bool.{Bool, true, false}
+use mathlib.Core.List.{List}
+use lib.Ieee.{Float}
+use lib.ListN.{length}
 
 -- a call: what it is given; what it gives back and leaves; what it promises of the two; whether it has accepted
 pub record Call : Type 1 where
@@ -37,3 +40,12 @@ module _ (c : Call) where
   NotFixed {C} {K} shown key x y =
       (Asked : c .Given → Type 0) (f : c .Given → c .Left) → Keeps Asked f → Asked x → Asked y → (fixed : K → C)
       → ((a : c .Given) → Asked a → c .accepted (f a) ≡ true → shown (f a) ≡ fixed (key a)) → ⊥
+
+-- ---- of a call on two rows: "rows untouched", and "one fixed row" for each length, in I and in Q
+
+pub data Row : Type 0 where
+  I Q : Row
+
+pub record RowsMove (c : Call) (left : Row → c .Left → List Float) (came : Row → c .Given → List Float) (x y : c .Given) : Type 1 where
+  pub untouched : (r : Row) → NotAlways c (left r) (came r) x
+  pub fixed : (r : Row) → NotFixed c (left r) (λ (a : c .Given). length (came r a)) x y

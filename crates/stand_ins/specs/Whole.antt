@@ -28,7 +28,7 @@ use Rattle.bench_table.specs.Call.{channel, binWith, pulsesLent, noCrosstalk}
 use Rattle.system.specs.System.{State, Outcome, Promised}
 use Rattle.system.specs.System as system
 use Rattle.system.specs.Said.{partsOf, withPulses}
-use Rattle.stand_ins.specs.StandIns.{Call}
+use Rattle.stand_ins.specs.StandIns.{Call, Row, I, Q}
 
 -- ---- the call: a state and one of the nine, with what it is given
 
@@ -45,9 +45,6 @@ whole-system = record { Given = Asking; Left = Outcome; Promise = λ x o. Promis
 
 -- ---- what is shown: the first or the second row, and the answer with its count
 
-pub data Row : Type 0 where
-  I Q : Row
-
 abbrev pub rowIn : Row → Rowed → List Float
 rowIn I rows = rows .i
 rowIn Q rows = rows .q
@@ -60,12 +57,9 @@ answerOf o = o .answer
 
 -- ---- what a stand-in would show
 
--- the row as it came; and its length, for a fixed row is one for each length
+-- the row as it came
 abbrev pub rowCame : Row → Asking → List Float
 rowCame x a = rowIn x (a .state .rows)
-
-abbrev pub lengthCame : Row → Asking → ℕ
-lengthCame x a = length (rowCame x a)
 
 -- one for all
 abbrev pub anything : {A : Type 0} → A → Unit {0}

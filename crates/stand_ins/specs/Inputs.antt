@@ -1,0 +1,211 @@
+-- The inputs that the other calls are tried on. Definitions only.
+use Prim.Native.Nat.{ℕ}
+use mathlib.Core.Bool.{true}
+use mathlib.Core.List.{List, [], _∷_, map}
+use lib.IntN.{pos}
+use lib.Ieee.{Float, neg}
+use lib.ListN.{take, replicate}
+use Rattle.exact.specs.Doubles.{nought, one}
+use Rattle.naming.specs.declared.Name.{Name}
+use Rattle.quant.specs.declared.complex.Complex.{Complex}
+use Rattle.pulse.specs.declared.bin.Bin.{Bin}
+use Rattle.pulse.specs.declared.list.Pulse.{Pulse}
+use Rattle.pulse.specs.declared.envelope.Shape.the-variants.{Plain}
+use Rattle.tables.specs.Tables.{atRest, noName}
+use Rattle.merge.specs.declared.taking.Taking.{Taking}
+use Rattle.sheet.specs.Sheet.{sheetText}
+use Rattle.bench_table.specs.Numbers.{over, whole, wholes}
+use Rattle.bench_table.specs.Call.{channel, clock, binWith, pulseAt, noCrosstalk}
+use Rattle.stand_ins.specs.Whole.{tablesOf, holding, pulseOf, plain, barrier}
+use Rattle.stand_ins.specs.ByValue.{Timed, Clocked, Turning, Swapping, Weighing, Curve, Pulsed, Looking, Planning, Verdict}
+use Rattle.stand_ins.specs.Buffers.{Step, Plateau, Envelope, Laying, Summing, gatheredFor, Mixing, Owning}
+use Rattle.stand_ins.specs.Texts.{Place, Field, Fields, Sheet, Printing, Answering}
+
+-- ---- by value: time 0 at rate 1 and level 0, an oscillator at rest, amplitude 1, a width of 1 at an offset of 0.5
+
+abbrev pub timed : Timed
+timed = record { time = whole 0; rate = whole 1; level = pos 0 }
+
+abbrev pub clocked : Clocked
+clocked = record { rate = record { 0 = whole 1 }; delay = record { 0 = whole 0 }; level = pos 0 }
+
+abbrev pub turning : Turning
+turning = record { osc = atRest; number = whole 0; time = whole 0 }
+
+abbrev pub swapping : Swapping
+swapping = record { one = atRest; two = atRest; time = whole 0 }
+
+abbrev pub weighing : Weighing
+weighing = record { amplitude = whole 1; phase = whole 0; drag = whole 0 }
+
+abbrev pub curve : Curve
+curve = record { width = whole 1; plateau = whole 0; offset = over 5 10; rate = whole 1; dt = whole 1; room = 1 }
+
+abbrev pub pulsed : Pulsed
+pulsed = record { settings = clock (pos 0); bin = binWith Plain (whole 0) (whole 1); pulse = pulseAt (whole 0); len = 1 }
+
+abbrev pub looking : Looking
+looking = record { tables = tablesOf 0 0; name = channel }
+
+abbrev pub planning : Planning
+planning = record { tables = tablesOf 0 0; channel = channel; cross = noCrosstalk; factors = [] }
+
+abbrev pub fine : Verdict
+fine = record { fits = true; fine = true }
+
+-- ---- texts
+
+-- `0000000000000000`, and with a blank before it
+abbrev pub sixteen-digits : List ℕ
+sixteen-digits = replicate 16 48
+
+abbrev pub blank-digits : List ℕ
+blank-digits = 32 ∷ sixteen-digits
+
+-- at the first place of a text
+abbrev pub first : List ℕ → Place
+first text = record { text = text; at = 0 }
+
+-- `1`, `q`, `1 1`, `run`
+abbrev pub one-text : List ℕ
+one-text = 49 ∷ []
+
+abbrev pub q-text : List ℕ
+q-text = 113 ∷ []
+
+abbrev pub two-ones : List ℕ
+two-ones = 49 ∷ 32 ∷ 49 ∷ []
+
+abbrev pub run-text : List ℕ
+run-text = 114 ∷ 117 ∷ 110 ∷ []
+
+-- a line's first word, with no key before its value
+abbrev pub bare : List ℕ → Field
+bare line = record { line = line; k = 0; key = [] }
+
+abbrev pub bare-two : Fields
+bare-two = record { line = two-ones; k = 0; first = []; l = 1; second = [] }
+
+-- the numbers of a line, for a buffer of two
+abbrev pub listing : List ℕ → List ℕ × ℕ × List Float
+listing line = (line, 0, replicate 2 nought)
+
+-- `x ch=q 1 start=0 span=0`, with no key before the third word's number
+abbrev pub turn-line : Field
+turn-line =
+    record {
+      line =
+          120 ∷ 32 ∷ 99 ∷ 104 ∷ 61 ∷ 113 ∷ 32 ∷ 49 ∷ 32 ∷ 115 ∷ 116 ∷ 97 ∷ 114 ∷ 116 ∷ 61 ∷ 48 ∷ 32 ∷ 115 ∷ 112 ∷ 97 ∷ 110 ∷ 61 ∷ 48 ∷ [];
+      k = 0;
+      key = [];
+    }
+
+-- ---- sheets: of `q`, or of `q` and `r`, with every factor 0.0
+
+abbrev pub names : List Name
+names = channel ∷ record { first = 0x72; second = 0; len = 1 } ∷ []
+
+abbrev pub sheet-text : ℕ → List ℕ
+sheet-text n =
+    let columns = take n names in
+    sheetText (record { columns = columns; blocks = map (λ (m : Name). record { row = m; factors = replicate n 0 }) columns })
+
+abbrev pub sheet : ℕ → Sheet
+sheet n = record { text = sheet-text n; matrix = replicate 64 nought }
+
+abbrev pub printing : ℕ → Printing
+printing n = record { count = n; names = channel ∷ record { first = 0x72; second = 0; len = 1 } ∷ replicate 6 noName; matrix = replicate 4 nought; out = replicate 256 0 }
+
+abbrev pub answering : ℕ → Answering
+answering n = record { text = sheet-text n; out = replicate 4096 0 }
+
+-- ---- rows of one sample each, which holds x: the steps over the C border give twice the sample, or one more
+
+abbrev pub stepping : List ℕ → ℕ → Step
+stepping numbers x = record { rows = 2; i = whole x ∷ []; q = whole x ∷ []; numbers = wholes numbers }
+
+abbrev pub iq-numbers : List ℕ
+iq-numbers = 2 ∷ 0 ∷ 0 ∷ 2 ∷ []
+
+abbrev pub offset-numbers : List ℕ
+offset-numbers = 1 ∷ 1 ∷ []
+
+abbrev pub iir-numbers : List ℕ
+iir-numbers = 2 ∷ 0 ∷ 0 ∷ 1 ∷ 0 ∷ 0 ∷ []
+
+abbrev pub fir-numbers : List ℕ
+fir-numbers = 2 ∷ []
+
+-- one sample of a carrier 1 + i; an envelope of one point, 1, over it
+abbrev pub unit : Complex
+unit = record { re = whole 1; im = whole 0 }
+
+abbrev pub ahead : Complex
+ahead = record { re = whole 1; im = whole 1 }
+
+abbrev pub plateau : ℕ → Plateau
+plateau x = record { rows = 2; i = whole x ∷ []; q = whole x ∷ []; start = 0; count = 1; carrier = ahead; rotation = unit }
+
+abbrev pub enveloped : ℕ → Envelope
+enveloped x =
+    record {
+      rows = 2;
+      i = whole x ∷ [];
+      q = whole x ∷ [];
+      start = 0;
+      points = whole 1 ∷ [];
+      amp = ahead;
+      drag = record { re = whole 0; im = whole 0 };
+      carrier = unit;
+      rotation = unit;
+    }
+
+-- a scratch of one sample
+abbrev pub laying : Laying
+laying = record { curve = curve; scratch = whole 0 ∷ [] }
+
+-- ---- the list of `q` takes part, with the factor 1: its bins, and its pulses summed
+
+abbrev pub taking : Taking
+taking = record { count = 1; places = replicate 8 0; factors = whole 1 ∷ replicate 7 (whole 0) }
+
+abbrev pub summing : List Bin → List Pulse → Summing
+summing bins pulses =
+    let s = holding (whole 0) bins pulses in
+    record { tables = s .tables; taking = taking; pulses = s .pulses; work = s .work; marks = s .marks }
+
+abbrev pub mixing : ℕ → List Bin → List Pulse → Mixing
+mixing x bins pulses =
+    let s = holding (whole x) bins pulses in
+    let g = gatheredFor (summing bins pulses) in
+    record {
+      settings = clock (pos 0);
+      tables = s .tables;
+      taking = taking;
+      ends = g .ends;
+      bins = s .bins;
+      work = g .rows;
+      marks = g .marks;
+      rows = 2;
+      lent = s .rows;
+    }
+
+-- a pulse; two pulses in a bin, at -0.5 and at 0; two bins with a pulse each
+abbrev pub one-pulse : List Pulse
+one-pulse = pulseOf 0 (whole 0) ∷ []
+
+abbrev pub two-pulses : List Pulse
+two-pulses = pulseOf 0 (neg (over 5 10)) ∷ pulseOf 0 (whole 0) ∷ []
+
+abbrev pub of-two-bins : List Pulse
+of-two-bins = pulseOf 0 (whole 0) ∷ pulseOf 1 (whole 0) ∷ []
+
+abbrev pub one-bin : List Bin
+one-bin = plain (whole 1) ∷ []
+
+abbrev pub two-bins : List Bin
+two-bins = plain (whole 1) ∷ plain (over 5 10) ∷ []
+
+-- ---- so many of 1,024 barriers
+abbrev pub owning : ℕ → Owning
+owning n = record { state = holding (whole 0) [] []; commands = replicate 1024 barrier; count = n }
