@@ -14,8 +14,8 @@ use Rattle.system.specs.System.{Outcome, outcome}
 use Rattle.system.proofs.Promised as promised
 use Rattle.stand_ins.specs.StandIns.{NotAllRefused, NotAlways, NotFixed, Row, I, Q, RowsMove}
 use Rattle.stand_ins.specs.Whole.{Asking, isDone, whole-system, rowLeft, answerOf, rowCame, anything, sampling-call, rowsLeft, firstPulse, firstBin, Sampling, askingOf, OnRows, plateau, sort, on, execute, no-command, no-pulse, two-pulses, two-bins, else, samplingOf, Trial, ones, noughts, also, tryOf}
-use Rattle.stand_ins.proofs.StandIns as law
-use Rattle.stand_ins.proofs.StandIns.{Only, not-all-refused, not-always, not-fixed, isTwo, one-is-not}
+use Rattle.stand_ins.specs.Table.{NineCalls}
+use Rattle.stand_ins.proofs.StandIns.{Only, not-all-refused, not-always, not-fixed, isTwo, one-is-not, rows-move}
 use Rattle.stand_ins.proofs.Tried.{tried}
 
 abbrev comesTo : Asking → Outcome
@@ -48,16 +48,16 @@ came n k Q = refl
 
 -- ---- each kind of call that is tried accepts something
 
-pub all-refused : (t : Trial) → NotAllRefused whole-system (tryOf t .asking)
+all-refused : (t : Trial) → NotAllRefused whole-system (tryOf t .asking)
 all-refused t = not-all-refused whole-system (tryOf t .asking) (comesTo (tryOf t .asking)) (only (tryOf t .asking)) (takes t)
 
 -- ---- of the calls on rows, a sampling of a plateau, one of Hann's shape and the four steps, in I and in Q
 
-pub rows-move : (k : OnRows) → RowsMove whole-system rowLeft rowCame (on 1 k .asking) (on 0 k .asking)
-rows-move k =
+moves : (k : OnRows) → RowsMove whole-system rowLeft rowCame (on 1 k .asking) (on 0 k .asking)
+moves k =
     let a = on 1 k .asking in
     let b = on 0 k .asking in
-    law.rows-move whole-system rowLeft rowCame a b (comesTo a) (comesTo b) (only a) (only b) (takes (ones k)) (takes (noughts k)) (came 1 k) (came 0 k)
+    rows-move whole-system rowLeft rowCame a b (comesTo a) (comesTo b) (only a) (only b) (takes (ones k)) (takes (noughts k)) (came 1 k) (came 0 k)
     (λ x. ap isTwo (row-is (ones k) x) ∙ two-of-ones (sort k .adds))
     (λ x. ap isTwo (row-is (noughts k) x) ∙ not-of-noughts (sort k .adds))
 
@@ -71,10 +71,10 @@ first-alone : (x : Sampling) (would : Sampling → Rowed) → isDone (comesTo (a
 first-alone x would done both one =
     not-always sampling-call rowsLeft would (λ (rows : Rowed). isTwo (rows .i)) x (comesTo (askingOf x)) (only-sampled x) done (ap isTwo both ∙ two-of-ones true) (ap isTwo one ∙ one-is-not)
 
-pub first-pulse : NotAlways sampling-call rowsLeft firstPulse (samplingOf two-pulses)
+first-pulse : NotAlways sampling-call rowsLeft firstPulse (samplingOf two-pulses)
 first-pulse = first-alone (samplingOf two-pulses) firstPulse (takes (also two-pulses)) (row-is (also two-pulses) I) (tried .first .pulse)
 
-pub first-bin : NotAlways sampling-call rowsLeft firstBin (samplingOf two-bins)
+first-bin : NotAlways sampling-call rowsLeft firstBin (samplingOf two-bins)
 first-bin = first-alone (samplingOf two-bins) firstBin (takes (also two-bins)) (row-is (also two-bins) I) (tried .first .bin)
 
 -- ---- a list of one is counted 1, and one of none 0
@@ -87,8 +87,19 @@ counted s t one none =
     (ap (λ (r : Answer). eqb (countIn r) 1) (tried .each s .answer) ∙ one)
     (ap (λ (r : Answer). eqb (countIn r) 1) (tried .each t .answer) ∙ none)
 
-pub commands-counted : NotFixed whole-system answerOf anything (else execute .asking) (else no-command .asking)
+commands-counted : NotFixed whole-system answerOf anything (else execute .asking) (else no-command .asking)
 commands-counted = counted (also execute) (also no-command) refl refl
 
-pub pulses-counted : NotFixed whole-system answerOf anything (on 0 plateau .asking) (else no-pulse .asking)
+pulses-counted : NotFixed whole-system answerOf anything (on 0 plateau .asking) (else no-pulse .asking)
 pulses-counted = counted (noughts plateau) (also no-pulse) refl refl
+
+pub nine-calls : NineCalls
+nine-calls =
+    record {
+      all-refused = all-refused;
+      rows-move = moves;
+      first-pulse = first-pulse;
+      first-bin = first-bin;
+      commands-counted = commands-counted;
+      pulses-counted = pulses-counted;
+    }

@@ -1,4 +1,4 @@
--- Which stand-ins are ruled out for which of the other calls, and the inputs that show it. Definitions only.
+-- Which of document 01's stand-ins are ruled out for which call, and the inputs that show it. Definitions only.
 use mathlib.Core.List.{List}
 use lib.Ieee.{Float}
 use lib.ListN.{replicate}
@@ -10,7 +10,7 @@ use Rattle.mixdown.specs.Sampled.{Rowed, mixedDown}
 use Rattle.bench_table.specs.Numbers.{over}
 use Rattle.bench_table.specs.Call.{channel}
 use Rattle.stand_ins.specs.StandIns.{NotAllRefused, NotAlways, NotFixed, Row, I, Q, RowsMove}
-use Rattle.stand_ins.specs.Whole.{anything, answerOf}
+use Rattle.stand_ins.specs.Whole.{anything, whole-system, rowLeft, rowCame, answerOf, sampling-call, rowsLeft, firstPulse, firstBin, OnRows, plateau, on, execute, no-command, no-pulse, two-pulses, two-bins, else, samplingOf, Trial, tryOf}
 use Rattle.stand_ins.specs.ByValue as value
 use Rattle.stand_ins.specs.Texts as text
 use Rattle.stand_ins.specs.Buffers as lent
@@ -18,6 +18,20 @@ use Rattle.stand_ins.specs.Inputs as given
 
 abbrev pub itself : {A : Type 0} → A → A
 itself x = x
+
+-- ---- the nine calls of `system`
+
+pub record NineCalls : Type 1 where
+  -- "all calls refused": of each call
+  pub all-refused : (t : Trial) → NotAllRefused whole-system (tryOf t .asking)
+  -- "rows untouched", "one fixed row": a sampling of a plateau, one of Hann's shape, and the four steps
+  pub rows-move : (k : OnRows) → RowsMove whole-system rowLeft rowCame (on 1 k .asking) (on 0 k .asking)
+  -- "only the first pulse or bin sampled"
+  pub first-pulse : NotAlways sampling-call rowsLeft firstPulse (samplingOf two-pulses)
+  pub first-bin : NotAlways sampling-call rowsLeft firstBin (samplingOf two-bins)
+  -- "a count not tied to the list"
+  pub commands-counted : NotFixed whole-system answerOf anything (else execute .asking) (else no-command .asking)
+  pub pulses-counted : NotFixed whole-system answerOf anything (on 0 plateau .asking) (else no-pulse .asking)
 
 -- ---- by value
 
