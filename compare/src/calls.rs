@@ -57,6 +57,16 @@ pub fn compare(seeds: u64, program: &[String]) -> ExitCode {
     ExitCode::from(u8::from(different > 0))
 }
 
+/// Some calls and what each has to answer, for the program's stored run: the text, or the answers.
+pub fn stored(answers: bool) {
+    let mut rng = Rng::new(1000);
+    for _ in 0..10 {
+        let bench = some_calls(&mut rng);
+        let told = bench.answers.concat();
+        print!("{}", if answers { told } else { bench.text });
+    }
+}
+
 /// A few channels and shapes, then calls of some commands, with more added and replaced between them.
 fn some_calls(rng: &mut Rng) -> Bench {
     let mut bench = Bench::new(rng);

@@ -1,6 +1,5 @@
-//! The command call beside the test copy's: lists of commands by chance, run by the program `replay_commands` and by the Rust. Written as
-//! the program reads and prints them (crates/command_lines/src/lib.rt, crates/replay_commands/src/main.rt). Numbers stay finite, and no two
-//! pulses start at one time.
+//! The command call beside the test copy's: lists of commands by chance, run by the program `replay_calls` and by the Rust. Written as
+//! the program reads and prints them (crates/command_lines/src/lib.rt). Numbers stay finite, and no two pulses start at one time.
 use crate::rng::Rng;
 use std::collections::BTreeMap;
 use std::io::Write;
@@ -36,7 +35,7 @@ pub(crate) const CHANNELS: [&str; 8] = [
 ];
 const SHAPES: [&str; 3] = ["hann", "h", "long_shape_name"];
 
-/// `program` is what runs `replay_commands`, word by word.
+/// `program` is what runs `replay_calls`, word by word.
 pub fn compare(seeds: u64, program: &[String]) -> ExitCode {
     let mut ends: BTreeMap<String, u64> = BTreeMap::new();
     let mut kinds: BTreeMap<&str, u64> = BTreeMap::new();

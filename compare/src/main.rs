@@ -78,26 +78,17 @@ fn main() -> ExitCode {
             drive::time(&program);
             return ExitCode::SUCCESS;
         }
-        Some("stored_jobs") => {
-            sampling::stored(false);
-            return ExitCode::SUCCESS;
-        }
-        Some("stored_samples") => {
-            sampling::stored(true);
-            return ExitCode::SUCCESS;
-        }
-        Some("stored_lists") => {
-            commands::stored(false);
-            return ExitCode::SUCCESS;
-        }
-        Some("stored_answers") => {
-            commands::stored(true);
+        Some(word @ ("stored_lists" | "stored_answers")) => {
+            let answers = word == "stored_answers";
+            commands::stored(answers);
+            calls::stored(answers);
+            sampling::stored(answers);
             return ExitCode::SUCCESS;
         }
         Some(word) => match word.parse() {
             Ok(scale) => scale,
             Err(_) => {
-                eprintln!("usage: compare [SCALE | bench | bench_commands | bench_sampling | growth | near | replays | commands PROGRAM.. | sampling PROGRAM.. | jobs TEXTS PROGRAM.. | bench_jobs PROGRAM.. | drive | stored_lists | stored_answers | stored_jobs | stored_samples]");
+                eprintln!("usage: compare [SCALE | bench | bench_commands | bench_sampling | growth | near | replays | commands PROGRAM.. | sampling PROGRAM.. | jobs TEXTS PROGRAM.. | bench_jobs PROGRAM.. | drive | stored_lists | stored_answers]");
                 return ExitCode::from(2);
             }
         },

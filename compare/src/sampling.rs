@@ -1,5 +1,5 @@
-//! The sampling call beside the test copy's: jobs by chance, run by the program `replay_sampling` and by the Rust. Written as the program
-//! reads and prints them (crates/replay_sampling/src/main.rt). Half of the jobs have one bin in all, so that no order of bins matters.
+//! The sampling call beside the test copy's: jobs by chance, run by the program `replay_calls` and by the Rust. Written as the program
+//! reads and prints them (crates/command_lines/src/lib.rt). Half of the jobs have one bin in all, so that no order of bins matters.
 use crate::commands::{line, naming, run, word, CHANNELS};
 use crate::rng::Rng;
 use std::collections::BTreeMap;
@@ -37,7 +37,7 @@ struct Told {
     excluded: Option<&'static str>,
 }
 
-/// `program` is what runs `replay_sampling`, word by word.
+/// `program` is what runs `replay_calls`, word by word.
 pub fn compare(seeds: u64, program: &[String]) -> ExitCode {
     let mut tally: BTreeMap<String, u64> = BTreeMap::new();
     let mut count = |what: String, by: u64| *tally.entry(what).or_default() += by;
@@ -258,6 +258,7 @@ fn text(job: &Job) -> String {
     for (play, start) in &job.plays {
         text += &line(&Command::Play(*play), *start, play.width + play.plateau);
     }
+    text += "r\n";
     for name in &job.names {
         text += &format!("n{}\n", naming(name));
     }

@@ -1,27 +1,24 @@
 //! The command call timed beside the Rust's: 1,024 commands over 8 channels, most of them plays into a handful of bins, on fresh tables.
-//! Ours is called through the crate `time_commands`, which makes its arrays anew for every call: the same calls with one command are taken off.
+//! Ours is called through the crate `command_lines`, which reads the commands as text and then makes the same call several times: the text with
+//! one call is taken off, and the same with one command, since the arrays are copied for every call.
 //! Ours leaves each list sorted; the Rust sorts and sums it when it builds it, so that it is timed with its building and without.
+use crate::commands::{line, naming, word};
 use crate::rng::Rng;
+use std::fs::File;
 use std::hint::black_box;
+use std::os::fd::AsRawFd;
 use std::time::Instant;
 use theirs::osc::Osc;
 use theirs::tables::{Command, Item, Play, Tables};
 
 pub(crate) const COMMANDS: usize = 1024;
 const ROUNDS: usize = 4;
-const RUNS: usize = 800;
+const RUNS: usize = 400;
 pub(crate) const CHANNELS: [&str; 8] = ["q0", "q1", "q2", "q3", "q4", "q5", "q6", "q7"];
 
 mod c {
     extern "C" {
-        pub fn skierralu_time_commands(
-            words: *const u64,
-            words_len: usize,
-            numbers: *const f64,
-            numbers_len: usize,
-            count: usize,
-            rounds: usize,
-        ) -> usize;
+        pub fn skierralu_calls(text: *const u8, text_len: usize, out: i32);
     }
 }
 
@@ -90,49 +87,67 @@ fn play(rng: &mut Rng, channel: &'static str, amplitude: f64) -> Command<'static
 
 /// Nanoseconds a command in the best runs: ours, the Rust's, and the Rust's with its building. The three take turns.
 fn best(list: &[Timed]) -> [f64; 3] {
-    let words: Vec<u64> = list
-        .iter()
-        .flat_map(|(command, ..)| words(command))
-        .collect();
-    let numbers: Vec<f64> = list.iter().flat_map(numbers).collect();
+    let given = |count: usize, calls: usize| {
+        let lines: String = list[..count].iter().map(line_of).collect();
+        let text = head() + &lines + &"y\n".repeat(calls);
+        let all_ran = format!("x {:016x} {count:016x}\n", 0);
+        assert_eq!(answers(&text), all_ran.repeat(calls), "all were run");
+        text
+    };
+    let texts = [
+        given(COMMANDS, 1 + ROUNDS),
+        given(COMMANDS, 1),
+        given(1, 1 + ROUNDS),
+        given(1, 1),
+    ];
     let item = |(command, start, span): &Timed| Item::new(command, *start, *span).expect("an item");
     let items: Vec<Item> = list.iter().map(item).collect();
-    let mut best = [f64::INFINITY; 4];
+    let nowhere = nowhere();
+    let mut best = [f64::INFINITY; 6];
     for _ in 0..RUNS {
-        let times = [
-            ours(&words, &numbers, COMMANDS),
-            ours(&words, &numbers, 1),
-            theirs(&items, false),
-            theirs(&items, true),
-        ];
+        let [a, b, c, d] = [0, 1, 2, 3].map(|k| ours(&texts[k], &nowhere));
+        let times = [a, b, c, d, theirs(&items, false), theirs(&items, true)];
         best = std::array::from_fn(|k| times[k].min(best[k]));
     }
-    let [all, one, theirs, built] = best.map(|time| time / ROUNDS as f64);
+    let [all, all_once, one, one_once, theirs, built] = best.map(|time| time / ROUNDS as f64);
     let commands = COMMANDS as f64;
     [
-        (all - one) / (commands - 1.0),
+        (all - all_once - (one - one_once)) / (commands - 1.0),
         theirs / commands,
         built / commands,
     ]
 }
 
-/// Nanoseconds for the first `count` commands, ROUNDS times.
-fn ours(words: &[u64], numbers: &[f64], count: usize) -> f64 {
+/// The channels at rest and the shape `hann`, as `bench` has them, in lines.
+pub(crate) fn head() -> String {
+    let mut text = format!("t{}{} {:016x}\n", word(0.0), word(0.0), 0);
+    for name in CHANNELS {
+        text += &format!("c{}{}\n", naming(name), word(0.0).repeat(3));
+    }
+    text + &format!("s{}\n", naming("hann"))
+}
+
+pub(crate) fn line_of((command, start, span): &Timed) -> String {
+    line(command, *start, *span)
+}
+
+/// What ours answers.
+pub(crate) fn answers(text: &str) -> String {
+    let path = "target/compare/answers";
+    ours(text, &File::create(path).expect("a file"));
+    std::fs::read_to_string(path).expect("answers")
+}
+
+pub(crate) fn nowhere() -> File {
+    File::create("/dev/null").expect("a file")
+}
+
+/// Nanoseconds for a text, answered on a file.
+pub(crate) fn ours(text: &str, out: &File) -> f64 {
     let start = Instant::now();
-    // SAFETY: both slices are lent for the call, and it only reads them.
-    let run = unsafe {
-        c::skierralu_time_commands(
-            words.as_ptr(),
-            words.len(),
-            numbers.as_ptr(),
-            numbers.len(),
-            black_box(count),
-            ROUNDS,
-        )
-    };
-    let time = start.elapsed().as_nanos() as f64;
-    assert_eq!(run, count, "all were run");
-    time
+    // SAFETY: the text is lent for the call, and it only reads it.
+    unsafe { c::skierralu_calls(text.as_ptr(), text.len(), out.as_raw_fd()) };
+    start.elapsed().as_nanos() as f64
 }
 
 fn theirs(items: &[Item], build: bool) -> f64 {
@@ -162,39 +177,4 @@ pub(crate) fn bench() -> Tables {
     }
     tables.add_hann("hann");
     tables
-}
-
-/// As `time_commands` reads them: kind, a name, a second name, shaped, flexible.
-pub(crate) fn words(command: &Command) -> [u64; 9] {
-    let (kind, one, two, shaped) = match *command {
-        Command::Play(p) => (0, p.channel, p.shape.unwrap_or(""), p.shape.is_some()),
-        Command::ShiftPhase(name, _) => (1, name, "", false),
-        Command::SetPhase(name, _) => (2, name, "", false),
-        Command::ShiftFreq(name, _) => (3, name, "", false),
-        Command::SetFreq(name, _) => (4, name, "", false),
-        Command::SwapPhase(a, b) => (5, a, b, false),
-        Command::Barrier => (6, "", "", false),
-    };
-    let ([a, b, c], [d, e, f]) = (naming(one), naming(two));
-    [kind, a, b, c, d, e, f, u64::from(shaped), 0]
-}
-
-pub(crate) fn numbers((command, start, span): &Timed) -> [f64; 8] {
-    let x = match *command {
-        Command::Play(p) => {
-            let [a, w, l] = [p.amplitude, p.width, p.plateau];
-            return [*start, *span, a, w, l, p.drag, p.frequency, p.phase];
-        }
-        Command::ShiftPhase(_, x) | Command::SetPhase(_, x) => x,
-        Command::ShiftFreq(_, x) | Command::SetFreq(_, x) => x,
-        _ => 0.0,
-    };
-    [*start, *span, x, 0.0, 0.0, 0.0, 0.0, 0.0]
-}
-
-fn naming(name: &str) -> [u64; 3] {
-    let mut bytes = [0; 16];
-    bytes[..name.len()].copy_from_slice(name.as_bytes());
-    let half = |at: usize| u64::from_le_bytes(bytes[at..at + 8].try_into().expect("eight"));
-    [half(0), half(8), name.len() as u64]
 }

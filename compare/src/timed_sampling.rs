@@ -1,40 +1,13 @@
 //! The sampling call timed beside the Rust's, onto two rows; and how its time grows with samples and pulses.
-use crate::timed::{bench, numbers, row, words, Timed, CHANNELS, COMMANDS};
-use std::hint::black_box;
-use std::time::Instant;
+use crate::commands::{naming, word};
+use crate::timed::{answers, bench, head, line_of, nowhere, ours, row, Timed, CHANNELS, COMMANDS};
 use theirs::lists::{Channel, Crosstalk};
 use theirs::tables::{Command, Item, Play};
 
-/// Of COMMANDS each, as many as `time_commands` takes.
-const LISTS: usize = 8;
-
-mod c {
-    extern "C" {
-        pub fn skierralu_time_sampling(
-            words: *const u64,
-            words_len: usize,
-            numbers: *const f64,
-            numbers_len: usize,
-            count: usize,
-            rate: f64,
-            names: usize,
-            factors: *const f64,
-            factors_len: usize,
-            i: *mut f64,
-            i_len: usize,
-            q: *mut f64,
-            q_len: usize,
-            scratch: *mut f64,
-            scratch_len: usize,
-            rounds: usize,
-        ) -> usize;
-    }
-}
-
 /// Samplings timed beside the Rust's, onto two rows of 65,536 samples at a rate of 1: nanoseconds a sample that a pulse was added onto, or, of
-/// the merging, a pulse. Ours runs the commands before it samples, and each of its calls takes the pulses by value: the same with one sampling,
-/// and the same samplings of no pulse, are taken off, and the second is printed. Both sample onto rows that they read just before. The
-/// Rust keeps envelopes from call to call; where one is to be worked out anew, its width is another in every call.
+/// the merging, a pulse. Ours reads and runs the commands before it samples, and each of its samplings takes the pulses by value and makes its
+/// rows: the same with one sampling, and the same samplings of no pulse, are taken off, and the second is printed. Ours samples onto rows that
+/// it filled just before, the Rust onto rows that it read just before. The Rust keeps envelopes from call to call; where one is to be worked out anew, its width is another in every call.
 pub fn sampling() {
     println!(
         "{:44} {:>8} {:>8} {:>8}",
@@ -68,7 +41,9 @@ pub fn sampling() {
         ours / 65000.0,
         theirs / 65000.0,
     );
-    println!("a call that adds nothing: {empty:.0} nanoseconds, of them the pulses' copy");
+    println!(
+        "a call that adds nothing: {empty:.0} nanoseconds, the rows' filling and the pulses' copy"
+    );
     println!(
         "{:44} {:>8} {:>8} {:>8}",
         "nanoseconds a pulse, full matrix", "ours", "Rust", "ratio"
@@ -177,13 +152,6 @@ fn parted([all, one, none, none_once, theirs]: [f64; 5], calls: usize) -> [f64; 
 
 /// Nanoseconds of one sampling more than `many`, of one, of as many of no pulse, and of the Rust's `many`: the best of several runs that take turns.
 fn samplings(list: &[Timed], factors: Option<&[f64]>, many: usize, runs: usize) -> [f64; 5] {
-    let mut words: Vec<u64> = list
-        .iter()
-        .flat_map(|(command, ..)| words(command))
-        .collect();
-    let mut given: Vec<f64> = list.iter().flat_map(numbers).collect();
-    words.resize(9 * LISTS * COMMANDS, 6);
-    given.resize(8 * LISTS * COMMANDS, 0.0);
     let items: Vec<Item> = list
         .iter()
         .map(|(command, start, span)| Item::new(command, *start, *span).expect("an item"))
@@ -203,46 +171,52 @@ fn samplings(list: &[Timed], factors: Option<&[f64]>, many: usize, runs: usize) 
         names: &CHANNELS,
         factors,
     });
-    let (mut i, mut q, mut scratch) = (vec![0.0; 65536], vec![0.0; 65536], vec![0.0; 65536]);
-    let mut ours = |count: usize, rounds: usize| {
-        let lent = factors.unwrap_or(&[]);
-        let start = Instant::now();
-        // SAFETY: all slices are lent for the call.
-        let run = unsafe {
-            c::skierralu_time_sampling(
-                words.as_ptr(),
-                words.len(),
-                given.as_ptr(),
-                given.len(),
-                black_box(count),
-                1.0,
-                if factors.is_some() { 8 } else { 0 },
-                lent.as_ptr(),
-                lent.len(),
-                i.as_mut_ptr(),
-                i.len(),
-                q.as_mut_ptr(),
-                q.len(),
-                scratch.as_mut_ptr(),
-                scratch.len(),
-                black_box(rounds),
-            )
-        };
-        assert_eq!(run > 0, count > 0, "pulses were added");
-        start.elapsed().as_nanos() as f64
-    };
-    let all = list.len();
+    let texts = [
+        given(list, factors, 1 + many),
+        given(list, factors, 1),
+        given(&[], factors, 1 + many),
+        given(&[], factors, 1),
+    ];
+    let nowhere = nowhere();
     let mut best = [f64::INFINITY; 5];
     let mut rows = vec![0.0; 131072];
     for _ in 0..runs {
-        let times = [
-            ours(all, 1 + many),
-            ours(all, 1),
-            ours(0, 1 + many),
-            ours(0, 1),
-            lists.time(&of, crosstalk.as_ref(), &mut rows, many),
-        ];
+        let [a, b, c, d] = [0, 1, 2, 3].map(|k| ours(&texts[k], &nowhere));
+        let theirs = lists.time(&of, crosstalk.as_ref(), &mut rows, many);
+        let times = [a, b, c, d, theirs];
         best = std::array::from_fn(|k| times[k].min(best[k]));
     }
     best
+}
+
+/// The commands in calls of COMMANDS, and so many samplings of `q0` onto two rows of 65,536, of which no sample is printed.
+fn given(list: &[Timed], factors: Option<&[f64]>, many: usize) -> String {
+    let mut text = head();
+    for part in list.chunks(COMMANDS) {
+        text.extend(part.iter().map(line_of));
+        text += "r\n";
+    }
+    if let Some(factors) = factors {
+        text.extend(CHANNELS.map(|name| format!("n{}\n", naming(name))));
+        text.extend(factors.iter().map(|x| format!("v{}\n", word(*x))));
+    }
+    let sizes = [30, 2, 65536, 65536, 65536].map(|n| format!(" {n:016x}"));
+    let settings = [word(1.0), word(0.0), sizes.concat(), word(0.0).repeat(2)];
+    let sampling = format!("m{}{} {:016x}\n", naming("q0"), settings.concat(), 65536);
+    text += &sampling.repeat(many);
+    let told = answers(&text);
+    let done = format!("m {:016x} ", 0);
+    let counts: Vec<&str> = told
+        .lines()
+        .filter_map(|line| line.strip_prefix(&done))
+        .collect();
+    let none = format!("{:016x}", 0);
+    assert_eq!(counts.len(), many, "all were sampled");
+    assert!(
+        counts
+            .iter()
+            .all(|count| (*count == none) == list.is_empty()),
+        "pulses were added"
+    );
+    text
 }

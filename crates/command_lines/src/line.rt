@@ -1,96 +1,83 @@
-// One line read: its letter, what it adds to the tables, or the command that it is.
-ghost use mathlib.Core.Path.{_≡_};
-ghost use Rattle.command_lines.specs.Line.{isCommand, kindIn, isKnown, wordsOf, addedIn, oscIn, arrangedIn, commandIn, playIn};
+// One line, read.
 use commands::command::Arranged;
 use commands::command::Command;
 use commands::command::Play;
 use executor::osc::OscState;
+use naming::Name;
 use quant::quantity::Amplitude;
 use quant::quantity::Frequency;
 use quant::quantity::Phase;
 use quant::quantity::Time;
-use quant::refusal::Answer;
-use tables::Tabled;
-use tables::Tables;
+use sampler::Request;
 use words::choice;
 use words::float;
+use words::level;
 use words::name;
 use words::readable;
+use words::word;
 
-// Whether the letter is a command's.
-pub fn is_command(kind: u8) -> bool
-    ensures { λ r. ⌜ r ≡ isCommand kind ⌝ }
-{
-    match kind {
-        b'p' | b'h' | b'H' | b'f' | b'F' | b'w' | b'b' => true,
-        _ => false,
-    }
+pub(crate) enum Line {
+    Tables(Amplitude, Time, bool),
+    Channel(Name, OscState),
+    Shape(Name),
+    Command(Arranged),
+    Call(u8),
+    Named(Name),
+    Factor(f64),
+    Sampling(Ask),
+    Unreadable,
 }
 
-// A line's letter; `?` where the line cannot be read.
-pub fn kind_of(line: &[u8]) -> u8
-    ensures { λ r. ⌜ r ≡ kindIn (now (line .entry)) ⌝ }
-{
+// A sampling: what is asked for, the lengths and the samples of what is lent, and where the rows are printed from.
+pub(crate) struct Ask {
+    pub(crate) request: Request,
+    pub(crate) i: usize,
+    pub(crate) q: usize,
+    pub(crate) scratch: usize,
+    pub(crate) first: f64,
+    pub(crate) second: f64,
+    pub(crate) from: usize,
+}
+
+pub(crate) fn read(line: &[u8]) -> Line {
     if line.len() < 1 {
-        return b'?';
+        return Line::Unreadable;
     }
-    let kind = line[0];
-    if is_known(kind) {
-        if readable(line, words_of(kind)) {
-            return kind;
-        }
+    let letter = line[0];
+    if !readable(line, words_of(letter)) {
+        return Line::Unreadable;
     }
-    b'?'
-}
-
-// Of the letters only `x` stands alone.
-fn is_known(kind: u8) -> bool
-    ensures { λ r. ⌜ r ≡ isKnown kind ⌝ }
-{
-    if kind == b'x' {
-        return true;
-    }
-    0 < words_of(kind)
-}
-
-// How many words a line of the letter has.
-fn words_of(kind: u8) -> u8
-    ensures { λ r. ⌜ r ≡ wordsOf kind ⌝ }
-{
-    match kind {
-        b't' => 3,
-        b'c' => 6,
-        b's' => 3,
-        b'p' => 16,
-        b'h' | b'H' | b'f' | b'F' => 6,
-        b'w' => 8,
-        b'b' => 2,
-        _ => 0,
-    }
-}
-
-// What a line with this letter does to the tables.
-pub fn added(kind: u8, line: &[u8], t: Tables) -> Tabled
-    ensures { λ r. ⌜ r ≡ addedIn kind (now (line .entry)) t ⌝ }
-{
-    match kind {
-        b't' => tables::make(
+    match letter {
+        b't' => Line::Tables(
             Amplitude(float(line, 0)),
             Time(float(line, 1)),
             choice(line, 2),
         ),
-        b'c' => tables::add_channel(t, name(line, 0), osc_of(line)),
-        b's' => tables::add_shape(t, name(line, 0)),
-        _ => Tabled {
-            answer: Answer::Done(0),
-            tables: t,
-        },
+        b'c' => Line::Channel(name(line, 0), osc_of(line)),
+        b's' => Line::Shape(name(line, 0)),
+        b'p' | b'h' | b'H' | b'f' | b'F' | b'w' | b'b' => Line::Command(arranged_of(letter, line)),
+        b'x' | b'X' | b'r' | b'y' => Line::Call(letter),
+        b'n' => Line::Named(name(line, 0)),
+        b'v' => Line::Factor(float(line, 0)),
+        b'm' => Line::Sampling(ask_of(line)),
+        _ => Line::Unreadable,
     }
 }
 
-pub fn osc_of(line: &[u8]) -> OscState
-    ensures { λ r. ⌜ r ≡ oscIn (now (line .entry)) ⌝ }
-{
+fn words_of(letter: u8) -> u8 {
+    match letter {
+        b't' | b's' | b'n' => 3,
+        b'c' | b'h' | b'H' | b'f' | b'F' => 6,
+        b'p' => 16,
+        b'w' => 8,
+        b'b' => 2,
+        b'v' => 1,
+        b'm' => 13,
+        _ => 0,
+    }
+}
+
+fn osc_of(line: &[u8]) -> OscState {
     OscState {
         base: Frequency(float(line, 3)),
         delta: Frequency(float(line, 4)),
@@ -98,11 +85,9 @@ pub fn osc_of(line: &[u8]) -> OscState
     }
 }
 
-// The command of a line with this letter; every letter that is no command's stands for a barrier.
-pub fn arranged_of(kind: u8, line: &[u8]) -> Arranged
-    ensures { λ r. ⌜ r ≡ arrangedIn kind (now (line .entry)) ⌝ }
-{
-    let command = command_of(kind, line);
+// A letter that is no command's stands for a barrier.
+pub(crate) fn arranged_of(letter: u8, line: &[u8]) -> Arranged {
+    let command = command_of(letter, line);
     Arranged {
         start: Time(float(line, 0)),
         span: Time(float(line, 1)),
@@ -110,10 +95,8 @@ pub fn arranged_of(kind: u8, line: &[u8]) -> Arranged
     }
 }
 
-fn command_of(kind: u8, line: &[u8]) -> Command
-    ensures { λ r. ⌜ r ≡ commandIn kind (now (line .entry)) ⌝ }
-{
-    match kind {
+fn command_of(letter: u8, line: &[u8]) -> Command {
+    match letter {
         b'p' => Command::Play(play_of(line)),
         b'h' => Command::ShiftPhase(name(line, 2), Phase(float(line, 5))),
         b'H' => Command::SetPhase(name(line, 2), Phase(float(line, 5))),
@@ -124,29 +107,39 @@ fn command_of(kind: u8, line: &[u8]) -> Command
     }
 }
 
-pub fn play_of(line: &[u8]) -> Play
-    ensures { λ r. ⌜ r ≡ playIn (now (line .entry)) ⌝ }
-{
+fn play_of(line: &[u8]) -> Play {
     let channel = name(line, 2);
-    let shaped = choice(line, 5);
     let shape = name(line, 6);
-    let amplitude = Amplitude(float(line, 9));
-    let width = Time(float(line, 10));
-    let plateau = Time(float(line, 11));
-    let drag = float(line, 12);
-    let frequency = Frequency(float(line, 13));
-    let phase = Phase(float(line, 14));
-    let flexible = choice(line, 15);
     Play {
         channel,
-        shaped,
+        shaped: choice(line, 5),
         shape,
-        amplitude,
-        width,
-        plateau,
-        drag,
-        frequency,
-        phase,
-        flexible,
+        amplitude: Amplitude(float(line, 9)),
+        width: Time(float(line, 10)),
+        plateau: Time(float(line, 11)),
+        drag: float(line, 12),
+        frequency: Frequency(float(line, 13)),
+        phase: Phase(float(line, 14)),
+        flexible: choice(line, 15),
+    }
+}
+
+fn ask_of(line: &[u8]) -> Ask {
+    let channel = name(line, 0);
+    let request = Request {
+        channel,
+        rate: Frequency(float(line, 3)),
+        delay: Time(float(line, 4)),
+        level: level(line, 5, 30),
+        rows: word(line, 6) as usize,
+    };
+    Ask {
+        request,
+        i: word(line, 7) as usize,
+        q: word(line, 8) as usize,
+        scratch: word(line, 9) as usize,
+        first: float(line, 10),
+        second: float(line, 11),
+        from: word(line, 12) as usize,
     }
 }

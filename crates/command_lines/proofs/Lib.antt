@@ -1,2 +1,0 @@
--- The modules of `proofs/` that belong to no one function.
-pub mod Letters

@@ -1,0 +1,159 @@
+// The lines of a text, in order: each is read, done and answered.
+use super::line::Ask;
+use super::line::Line;
+use super::line::arranged_of;
+use super::line::read;
+use super::show::show;
+use super::show::show_answer;
+use super::show::show_row;
+use super::state::State;
+use super::state::after;
+use super::state::is_call;
+use super::state::kept;
+use super::state::least;
+use super::state::ran;
+use super::state::rows_of;
+use super::state::start;
+use commands::command::Arranged;
+use crosstalk::names::Crosstalk;
+use owned::Executed;
+use owned::execute_owned;
+use owned_sampler::sample_owned;
+use pulse::list::Pulse;
+use quant::complex::Complex;
+use quant::quantity::Time;
+use quant::refusal::Answer;
+use sampler::Request;
+use tables::Tabled;
+use tables::Tables;
+use words::end_of;
+
+// Answers go to a file that is open.
+pub fn walk(text: &[u8], out: i32) {
+    let mut commands = [arranged_of(b'b', b""); 1024];
+    let mut pulses = [no_pulse(); 8192];
+    let mut bins = [[0.0; 5]; 512];
+    let mut s = start();
+    let mut at: usize = 0;
+    while at < text.len() {
+        let end = end_of(text, at);
+        let next = end + 1;
+        let said = read(&text[at..end]);
+        let slot = least(s.count, 1023);
+        commands[slot] = kept(said, commands[slot]);
+        s = after(s, said, out);
+        if is_call(said) {
+            let e = called(s, said, commands, &mut bins, pulses, out);
+            pulses = e.pulses;
+            s = ran(s, said, e.tabled);
+        }
+        at = next;
+    }
+}
+
+// A sampling leaves all as it was; `X` lends no row.
+fn called(
+    s: State,
+    said: Line,
+    commands: [Arranged; 1024],
+    bins: &mut [[f64; 5]],
+    pulses: [Pulse; 8192],
+    out: i32,
+) -> Executed {
+    let t = s.tables;
+    if let Line::Sampling(ask) = said {
+        sampled(s, ask, bins, pulses, out);
+        return unchanged(t, pulses);
+    }
+    let n = least(rows_of(said), bins.len());
+    let e = execute_owned(t, commands, s.count, &mut bins[..n], pulses);
+    show(said, e, bins, out);
+    e
+}
+
+fn unchanged(tables: Tables, pulses: [Pulse; 8192]) -> Executed {
+    let tabled = Tabled {
+        answer: Answer::Done(0),
+        tables,
+    };
+    Executed { tabled, pulses }
+}
+
+fn sampled(s: State, ask: Ask, bins: &[[f64; 5]], pulses: [Pulse; 8192], out: i32) {
+    let t = s.tables;
+    let r = ask.request;
+    let c = s.cross;
+    let factors = s.factors;
+    let mut i = [ask.first; 65537];
+    let mut q = [ask.second; 65537];
+    let mut scratch = [0.0; 65537];
+    let mut work = [[0.0; 5]; 8192];
+    let mut marks = [0; 8192];
+    let a = on_rows(
+        t,
+        r,
+        c,
+        &factors,
+        s.lent,
+        bins,
+        pulses,
+        &mut i,
+        ask.i,
+        &mut q,
+        ask.q,
+        &mut scratch,
+        ask.scratch,
+        &mut work,
+        &mut marks,
+    );
+    show_answer(b"m", a, out);
+    show_row(b"i", &i, ask.from, ask.i, out);
+    show_row(b"q", &q, ask.from, ask.q, out);
+}
+
+// On the first factors, and the first samples of each row and of the scratch: as many as are given, or all.
+fn on_rows(
+    t: Tables,
+    r: Request,
+    c: Crosstalk,
+    factors: &[f64],
+    nf: usize,
+    bins: &[[f64; 5]],
+    pulses: [Pulse; 8192],
+    i: &mut [f64],
+    ni: usize,
+    q: &mut [f64],
+    nq: usize,
+    scratch: &mut [f64],
+    ns: usize,
+    work: &mut [[f64; 5]],
+    marks: &mut [usize],
+) -> Answer {
+    let f = least(nf, factors.len());
+    let a = least(ni, i.len());
+    let b = least(nq, q.len());
+    let d = least(ns, scratch.len());
+    sample_owned(
+        t,
+        r,
+        c,
+        &factors[..f],
+        bins,
+        pulses,
+        &mut i[..a],
+        &mut q[..b],
+        &mut scratch[..d],
+        work,
+        marks,
+    )
+}
+
+fn no_pulse() -> Pulse {
+    let nought = Complex { re: 0.0, im: 0.0 };
+    Pulse {
+        bin: 0,
+        time: Time(0.0),
+        amp: nought,
+        drag: nought,
+    }
+}
