@@ -1,13 +1,11 @@
-/* Makes the list of answers that the program replay_ieee reads (crates/replay_ieee/stdin).
+/* Prints operands for the program replay_numbers, or the answers that are stored beside it: see tools/vectors.
  *
  * The answers are the hardware's: the instructions vfmadd (fused multiply-add) and roundsd upwards (ceiling) of an x86-64
  * processor, which this text names by their intrinsics, in the default modes (nearest even, subnormals kept). The seed is fixed, so
- * tools/vectors makes the same list every time:
+ * the list is the same every time.
  *
- *     gcc -O2 -mfma -o target/vectors tools/vectors.c && target/vectors > crates/replay_ieee/stdin
- *
- * A line is `f A B C R` for R = A * B + C rounded once, or `c X R` for the least whole number R at or above X; each number is a
- * double's bits in 16 lowercase hex digits.
+ * A line is `m A B C`, answered by A * B + C rounded once, or `u X`, answered by the least whole number at or above X; each number is a
+ * double's bits in 16 lowercase hex digits, and a NaN's are 7ff8000000000000.
  */
 #include <immintrin.h>
 #include <stdint.h>
@@ -48,16 +46,30 @@ static int clamped(int n, int least, int most)
 
 /* ---- the two kinds of line */
 
+/* whether answers are printed, and not operands */
+static int answers;
+
+static void answered(char letter, double x)
+{
+    printf("%c %016lx\n", letter, x != x ? 0x7ff8000000000000u : bits_of(x));
+}
+
 static void fused(uint64_t a, uint64_t b, uint64_t c)
 {
     __m128d r = _mm_fmadd_sd(_mm_set_sd(of(a)), _mm_set_sd(of(b)), _mm_set_sd(of(c)));
-    printf("f %016lx %016lx %016lx %016lx\n", a, b, c, bits_of(_mm_cvtsd_f64(r)));
+    if (answers)
+        answered('m', _mm_cvtsd_f64(r));
+    else
+        printf("m %016lx %016lx %016lx\n", a, b, c);
 }
 
 static void ceiling(uint64_t x)
 {
     __m128d r = _mm_ceil_sd(_mm_set_sd(0.0), _mm_set_sd(of(x)));
-    printf("c %016lx %016lx\n", x, bits_of(_mm_cvtsd_f64(r)));
+    if (answers)
+        answered('u', _mm_cvtsd_f64(r));
+    else
+        printf("u %016lx\n", x);
 }
 
 /* ---- chance: splitmix64. C leaves open in which order the operands of an expression are worked out, so each has one draw at most. */
@@ -292,8 +304,9 @@ static void special_ceilings(void)
         ceiling(subnormal());
 }
 
-int main(void)
+int main(int count, char **words)
 {
+    answers = count > 1 && strcmp(words[1], "answers") == 0;
     make_special();
     special_triples();
     every_exponent_relation();

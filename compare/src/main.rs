@@ -47,7 +47,7 @@ fn main() -> ExitCode {
         }
         Some("near") => return near::run(),
         Some("replays") => {
-            replays::print();
+            replays::print(std::env::args().nth(2).as_deref() == Some("answers"));
             return ExitCode::SUCCESS;
         }
         Some("commands") => {
@@ -88,7 +88,7 @@ fn main() -> ExitCode {
         Some(word) => match word.parse() {
             Ok(scale) => scale,
             Err(_) => {
-                eprintln!("usage: compare [SCALE | bench | bench_commands | bench_sampling | growth | near | replays | commands PROGRAM.. | sampling PROGRAM.. | jobs TEXTS PROGRAM.. | bench_jobs PROGRAM.. | drive | stored_lists | stored_answers]");
+                eprintln!("usage: compare [SCALE | bench | bench_commands | bench_sampling | growth | near | replays [answers] | commands PROGRAM.. | sampling PROGRAM.. | jobs TEXTS PROGRAM.. | bench_jobs PROGRAM.. | drive | stored_lists | stored_answers]");
                 return ExitCode::from(2);
             }
         },

@@ -40,11 +40,6 @@ longer true b bs rest = refl
 longer false b [] rest = refl
 longer false b (d ∷ ds) rest = ap (before b) (rest (omega arith))
 
-fewer : (feed : Bool) (b : ℕ) (lines : List (List ℕ)) (n : ℕ) → length lines ≤ n → length (cond feed ([] ∷ lines) (before b lines)) ≤ suc n
-fewer true b lines n h = omega arith
-fewer false b [] n h = omega arith
-fewer false b (line ∷ lines) n h = omega arith
-
 -- ---- the lines of a text
 
 pub line-within : (text : List ℕ) → lineLength text ≤ length text
@@ -52,21 +47,12 @@ unfolding lineLength
 line-within [] = omega arith
 line-within (b ∷ bs) = shorter (eqb b 10) (lineLength bs) (length bs) (line-within bs)
 
-pub lines-within : (text : List ℕ) → length (linesOf text) ≤ length text
-unfolding linesOf
-lines-within [] = omega arith
-lines-within (b ∷ bs) = fewer (eqb b 10) b (linesOf bs) (length bs) (lines-within bs)
-
 pub first-line : (text : List ℕ) → 0 < length text → linesOf text ≡ take (lineLength text) text ∷ linesOf (drop (suc (lineLength text)) text)
 unfolding linesOf lineLength
 first-line [] h = absurd (not-suc-le-zero h)
 first-line (b ∷ bs) h = longer (eqb b 10) b bs (first-line bs)
 
 -- ---- the lines from a place on
-
-pub none-left : (text : List ℕ) (at : ℕ) → length text ≤ at → linesOf (drop at text) ≡ []
-unfolding linesOf
-none-left text at h = rw (drop-of-length-le text h)
 
 module _ (text : List ℕ) (at : ℕ) (h : at < length text) where
   pub line-ends-within : at + lineLength (drop at text) ≤ length text

@@ -1,7 +1,7 @@
 // The numbers of a line: each is the bits of a double, 16 lowercase hex digits after one space.
 ghost use mathlib.Core.Path.{_≡_};
 ghost use lib.Ieee.{binary64, nanBits, ofBits};
-ghost use Rattle.lines.specs.Field.{numberAt, sameBits};
+ghost use Rattle.lines.specs.Field.{numberAt};
 use hex::Word;
 
 // The number after the space at a place of a line.
@@ -28,18 +28,8 @@ pub fn float_of(bits: u64) -> f64
 }
 
 // Whether a pattern is a NaN's: above infinity's, the sign left out.
-pub fn nan_bits(bits: u64) -> bool
+fn nan_bits(bits: u64) -> bool
     ensures { λ r. ⌜ r ≡ nanBits binary64 bits ⌝ }
 {
     0x7ff0_0000_0000_0000 < bits % 0x8000_0000_0000_0000
-}
-
-// Whether a double has these bits; every NaN equals every NaN.
-pub fn same(x: f64, bits: u64) -> bool
-    ensures { λ r. ⌜ r ≡ sameBits x bits ⌝ }
-{
-    if x != x {
-        return nan_bits(bits);
-    }
-    f64::to_bits(x) == bits
 }

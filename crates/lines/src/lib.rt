@@ -1,4 +1,3 @@
-// What every program that replays a list of stored answers needs: the lines of a text, the numbers of a line, and the count of verdicts.
+// The lines of a text and the numbers of a line, for every program that reads one.
 pub mod field;
-pub mod tally;
 pub mod text;

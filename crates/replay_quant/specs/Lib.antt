@@ -1,3 +1,0 @@
-pub mod Align
-pub mod Osc
-pub mod Verdict
