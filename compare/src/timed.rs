@@ -12,8 +12,10 @@ use theirs::osc::Osc;
 use theirs::tables::{Command, Item, Play, Tables};
 
 pub(crate) const COMMANDS: usize = 1024;
+/// Calls of the Rust's, and of ours, in a run. Ours reads the text first, which is to be little beside the calls.
 const ROUNDS: usize = 4;
-const RUNS: usize = 400;
+const CALLS: usize = 16;
+const RUNS: usize = 300;
 pub(crate) const CHANNELS: [&str; 8] = ["q0", "q1", "q2", "q3", "q4", "q5", "q6", "q7"];
 
 mod c {
@@ -95,9 +97,9 @@ fn best(list: &[Timed]) -> [f64; 3] {
         text
     };
     let texts = [
-        given(COMMANDS, 1 + ROUNDS),
+        given(COMMANDS, 1 + CALLS),
         given(COMMANDS, 1),
-        given(1, 1 + ROUNDS),
+        given(1, 1 + CALLS),
         given(1, 1),
     ];
     let item = |(command, start, span): &Timed| Item::new(command, *start, *span).expect("an item");
@@ -109,13 +111,10 @@ fn best(list: &[Timed]) -> [f64; 3] {
         let times = [a, b, c, d, theirs(&items, false), theirs(&items, true)];
         best = std::array::from_fn(|k| times[k].min(best[k]));
     }
-    let [all, all_once, one, one_once, theirs, built] = best.map(|time| time / ROUNDS as f64);
-    let commands = COMMANDS as f64;
-    [
-        (all - all_once - (one - one_once)) / (commands - 1.0),
-        theirs / commands,
-        built / commands,
-    ]
+    let [all, all_once, one, one_once, theirs, built] = best;
+    let ours = (all - all_once - (one - one_once)) / (CALLS * (COMMANDS - 1)) as f64;
+    let [theirs, built] = [theirs, built].map(|time| time / (ROUNDS * COMMANDS) as f64);
+    [ours, theirs, built]
 }
 
 /// The channels at rest and the shape `hann`, as `bench` has them, in lines.

@@ -140,8 +140,8 @@ pub fn growth() {
 
 /// Nanoseconds of one sampling of `q0`: ours, the Rust's, and ours of no pulse.
 fn sampled(list: &[Timed], factors: Option<&[f64]>) -> [f64; 3] {
-    let many = (4096 / list.len()).clamp(1, 4);
-    parted(samplings(list, factors, many, 160 / many), many)
+    let many = 8;
+    parted(samplings(list, factors, many, 40), many)
 }
 
 fn parted([all, one, none, none_once, theirs]: [f64; 5], calls: usize) -> [f64; 3] {

@@ -1,6 +1,5 @@
 // What a call or a sampling came to, printed.
 ghost use Prim.Native.Nat.{_<_, _≤_};
-use super::line::Line;
 use super::state::least;
 use decimal::print::pattern;
 use owned::Executed;
@@ -10,13 +9,13 @@ use quant::refusal::number;
 use tables::Channel;
 
 // A call's answer, and for `x` and `X` all that it leaves.
-pub(crate) fn show(said: Line, e: Executed, bins: &[[f64; 5]], out: i32) {
+pub(crate) fn show(letter: u8, e: Executed, bins: &[[f64; 5]], out: i32) {
     let tabled = e.tabled;
     let pulses = e.pulses;
     let answer = tabled.answer;
     let t = tabled.tables;
     show_answer(b"x", answer, out);
-    let count = shown(said, t.count);
+    let count = shown(letter, t.count);
     let mut i: usize = 0;
     while i < count {
         let c = t.channels[i];
@@ -28,14 +27,11 @@ pub(crate) fn show(said: Line, e: Executed, bins: &[[f64; 5]], out: i32) {
 }
 
 // How many of the channels are told.
-fn shown(said: Line, count: usize) -> usize
+fn shown(letter: u8, count: usize) -> usize
     ensures { λ r. ⌜ r ≤ 8 ⌝ }
 {
-    match said {
-        Line::Call(letter) => match letter {
-            b'x' | b'X' => least(count, 8),
-            _ => 0,
-        },
+    match letter {
+        b'x' | b'X' => least(count, 8),
         _ => 0,
     }
 }

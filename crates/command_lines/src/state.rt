@@ -110,31 +110,20 @@ pub(crate) fn kept(said: Line, before: Arranged) -> Arranged {
     }
 }
 
-// Whether a line is a call or a sampling.
-pub(crate) fn is_call(said: Line) -> bool {
+// A call's letter, `m` for a sampling, `?` for any other line.
+pub(crate) fn letter_of(said: Line) -> u8 {
     match said {
-        Line::Call(_) | Line::Sampling(_) => true,
-        _ => false,
-    }
-}
-
-// How many rows a call is lent for the bins.
-pub(crate) fn rows_of(said: Line) -> usize {
-    match said {
-        Line::Call(letter) => if letter == b'X' { 0 } else { 512 },
-        _ => 512,
+        Line::Call(letter) => letter,
+        Line::Sampling(_) => b'm',
+        _ => b'?',
     }
 }
 
 // What a call leaves: its commands are forgotten. After `y`, as after a sampling, all is as before.
-pub(crate) fn ran(s: State, said: Line, t: Tabled) -> State {
-    match said {
-        Line::Call(letter) => if letter == b'y' {
-            s
-        } else {
-            with_count(with_tables(s, t.tables), 0)
-        },
-        _ => s,
+pub(crate) fn ran(s: State, letter: u8, t: Tabled) -> State {
+    match letter {
+        b'm' | b'y' => s,
+        _ => with_count(with_tables(s, t.tables), 0),
     }
 }
 

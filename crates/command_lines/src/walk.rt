@@ -1,4 +1,5 @@
 // The lines of a text, in order: each is read, done and answered.
+ghost use Prim.Native.Nat.{_≤_};
 use super::line::Ask;
 use super::line::Line;
 use super::line::arranged_of;
@@ -8,11 +9,10 @@ use super::show::show_answer;
 use super::show::show_row;
 use super::state::State;
 use super::state::after;
-use super::state::is_call;
 use super::state::kept;
 use super::state::least;
+use super::state::letter_of;
 use super::state::ran;
-use super::state::rows_of;
 use super::state::start;
 use commands::command::Arranged;
 use crosstalk::names::Crosstalk;
@@ -42,10 +42,11 @@ pub fn walk(text: &[u8], out: i32) {
         let slot = least(s.count, 1023);
         commands[slot] = kept(said, commands[slot]);
         s = after(s, said, out);
-        if is_call(said) {
-            let e = called(s, said, commands, &mut bins, pulses, out);
+        let letter = letter_of(said);
+        if letter != b'?' {
+            let e = called(s, said, letter, commands, &mut bins, pulses, out);
             pulses = e.pulses;
-            s = ran(s, said, e.tabled);
+            s = ran(s, letter, e.tabled);
         }
         at = next;
     }
@@ -55,6 +56,7 @@ pub fn walk(text: &[u8], out: i32) {
 fn called(
     s: State,
     said: Line,
+    letter: u8,
     commands: [Arranged; 1024],
     bins: &mut [[f64; 5]],
     pulses: [Pulse; 8192],
@@ -65,10 +67,16 @@ fn called(
         sampled(s, ask, bins, pulses, out);
         return unchanged(t, pulses);
     }
-    let n = least(rows_of(said), bins.len());
+    let n = rows_of(letter, bins.len());
     let e = execute_owned(t, commands, s.count, &mut bins[..n], pulses);
-    show(said, e, bins, out);
+    show(letter, e, bins, out);
     e
+}
+
+fn rows_of(letter: u8, rows: usize) -> usize
+    ensures { λ r. ⌜ r ≤ rows ⌝ }
+{
+    if letter == b'X' { 0 } else { rows }
 }
 
 fn unchanged(tables: Tables, pulses: [Pulse; 8192]) -> Executed {

@@ -5,10 +5,10 @@ use Rattle.command_lines.proofs.show.show.Statement.{statement}
 use Rattle.command_lines.proofs.show.show.Tie as tie
 
 abbrev Inv-loop : tie.InvT-loop
-Inv-loop bins out pulses t count i₀ i = Unit {0}
+Inv-loop letter bins out pulses t count i₀ i = Unit {0}
 
 abbrev μ-loop : tie.MeasureT-loop
-μ-loop bins out pulses t count i₀ i = count - i
+μ-loop letter bins out pulses t count i₀ i = count - i
 
 slice-aggregate-show-answer : tie.Need-slice-aggregate-show-answer Inv-loop μ-loop
 slice-aggregate-show-answer c = search needs

@@ -23,9 +23,6 @@ returns c = search needs
 rows-of-requires : tie.Need-rows-of-requires
 rows-of-requires c κs = search needs
 
-least-requires : tie.Need-least-requires
-least-requires c κs = search needs
-
 slice-relend-prefix-execute-owned : tie.Need-slice-relend-prefix-execute-owned
 slice-relend-prefix-execute-owned c = search needs
 
@@ -54,7 +51,6 @@ called-spec =
     same-length
     returns
     rows-of-requires
-    least-requires
     slice-relend-prefix-execute-owned
     slice-aggregate-execute-owned
     execute-owned-requires

@@ -73,8 +73,8 @@ array-set-from-commands c = search needs
 after-requires : tie.Need-after-requires Inv-loop μ-loop
 after-requires c κs = search needs
 
-is-call-requires : tie.Need-is-call-requires Inv-loop μ-loop
-is-call-requires c κs = search needs
+letter-of-requires : tie.Need-letter-of-requires Inv-loop μ-loop
+letter-of-requires c κs = search needs
 
 slice-aggregate-called : tie.Need-slice-aggregate-called Inv-loop μ-loop
 slice-aggregate-called c = search needs
@@ -93,7 +93,7 @@ loop-less c =
 loop-again : tie.Need-loop-again Inv-loop μ-loop
 loop-again c =
     let ends = c .before .before .before .before .before .before .before .before .before .before .before .before .before in
-    (on _ _ _ _ (ends .end-of .ensures), c .before .before .before .called .kept .1 .1 .1 .0 ∙ ends .before .before .loop .inv .1)
+    (on _ _ _ _ (ends .end-of .ensures), c .before .before .before .called .kept .1 .1 .1 .1 .0 ∙ ends .before .before .loop .inv .1)
 
 loop-less-2 : tie.Need-loop-less-2 Inv-loop μ-loop
 loop-less-2 c = search needs
@@ -128,7 +128,7 @@ walk-spec =
     mul-commands
     array-set-from-commands
     after-requires
-    is-call-requires
+    letter-of-requires
     slice-aggregate-called
     called-requires
     ran-requires
