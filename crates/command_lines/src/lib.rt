@@ -31,13 +31,19 @@
 //     m NUMBER COUNT
 //     i SAMPLE ..
 //     q SAMPLE ..
+ghost use mathlib.Core.Path.{_≡_};
+ghost use lib.ListN.{length};
+ghost use Rattle.lines.specs.Text.{linesOf};
+
 mod line;
 mod show;
 mod state;
 pub mod walk;
 
-// For the clock: a text answered on a file that is open.
+// For the clock: a text answered on a file that is open, and how many lines it has.
 #[no_mangle]
-pub extern "C" fn skierralu_calls(text: &[u8], out: i32) {
-    walk::walk(text, out);
+pub extern "C" fn skierralu_calls(text: &[u8], out: i32) -> usize
+    ensures { λ r. ⌜ r ≡ length (linesOf (now (text .entry))) ⌝ }
+{
+    walk::walk(text, out)
 }

@@ -1,5 +1,8 @@
 // The lines of a text, in order: each is read, done and answered.
+ghost use mathlib.Core.Path.{_≡_};
 ghost use Prim.Native.Nat.{_≤_};
+ghost use lib.ListN.{length};
+ghost use Rattle.lines.specs.Text.{linesOf};
 use super::line::Ask;
 use super::line::Line;
 use super::line::arranged_of;
@@ -28,17 +31,21 @@ use tables::Tabled;
 use tables::Tables;
 use words::end_of;
 
-// Answers go to a file that is open.
-pub fn walk(text: &[u8], out: i32) {
+// Answers go to a file that is open. Every line is gone through once: the count is the lines'.
+pub fn walk(text: &[u8], out: i32) -> usize
+    ensures { λ r. ⌜ r ≡ length (linesOf (now (text .entry))) ⌝ }
+{
     let mut commands = [arranged_of(b'b', b""); 1024];
     let mut pulses = [no_pulse(); 8192];
     let mut bins = [[0.0; 5]; 512];
     let mut s = start();
+    let mut lines: usize = 0;
     let mut at: usize = 0;
     while at < text.len() {
         let end = end_of(text, at);
         let next = end + 1;
         let said = read(&text[at..end]);
+        lines += 1;
         let slot = least(s.count, 1023);
         commands[slot] = kept(said, commands[slot]);
         s = after(s, said, out);
@@ -50,6 +57,7 @@ pub fn walk(text: &[u8], out: i32) {
         }
         at = next;
     }
+    lines
 }
 
 // A sampling leaves all as it was; `X` lends no row.

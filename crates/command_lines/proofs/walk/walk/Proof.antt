@@ -1,23 +1,45 @@
--- `command_lines::walk::walk` is safe and ends, since each turn goes past a line. Assumes nothing.
-use Prim.Native.Nat.{ℕ, _+_, _-_, _≤_, _<_, min}
-use mathlib.Core.Path.{_≡_, _∙_}
+-- `command_lines::walk::walk` is safe and ends, since each turn goes past a line, and counts the lines. Assumes nothing.
+use Prim.Native.Nat.{ℕ, suc, _+_, _-_, _≤_, _<_}
+use mathlib.Core.Path.{_≡_, refl, ap, _∙_}
 use native.Mathlib.Omega.{arith}
-use lib.ListN.{length}
+use mathlib.Core.List.{List}
+use lib.Ieee.{Float}
+use lib.ListN.{length, drop, drop-of-length-le}
 use borrow.Author.Needs.{needs}
+use Rattle.lines.specs.Text.{linesOf, lineLength}
+use Rattle.lines.proofs.Lines.{line-ends-within, next-line}
+use Rattle.words.specs.Words.{endIn}
 use Rattle.command_lines.proofs.walk.walk.Statement.{statement}
 use Rattle.command_lines.proofs.walk.walk.Tie as tie
 
-less : (n at k end : ℕ) → end ≡ min (at + k) n → at < n → n - (end + 1) < n - at
-less n at k end e p = omega (arith, e, p)
+-- so many lines are gone through, and the rest begins at a place; the array lent for the bins keeps its length
+record At (text : List ℕ) (bins : List (List Float)) (lines at : ℕ) : Type 0 where
+  near : at ≤ length text + 1
+  rows : length bins ≡ 512
+  few : lines ≤ at
+  counted : lines + length (linesOf (drop at text)) ≡ length (linesOf text)
 
-on : (n at k end : ℕ) → end ≡ min (at + k) n → end + 1 ≤ n + 1
-on n at k end e = omega (arith, e)
+less : (text : List ℕ) (at end : ℕ) → end ≡ endIn text at → at < length text → length text - (end + 1) < length text - at
+less text at end e h = omega (arith, e, h)
+
+module _ (text : List ℕ) (lines at end : ℕ) where
+  -- one line further
+  further : (bins after : List (List Float)) → At text bins lines at → at < length text → end ≡ endIn text at → length after ≡ length bins → At text after (lines + 1) (end + 1)
+  further bins after now h e same =
+      let is : end ≡ at + lineLength (drop at text) = omega (arith, e, line-ends-within text at h) in
+      let one : length (linesOf (drop at text)) ≡ suc (length (linesOf (drop (end + 1) text))) = rw is (ap length (next-line text at h)) in
+      record { near = omega (arith, e); rows = same ∙ now .rows; few = omega (arith, now .few, is); counted = omega (arith, now .counted, one) }
+
+  -- none is left
+  through : (bins : List (List Float)) → At text bins lines at → length text ≤ at → lines ≡ length (linesOf text)
+  unfolding linesOf
+  through bins now h = let all = rw (drop-of-length-le text h) at (now .counted) in omega (arith, all)
 
 abbrev Inv-loop : tie.InvT-loop
-Inv-loop text out commands₀ pulses₀ bins₀ s₀ at₀ commands pulses bins s at = (at ≤ length text + 1) × (length bins ≡ 512)
+Inv-loop text out commands₀ pulses₀ bins₀ s₀ lines₀ at₀ commands pulses bins s lines at = At text bins lines at
 
 abbrev μ-loop : tie.MeasureT-loop
-μ-loop text out commands₀ pulses₀ bins₀ s₀ at₀ commands pulses bins s at = length text - at
+μ-loop text out commands₀ pulses₀ bins₀ s₀ lines₀ at₀ commands pulses bins s lines at = length text - at
 
 slice-aggregate-arranged-of : tie.Need-slice-aggregate-arranged-of Inv-loop μ-loop
 slice-aggregate-arranged-of c = search needs
@@ -51,6 +73,9 @@ part-read-end c = search needs
 
 read-requires : tie.Need-read-requires Inv-loop μ-loop
 read-requires c κs = search needs
+
+add-lines : tie.Need-add-lines Inv-loop μ-loop
+add-lines c = let inv = c .before .before .before .before .loop .inv in omega (arith, inv .few, c .before .before .before .loop-test .taken)
 
 least-requires : tie.Need-least-requires Inv-loop μ-loop
 least-requires c κs = search needs
@@ -88,21 +113,25 @@ ran-requires c κs = search needs
 loop-less : tie.Need-loop-less Inv-loop μ-loop
 loop-less c =
     let ends = c .before .before .before .before .before .before .before .before .before .before .before .before .before in
-    less _ _ _ _ (ends .end-of .ensures) (ends .before .loop-test .taken)
+    less _ _ _ (ends .end-of .ensures) (ends .before .loop-test .taken)
 
 loop-again : tie.Need-loop-again Inv-loop μ-loop
 loop-again c =
     let ends = c .before .before .before .before .before .before .before .before .before .before .before .before .before in
-    (on _ _ _ _ (ends .end-of .ensures), c .before .before .before .called .kept .1 .1 .1 .1 .0 ∙ ends .before .before .loop .inv .1)
+    further _ _ _ _ _ _ (ends .before .before .loop .inv) (ends .before .loop-test .taken) (ends .end-of .ensures) (c .before .before .before .called .kept .1 .1 .1 .1 .0)
 
 loop-less-2 : tie.Need-loop-less-2 Inv-loop μ-loop
-loop-less-2 c = search needs
+loop-less-2 c =
+    let ends = c .before .before .before .before .before .before .before .before in
+    less _ _ _ (ends .end-of .ensures) (ends .before .loop-test .taken)
 
 loop-again-2 : tie.Need-loop-again-2 Inv-loop μ-loop
-loop-again-2 c = search needs
+loop-again-2 c =
+    let ends = c .before .before .before .before .before .before .before .before in
+    further _ _ _ _ _ _ (ends .before .before .loop .inv) (ends .before .loop-test .taken) (ends .end-of .ensures) refl
 
 returns : tie.Need-returns Inv-loop μ-loop
-returns c = search needs
+returns c = through _ _ _ 0 _ (c .before .loop .inv) (omega arith)
 
 pub walk-spec : {M : Type 1} → statement M
 walk-spec =
@@ -121,6 +150,7 @@ walk-spec =
     part-read-start
     part-read-end
     read-requires
+    add-lines
     least-requires
     mul-kept
     array-copy-out-kept
