@@ -20,7 +20,7 @@ pub(crate) const CHANNELS: [&str; 8] = ["q0", "q1", "q2", "q3", "q4", "q5", "q6"
 
 mod c {
     extern "C" {
-        pub fn skierralu_calls(text: *const u8, text_len: usize, out: i32);
+        pub fn skierralu_calls(text: *const u8, text_len: usize, out: i32) -> usize;
     }
 }
 
@@ -145,8 +145,10 @@ pub(crate) fn nowhere() -> File {
 pub(crate) fn ours(text: &str, out: &File) -> f64 {
     let start = Instant::now();
     // SAFETY: the text is lent for the call, and it only reads it.
-    unsafe { c::skierralu_calls(text.as_ptr(), text.len(), out.as_raw_fd()) };
-    start.elapsed().as_nanos() as f64
+    let lines = unsafe { c::skierralu_calls(text.as_ptr(), text.len(), out.as_raw_fd()) };
+    let time = start.elapsed().as_nanos() as f64;
+    assert_eq!(lines, text.lines().count(), "all were answered");
+    time
 }
 
 fn theirs(items: &[Item], build: bool) -> f64 {

@@ -7,7 +7,8 @@ use theirs::tables::{Command, Item, Play};
 /// Samplings timed beside the Rust's, onto two rows of 65,536 samples at a rate of 1: nanoseconds a sample that a pulse was added onto, or, of
 /// the merging, a pulse. Ours reads and runs the commands before it samples, and each of its samplings takes the pulses by value and makes its
 /// rows: the same with one sampling, and the same samplings of no pulse, are taken off, and the second is printed. Ours samples onto rows that
-/// it filled just before, the Rust onto rows that it read just before. The Rust keeps envelopes from call to call; where one is to be worked out anew, its width is another in every call.
+/// it filled just before, the Rust onto rows that it read just before. The Rust keeps envelopes from call to call; where one is to be worked
+/// out anew, its width is another in every call.
 pub fn sampling() {
     println!(
         "{:44} {:>8} {:>8} {:>8}",
