@@ -1,6 +1,6 @@
 // What is known between two lines, but for the arrays: the tables, how many commands are gathered, and the crosstalk.
 ghost use mathlib.Core.Path.{_≡_};
-ghost use Prim.Native.Nat.{_≤_, min};
+ghost use Prim.Native.Nat.{min};
 use super::line::Line;
 use super::show::show_refused;
 use commands::command::Arranged;

@@ -50,7 +50,7 @@ use Rattle.sampler_laws.specs.Added.{countIn}
 use Rattle.system.specs.System.{Outcome, outcome}
 use Rattle.system.specs.System as system
 use Rattle.system.proofs.Promised as promised
-use Rattle.stand_ins.specs.Whole.{anything, answerOf}
+use Rattle.stand_ins.specs.Whole.{anything, answerOf, iq-numbers, offset-numbers, iir-numbers, fir-numbers, bin-alone, bin-pair, pulse-alone, pulse-pair, pulse-of-each}
 use Rattle.stand_ins.specs.ByValue.{partsFor}
 use Rattle.stand_ins.specs.Buffers as lent
 use Rattle.stand_ins.specs.Inputs as given
@@ -152,24 +152,24 @@ pub buffers : Buffers
 unfolding isOne isOneRow twoEnd isTwo mixedDown endsFit runsForFrom pulsesIn pickedFrom passed over inOne endsFrom outcome add sub mul div rem neg lt eq le sum round ofBits ofInt ceiling cutOf exp2Of fma wrapped reduced horner cosineAt sineAt cosineOf sineOf allFinite nameByte every lowBytes bytesOfWord sixteen bytesOf pastEnd isName sameName mixedRow raisedRow ran sectionsFrom finiteSections given pipelined turns doubled tapAt sumTo filteredFrom points values indexAt partedOf shapeOf finitePoints hannOf sameRow placeOf envelopeOf phase0 dphase startPair rotationPair phaseNumbers judged foundFrom isIn settled settledShape keptFrom summedBy joined joinedTwo packed zipped allNames doubledFrom allKnown rowFrom partOf partsAt planned onPart carried shaped ofMark allRows firstsAfter good required run.acted run.ran ranPulses ranBins sampled
 buffers =
     record {
-      iq-c = not-all-refused lent.iq-c _ _ (only-iq (given.stepping given.iq-numbers 1)) refl;
-      offset-c = not-all-refused lent.offset-c _ _ (only-offset (given.stepping given.offset-numbers 1)) refl;
-      iir-c = not-all-refused lent.iir-c _ _ (only-iir (given.stepping given.iir-numbers 1)) refl;
-      fir-c = not-all-refused lent.fir-c _ _ (only-fir (given.stepping given.fir-numbers 1)) refl;
+      iq-c = not-all-refused lent.iq-c _ _ (only-iq (given.stepping iq-numbers 1)) refl;
+      offset-c = not-all-refused lent.offset-c _ _ (only-offset (given.stepping offset-numbers 1)) refl;
+      iir-c = not-all-refused lent.iir-c _ _ (only-iir (given.stepping iir-numbers 1)) refl;
+      fir-c = not-all-refused lent.fir-c _ _ (only-fir (given.stepping fir-numbers 1)) refl;
       envelope = not-all-refused lent.envelope _ _ (only-points given.laying) refl;
-      mix-lists = not-all-refused lent.mix-lists _ _ (only-mixed (given.mixing 1 given.one-bin given.one-pulse)) refl;
+      mix-lists = not-all-refused lent.mix-lists _ _ (only-mixed (given.mixing 1 bin-alone pulse-alone)) refl;
       execute-owned = not-all-refused lent.execute-owned _ _ (only-owned (given.owning 1)) refl;
-      iq-moves = both-rows-move lent.iq-c stepLeft stepCame _ _ _ _ (only-iq (given.stepping given.iq-numbers 1)) (only-iq (given.stepping given.iq-numbers 0)) refl refl refl refl refl refl refl refl refl refl;
-      offset-moves = both-rows-move lent.offset-c stepLeft stepCame _ _ _ _ (only-offset (given.stepping given.offset-numbers 1)) (only-offset (given.stepping given.offset-numbers 0)) refl refl refl refl refl refl refl refl refl refl;
-      iir-moves = both-rows-move lent.iir-c stepLeft stepCame _ _ _ _ (only-iir (given.stepping given.iir-numbers 1)) (only-iir (given.stepping given.iir-numbers 0)) refl refl refl refl refl refl refl refl refl refl;
-      fir-moves = both-rows-move lent.fir-c stepLeft stepCame _ _ _ _ (only-fir (given.stepping given.fir-numbers 1)) (only-fir (given.stepping given.fir-numbers 0)) refl refl refl refl refl refl refl refl refl refl;
+      iq-moves = both-rows-move lent.iq-c stepLeft stepCame _ _ _ _ (only-iq (given.stepping iq-numbers 1)) (only-iq (given.stepping iq-numbers 0)) refl refl refl refl refl refl refl refl refl refl;
+      offset-moves = both-rows-move lent.offset-c stepLeft stepCame _ _ _ _ (only-offset (given.stepping offset-numbers 1)) (only-offset (given.stepping offset-numbers 0)) refl refl refl refl refl refl refl refl refl refl;
+      iir-moves = both-rows-move lent.iir-c stepLeft stepCame _ _ _ _ (only-iir (given.stepping iir-numbers 1)) (only-iir (given.stepping iir-numbers 0)) refl refl refl refl refl refl refl refl refl refl;
+      fir-moves = both-rows-move lent.fir-c stepLeft stepCame _ _ _ _ (only-fir (given.stepping fir-numbers 1)) (only-fir (given.stepping fir-numbers 0)) refl refl refl refl refl refl refl refl refl refl;
       plateau-moves = both-rows-move lent.add-plateau bothLeft _ _ _ _ _ (only-plateau (given.plateau 1)) (only-plateau (given.plateau 0)) refl refl refl refl refl refl refl refl refl refl;
       envelope-moves = both-rows-move lent.add-envelope bothLeft _ _ _ _ _ (only-envelope (given.enveloped 1)) (only-envelope (given.enveloped 0)) refl refl refl refl refl refl refl refl refl refl;
-      lists-move = both-rows-move lent.mix-lists mixedLeft mixedCame _ _ _ _ (only-mixed (given.mixing 1 given.one-bin given.one-pulse)) (only-mixed (given.mixing 0 given.one-bin given.one-pulse)) refl refl refl refl refl refl refl refl refl refl;
+      lists-move = both-rows-move lent.mix-lists mixedLeft mixedCame _ _ _ _ (only-mixed (given.mixing 1 bin-alone pulse-alone)) (only-mixed (given.mixing 0 bin-alone pulse-alone)) refl refl refl refl refl refl refl refl refl refl;
       scratch-filled = not-always lent.envelope (λ (y : lent.Points). y .scratch) (λ (x : lent.Laying). x .scratch) isOneRow given.laying _ (only-points given.laying) refl refl refl;
-      first-summed = not-always lent.sum-lists itself firstSummed twoEnd (given.summing given.one-bin given.two-pulses) _ (λ z p. p) refl refl refl;
-      first-mixed = not-always lent.mix-lists (λ (y : lent.Mixed). y .out .left) firstMixed (λ (r : Rowed). isTwo (r .i)) _ _ (only-mixed (given.mixing 0 given.one-bin given.two-pulses)) refl refl refl;
-      first-bin-mixed = not-always lent.mix-lists (λ (y : lent.Mixed). y .out .left) firstBinMixed (λ (r : Rowed). isTwo (r .i)) _ _ (only-mixed (given.mixing 0 given.two-bins given.of-two-bins)) refl refl refl;
+      first-summed = not-always lent.sum-lists itself firstSummed twoEnd (given.summing bin-alone pulse-pair) _ (λ z p. p) refl refl refl;
+      first-mixed = not-always lent.mix-lists (λ (y : lent.Mixed). y .out .left) firstMixed (λ (r : Rowed). isTwo (r .i)) _ _ (only-mixed (given.mixing 0 bin-alone pulse-pair)) refl refl refl;
+      first-bin-mixed = not-always lent.mix-lists (λ (y : lent.Mixed). y .out .left) firstBinMixed (λ (r : Rowed). isTwo (r .i)) _ _ (only-mixed (given.mixing 0 bin-pair pulse-of-each)) refl refl refl;
       commands-counted = not-fixed lent.execute-owned answerOf anything isOne _ _ _ _ (only-owned (given.owning 1)) (only-owned (given.owning 0)) refl refl refl refl refl;
-      pulses-counted = not-fixed lent.mix-lists (λ (y : lent.Mixed). y .out .answer) anything isOne _ _ _ _ (only-mixed (given.mixing 0 given.one-bin given.one-pulse)) (only-mixed (given.mixing 0 given.one-bin given.two-pulses)) refl refl refl refl refl;
+      pulses-counted = not-fixed lent.mix-lists (λ (y : lent.Mixed). y .out .answer) anything isOne _ _ _ _ (only-mixed (given.mixing 0 bin-alone pulse-alone)) (only-mixed (given.mixing 0 bin-alone pulse-pair)) refl refl refl refl refl;
     }

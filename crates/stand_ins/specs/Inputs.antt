@@ -3,7 +3,7 @@ use Prim.Native.Nat.{ℕ}
 use mathlib.Core.Bool.{true}
 use mathlib.Core.List.{List, [], _∷_, map}
 use lib.IntN.{pos}
-use lib.Ieee.{Float, neg}
+use lib.Ieee.{Float}
 use lib.ListN.{take, replicate}
 use Rattle.exact.specs.Doubles.{nought, one}
 use Rattle.naming.specs.declared.Name.{Name}
@@ -14,9 +14,9 @@ use Rattle.pulse.specs.declared.envelope.Shape.the-variants.{Plain}
 use Rattle.tables.specs.Tables.{atRest, noName}
 use Rattle.merge.specs.declared.taking.Taking.{Taking}
 use Rattle.sheet.specs.Sheet.{sheetText}
-use Rattle.bench_table.specs.Numbers.{over, whole, wholes}
+use Rattle.bench_table.specs.Numbers.{over, whole}
 use Rattle.bench_table.specs.Call.{channel, clock, binWith, pulseAt, noCrosstalk}
-use Rattle.stand_ins.specs.Whole.{tablesOf, holding, pulseOf, plain, barrier}
+use Rattle.stand_ins.specs.Whole.{tablesOf, holding, barrier}
 use Rattle.stand_ins.specs.ByValue.{Timed, Clocked, Turning, Swapping, Weighing, Curve, Pulsed, Looking, Planning, Verdict}
 use Rattle.stand_ins.specs.Buffers.{Step, Plateau, Envelope, Laying, Summing, gatheredFor, Mixing, Owning}
 use Rattle.stand_ins.specs.Texts.{Place, Field, Fields, Sheet, Printing, Answering}
@@ -121,20 +121,8 @@ answering n = record { text = sheet-text n; out = replicate 4096 0 }
 
 -- ---- rows of one sample each, which holds x: the steps over the C border give twice the sample, or one more
 
-abbrev pub stepping : List ℕ → ℕ → Step
-stepping numbers x = record { rows = 2; i = whole x ∷ []; q = whole x ∷ []; numbers = wholes numbers }
-
-abbrev pub iq-numbers : List ℕ
-iq-numbers = 2 ∷ 0 ∷ 0 ∷ 2 ∷ []
-
-abbrev pub offset-numbers : List ℕ
-offset-numbers = 1 ∷ 1 ∷ []
-
-abbrev pub iir-numbers : List ℕ
-iir-numbers = 2 ∷ 0 ∷ 0 ∷ 1 ∷ 0 ∷ 0 ∷ []
-
-abbrev pub fir-numbers : List ℕ
-fir-numbers = 2 ∷ []
+abbrev pub stepping : List Float → ℕ → Step
+stepping numbers x = record { rows = 2; i = whole x ∷ []; q = whole x ∷ []; numbers = numbers }
 
 -- one sample of a carrier 1 + i; an envelope of one point, 1, over it
 abbrev pub unit : Complex
@@ -189,22 +177,6 @@ mixing x bins pulses =
       rows = 2;
       lent = s .rows;
     }
-
--- a pulse; two pulses in a bin, at -0.5 and at 0; two bins with a pulse each
-abbrev pub one-pulse : List Pulse
-one-pulse = pulseOf 0 (whole 0) ∷ []
-
-abbrev pub two-pulses : List Pulse
-two-pulses = pulseOf 0 (neg (over 5 10)) ∷ pulseOf 0 (whole 0) ∷ []
-
-abbrev pub of-two-bins : List Pulse
-of-two-bins = pulseOf 0 (whole 0) ∷ pulseOf 1 (whole 0) ∷ []
-
-abbrev pub one-bin : List Bin
-one-bin = plain (whole 1) ∷ []
-
-abbrev pub two-bins : List Bin
-two-bins = plain (whole 1) ∷ plain (over 5 10) ∷ []
 
 -- ---- so many of 1,024 barriers
 abbrev pub owning : ℕ → Owning

@@ -10,7 +10,7 @@ use Rattle.mixdown.specs.Sampled.{Rowed, mixedDown}
 use Rattle.bench_table.specs.Numbers.{over}
 use Rattle.bench_table.specs.Call.{channel}
 use Rattle.stand_ins.specs.StandIns.{NotAllRefused, NotAlways, NotFixed, Row, I, Q, RowsMove}
-use Rattle.stand_ins.specs.Whole.{anything, whole-system, rowLeft, rowCame, answerOf, sampling-call, rowsLeft, firstPulse, firstBin, OnRows, plateau, on, execute, no-command, no-pulse, two-pulses, two-bins, else, samplingOf, Trial, tryOf}
+use Rattle.stand_ins.specs.Whole.{anything, whole-system, rowLeft, rowCame, answerOf, sampling-call, rowsLeft, firstPulse, firstBin, OnRows, plateau, on, execute, no-command, no-pulse, two-pulses, two-bins, else, samplingOf, Trial, tryOf, iq-numbers, offset-numbers, iir-numbers, fir-numbers, bin-alone, bin-pair, pulse-alone, pulse-pair, pulse-of-each}
 use Rattle.stand_ins.specs.ByValue as value
 use Rattle.stand_ins.specs.Texts as text
 use Rattle.stand_ins.specs.Buffers as lent
@@ -118,7 +118,8 @@ mixedLeft = one-of (λ (y : lent.Mixed). y .out .left .i) (λ (y : lent.Mixed). 
 abbrev pub mixedCame : Row → lent.Mixing → List Float
 mixedCame = one-of (λ (x : lent.Mixing). x .lent .i) (λ (x : lent.Mixing). x .lent .q)
 
--- what the sum, and the rows, would be of the first pulse of each list alone, and of the first bin of each list alone
+-- what the sum would be of the first pulse of each list alone; what the rows would be with the first pulse of all alone, and with the first bin of each
+-- list alone
 abbrev pub firstSummed : lent.Summing → Gathered
 firstSummed x = lent.gatheredFor (record { tables = lent.onePulse (x .tables); taking = x .taking; pulses = x .pulses; work = x .work; marks = x .marks })
 
@@ -133,26 +134,26 @@ firstBinMixed x = mixedBy (lent.oneBin (x .tables)) (x .ends) x
 
 pub record Buffers : Type 1 where
   -- "all calls refused"
-  pub iq-c : NotAllRefused lent.iq-c (given.stepping given.iq-numbers 1)
-  pub offset-c : NotAllRefused lent.offset-c (given.stepping given.offset-numbers 1)
-  pub iir-c : NotAllRefused lent.iir-c (given.stepping given.iir-numbers 1)
-  pub fir-c : NotAllRefused lent.fir-c (given.stepping given.fir-numbers 1)
+  pub iq-c : NotAllRefused lent.iq-c (given.stepping iq-numbers 1)
+  pub offset-c : NotAllRefused lent.offset-c (given.stepping offset-numbers 1)
+  pub iir-c : NotAllRefused lent.iir-c (given.stepping iir-numbers 1)
+  pub fir-c : NotAllRefused lent.fir-c (given.stepping fir-numbers 1)
   pub envelope : NotAllRefused lent.envelope given.laying
-  pub mix-lists : NotAllRefused lent.mix-lists (given.mixing 1 given.one-bin given.one-pulse)
+  pub mix-lists : NotAllRefused lent.mix-lists (given.mixing 1 bin-alone pulse-alone)
   pub execute-owned : NotAllRefused lent.execute-owned (given.owning 1)
   -- "rows untouched", "one fixed row"
-  pub iq-moves : RowsMove lent.iq-c stepLeft stepCame (given.stepping given.iq-numbers 1) (given.stepping given.iq-numbers 0)
-  pub offset-moves : RowsMove lent.offset-c stepLeft stepCame (given.stepping given.offset-numbers 1) (given.stepping given.offset-numbers 0)
-  pub iir-moves : RowsMove lent.iir-c stepLeft stepCame (given.stepping given.iir-numbers 1) (given.stepping given.iir-numbers 0)
-  pub fir-moves : RowsMove lent.fir-c stepLeft stepCame (given.stepping given.fir-numbers 1) (given.stepping given.fir-numbers 0)
+  pub iq-moves : RowsMove lent.iq-c stepLeft stepCame (given.stepping iq-numbers 1) (given.stepping iq-numbers 0)
+  pub offset-moves : RowsMove lent.offset-c stepLeft stepCame (given.stepping offset-numbers 1) (given.stepping offset-numbers 0)
+  pub iir-moves : RowsMove lent.iir-c stepLeft stepCame (given.stepping iir-numbers 1) (given.stepping iir-numbers 0)
+  pub fir-moves : RowsMove lent.fir-c stepLeft stepCame (given.stepping fir-numbers 1) (given.stepping fir-numbers 0)
   pub plateau-moves : RowsMove lent.add-plateau bothLeft (one-of (λ (x : lent.Plateau). x .i) (λ (x : lent.Plateau). x .q)) (given.plateau 1) (given.plateau 0)
   pub envelope-moves : RowsMove lent.add-envelope bothLeft (one-of (λ (x : lent.Envelope). x .i) (λ (x : lent.Envelope). x .q)) (given.enveloped 1) (given.enveloped 0)
-  pub lists-move : RowsMove lent.mix-lists mixedLeft mixedCame (given.mixing 1 given.one-bin given.one-pulse) (given.mixing 0 given.one-bin given.one-pulse)
+  pub lists-move : RowsMove lent.mix-lists mixedLeft mixedCame (given.mixing 1 bin-alone pulse-alone) (given.mixing 0 bin-alone pulse-alone)
   pub scratch-filled : NotAlways lent.envelope (λ (y : lent.Points). y .scratch) (λ (x : lent.Laying). x .scratch) given.laying
   -- "only the first pulse or bin sampled"
-  pub first-summed : NotAlways lent.sum-lists itself firstSummed (given.summing given.one-bin given.two-pulses)
-  pub first-mixed : NotAlways lent.mix-lists (λ (y : lent.Mixed). y .out .left) firstMixed (given.mixing 0 given.one-bin given.two-pulses)
-  pub first-bin-mixed : NotAlways lent.mix-lists (λ (y : lent.Mixed). y .out .left) firstBinMixed (given.mixing 0 given.two-bins given.of-two-bins)
+  pub first-summed : NotAlways lent.sum-lists itself firstSummed (given.summing bin-alone pulse-pair)
+  pub first-mixed : NotAlways lent.mix-lists (λ (y : lent.Mixed). y .out .left) firstMixed (given.mixing 0 bin-alone pulse-pair)
+  pub first-bin-mixed : NotAlways lent.mix-lists (λ (y : lent.Mixed). y .out .left) firstBinMixed (given.mixing 0 bin-pair pulse-of-each)
   -- "a count not tied to the list"
   pub commands-counted : NotFixed lent.execute-owned answerOf anything (given.owning 1) (given.owning 0)
-  pub pulses-counted : NotFixed lent.mix-lists (λ (y : lent.Mixed). y .out .answer) anything (given.mixing 0 given.one-bin given.one-pulse) (given.mixing 0 given.one-bin given.two-pulses)
+  pub pulses-counted : NotFixed lent.mix-lists (λ (y : lent.Mixed). y .out .answer) anything (given.mixing 0 bin-alone pulse-alone) (given.mixing 0 bin-alone pulse-pair)

@@ -145,6 +145,36 @@ sampleAt level = system.sample (requestAt level) noCrosstalk []
 abbrev pub barrier : Arranged
 barrier = record { command = Barrier; start = record { 0 = whole 0 }; span = record { 0 = whole 0 } }
 
+-- the numbers of the four steps: each gives twice the sample, `offset` one more
+abbrev pub iq-numbers : List Float
+iq-numbers = wholes (2 ∷ 0 ∷ 0 ∷ 2 ∷ [])
+
+abbrev pub offset-numbers : List Float
+offset-numbers = wholes (1 ∷ 1 ∷ [])
+
+abbrev pub iir-numbers : List Float
+iir-numbers = wholes (2 ∷ 0 ∷ 0 ∷ 1 ∷ 0 ∷ 0 ∷ [])
+
+abbrev pub fir-numbers : List Float
+fir-numbers = wholes (2 ∷ [])
+
+-- a bin, and a pulse of it at 0; two pulses of it, at -0.5 and at 0: both start at sample 0
+abbrev pub bin-alone : List Bin
+bin-alone = plain (whole 1) ∷ []
+
+abbrev pub pulse-alone : List Pulse
+pulse-alone = pulseOf 0 (whole 0) ∷ []
+
+abbrev pub pulse-pair : List Pulse
+pulse-pair = pulseOf 0 (neg (over 5 10)) ∷ pulseOf 0 (whole 0) ∷ []
+
+-- two bins, plateaus of 1 and of 0.5, one sample each; a pulse of each at 0
+abbrev pub bin-pair : List Bin
+bin-pair = plain (whole 1) ∷ plain (over 5 10) ∷ []
+
+abbrev pub pulse-of-each : List Pulse
+pulse-of-each = pulseOf 0 (whole 0) ∷ pulseOf 1 (whole 0) ∷ []
+
 -- ---- what is tried, and what it comes to (proofs/Tried.antt): the count, and the sample that each of the two rows then holds
 
 pub record Try : Type 0 where
@@ -172,10 +202,10 @@ abbrev pub sort : OnRows → Sort
 sort plateau = record { bin = plain (whole 1); time = whole 0; call = sampleAt (pos 0); count = 1; adds = true }
 -- width 1 at 0.5 and level -1: the one sample is the middle of the shape
 sort hann = record { bin = curved (whole 1); time = over 5 10; call = sampleAt (negsuc 0); count = 1; adds = true }
-sort iq = record { bin = plain (whole 1); time = whole 0; call = system.iq 2 (wholes (2 ∷ 0 ∷ 0 ∷ 2 ∷ [])); count = 0; adds = false }
-sort offset = record { bin = plain (whole 1); time = whole 0; call = system.offset 2 (wholes (1 ∷ 1 ∷ [])); count = 0; adds = true }
-sort iir = record { bin = plain (whole 1); time = whole 0; call = system.iir 2 (wholes (2 ∷ 0 ∷ 0 ∷ 1 ∷ 0 ∷ 0 ∷ [])); count = 0; adds = false }
-sort fir = record { bin = plain (whole 1); time = whole 0; call = system.fir 2 (wholes (2 ∷ [])); count = 0; adds = false }
+sort iq = record { bin = plain (whole 1); time = whole 0; call = system.iq 2 iq-numbers; count = 0; adds = false }
+sort offset = record { bin = plain (whole 1); time = whole 0; call = system.offset 2 offset-numbers; count = 0; adds = true }
+sort iir = record { bin = plain (whole 1); time = whole 0; call = system.iir 2 iir-numbers; count = 0; adds = false }
+sort fir = record { bin = plain (whole 1); time = whole 0; call = system.fir 2 fir-numbers; count = 0; adds = false }
 
 -- on rows that hold x
 abbrev pub on : ℕ → OnRows → Try
@@ -192,10 +222,8 @@ else add-shape = trying (holding (whole 0) [] []) (system.add-shape channel) 0 0
 else execute = trying (holding (whole 0) [] []) (system.execute (barrier ∷ [])) 1 0
 else no-command = trying (holding (whole 0) [] []) (system.execute []) 0 0
 else no-pulse = trying (holding (whole 0) [] []) (sampleAt (pos 0)) 0 0
--- at -0.5 and at 0: both start at sample 0
-else two-pulses = trying (holding (whole 0) (plain (whole 1) ∷ []) (pulseOf 0 (neg (over 5 10)) ∷ pulseOf 0 (whole 0) ∷ [])) (sampleAt (pos 0)) 2 2
--- plateaus of 1 and of 0.5: one sample each
-else two-bins = trying (holding (whole 0) (plain (whole 1) ∷ plain (over 5 10) ∷ []) (pulseOf 0 (whole 0) ∷ pulseOf 1 (whole 0) ∷ [])) (sampleAt (pos 0)) 2 2
+else two-pulses = trying (holding (whole 0) bin-alone pulse-pair) (sampleAt (pos 0)) 2 2
+else two-bins = trying (holding (whole 0) bin-pair pulse-of-each) (sampleAt (pos 0)) 2 2
 
 -- a sampling of both: of two pulses, and of two bins
 abbrev pub samplingOf : Else → Sampling
