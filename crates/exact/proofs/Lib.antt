@@ -7,6 +7,10 @@ pub mod Half
 pub mod Rounding
 pub mod Signed
 pub mod Few
+pub mod Grid
+pub mod Steps
+pub mod Upper
+pub mod Split
 pub mod Compare
 pub mod Remainder
 pub mod Bounded
