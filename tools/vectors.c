@@ -1,13 +1,14 @@
 /* Prints operands for the program replay_numbers, or the answers that are stored beside it: see tools/vectors.
  *
- * The answers are the hardware's: the instructions vfmadd (fused multiply-add) and roundsd upwards (ceiling) of an x86-64
- * processor, which this text names by their intrinsics, in the default modes (nearest even, subnormals kept). The seed is fixed, so
- * the list is the same every time.
+ * The answers are the hardware's: its instructions for a fused multiply-add and for a ceiling (vfmadd and roundsd of x86-64, fmadd and
+ * frintp of aarch64), in the default modes (nearest even, subnormals kept); and C's `fmod`, which is exact. The seed is fixed, so the list
+ * is the same every time.
  *
- * A line is `m A B C`, answered by A * B + C rounded once, or `u X`, answered by the least whole number at or above X; each number is a
- * double's bits in 16 lowercase hex digits, and a NaN's are 7ff8000000000000.
+ * A line is `m A B C`, answered by A * B + C rounded once; `u X`, by the least whole number at or above X; `r X`, by X less a whole multiple
+ * of TAU, at most PI in size; or `l X STEP I`, by I * STEP + X rounded once, where I is a whole number. Each other number is a double's
+ * bits in 16 lowercase hex digits, and a NaN's are 7ff8000000000000.
  */
-#include <immintrin.h>
+#include <math.h>
 #include <stdint.h>
 #include <stdio.h>
 #include <string.h>
@@ -44,7 +45,7 @@ static int clamped(int n, int least, int most)
     return n < least ? least : n > most ? most : n;
 }
 
-/* ---- the two kinds of line */
+/* ---- the four kinds of line */
 
 /* whether answers are printed, and not operands */
 static int answers;
@@ -56,20 +57,36 @@ static void answered(char letter, double x)
 
 static void fused(uint64_t a, uint64_t b, uint64_t c)
 {
-    __m128d r = _mm_fmadd_sd(_mm_set_sd(of(a)), _mm_set_sd(of(b)), _mm_set_sd(of(c)));
     if (answers)
-        answered('m', _mm_cvtsd_f64(r));
+        answered('m', fma(of(a), of(b), of(c)));
     else
         printf("m %016lx %016lx %016lx\n", a, b, c);
 }
 
 static void ceiling(uint64_t x)
 {
-    __m128d r = _mm_ceil_sd(_mm_set_sd(0.0), _mm_set_sd(of(x)));
     if (answers)
-        answered('u', _mm_cvtsd_f64(r));
+        answered('u', ceil(of(x)));
     else
         printf("u %016lx\n", x);
+}
+
+static void angle(uint64_t x)
+{
+    const double tau = of(0x401921fb54442d18u), pi = of(0x400921fb54442d18u);
+    double r = fmod(of(x), tau);
+    if (answers)
+        answered('r', r > pi ? r - tau : r < -pi ? r + tau : r);
+    else
+        printf("r %016lx\n", x);
+}
+
+static void point(uint64_t x, uint64_t step, uint64_t i)
+{
+    if (answers)
+        answered('l', fma((double)i, of(step), of(x)));
+    else
+        printf("l %016lx %016lx %016lx\n", x, step, i);
 }
 
 /* ---- chance: splitmix64. C leaves open in which order the operands of an expression are worked out, so each has one draw at most. */
@@ -304,6 +321,73 @@ static void special_ceilings(void)
         ceiling(subnormal());
 }
 
+/* ---- classes of angles */
+
+/* up to 2^e turns and more: none, some, too many for two exact products */
+static void angles_of_every_size(void)
+{
+    for (int field = 1015; field < 1080; field++)
+        for (int k = 0; k < 2; k++)
+            angle(normal(field));
+    for (int i = 0; i < 40; i++)
+        angle(normal(1 + below(2046)));
+    for (size_t i = 0; i < COUNT(special); i++)
+        angle(special[i]);
+}
+
+/* multiples of PI, and the doubles beside them; the double PI is exact, so these are what an exact multiple rounds to */
+static void around_half_turns(void)
+{
+    for (int i = 0; i < 48; i++) {
+        int most = 1 << (1 + i % 24);
+        uint64_t x = bits_of(of(0x400921fb54442d18u) * (1 + below(most)));
+        for (int n = -2; n <= 2; n++)
+            angle((x + (uint64_t)n) | (uint64_t)(i & 1) << 63);
+    }
+}
+
+/* ---- classes of points */
+
+/* heads and tails as envelopes have them: a width and a plateau in samples, not always whole */
+static void parts_of_envelopes(void)
+{
+    for (int i = 0; i < 120; i++) {
+        double rate = 1e9 * (1 + below(8)) / (1 + below(3));
+        double dt = 1 / rate;
+        double width = (1 + below(400)) * 1e-9;
+        double flat = below(200) * 1e-9;
+        double late = i % 2 == 0 ? 0.0 : dt * (double)(chance() >> 11) / 9007199254740992.0;
+        double t1 = width / 2 - late;
+        double t2 = width / 2 + flat - late;
+        uint64_t step = bits_of(dt / width);
+        point(bits_of(-t1 / width), step, (uint64_t)below(64));
+        point(bits_of(fma(ceil(t2 * rate), dt, -t2) / width), step, (uint64_t)below(64));
+    }
+}
+
+/* starts from the smallest to 1 with steps from 2^-34 to 1, beside the edges of what sums are taken for too */
+static void any_parts(void)
+{
+    for (int i = 0; i < 240; i++) {
+        uint64_t x = i % 3 == 0 ? normal(980 + below(44)) : i % 3 == 1 ? normal(930 + below(60)) : normal(1 + below(1023));
+        uint64_t step = normal(989 + below(34)) & ~SIGN;
+        point(x, step, (uint64_t)below(64));
+    }
+    static const uint64_t edge[] = {
+        0x3db0000000000000u, 0x3e10000000000000u, 0x3fe8000000000000u, 0x3f9f07c1f07c1f08u, 0x3fa0000000000000u, 0x3a80000000000000u,
+        0x3a90000000000000u, 0,
+    };
+    for (size_t i = 0; i < COUNT(edge); i++)
+        for (size_t j = 0; j < COUNT(edge); j++)
+            for (int n = -1; n <= 1; n++)
+                if (edge[i] + edge[j] != 0 || n == 0)
+                    point((edge[i] + (uint64_t)(edge[i] ? n : 0)) | (uint64_t)(j & 1) << 63, edge[j] + (uint64_t)(edge[j] ? n : 0), (uint64_t)below(64));
+    for (size_t i = 0; i < COUNT(special); i++) {
+        point(special[i], 0x3f80000000000000u, (uint64_t)below(64));
+        point(0x3fc0000000000000u, special[i], (uint64_t)below(64));
+    }
+}
+
 int main(int count, char **words)
 {
     answers = count > 1 && strcmp(words[1], "answers") == 0;
@@ -318,5 +402,9 @@ int main(int count, char **words)
     special_ceilings();
     every_exponent();
     around_whole_numbers();
+    angles_of_every_size();
+    around_half_turns();
+    parts_of_envelopes();
+    any_parts();
     return 0;
 }

@@ -12,7 +12,7 @@ use Rattle.rows.specs.Rows.{allFinite}
 use Rattle.naming.specs.Name.{nameByte, every, lowBytes, bytesOfWord, sixteen, bytesOf, pastEnd, isName, sameName}
 use Rattle.iir.specs.Section.{ran, sectionsFrom, finiteSections}
 use Rattle.iir.specs.Filter.{given, pipelined, turns}
-use Rattle.shape.specs.Segment.{points}
+use Rattle.points.specs.Points.{points}
 use Rattle.shape.specs.Parts.{indexAt, partedOf}
 use Rattle.shape.specs.Envelope.{finitePoints}
 use Rattle.pulse.specs.Bin.{sameRow, placeOf}

@@ -5,6 +5,7 @@ pub mod Sum
 pub mod Operation
 pub mod Half
 pub mod Rounding
+pub mod Finite
 pub mod Signed
 pub mod Few
 pub mod Grid

@@ -1,4 +1,5 @@
--- Signed whole numbers as pairs: distances add up along a way, and grow with a common factor. Assumes nothing.
+-- Signed whole numbers as pairs: distances add up along a way, and grow with a common factor; and a number but 0 is one pair of a sign and a size. Assumes nothing.
+use mathlib.Core.Path.{_≡_, refl, ap}
 use mathlib.Core.Bool.{Bool, true, false}
 use Prim.Native.Nat.{ℕ, _+_, _*_, _≤_, _<_}
 use native.Mathlib.Nat.{mul-le-mul-left, le-of-mul-le-mul-left}
@@ -40,3 +41,20 @@ apart-times n x y e h = record { over = up n (x .plus) (y .less) (y .plus) (x .l
 
 pub apart-cancel : (n : ℕ) (x y : Signed) (e : ℕ) → 0 < n → Apart (times n x) (times n y) (n * e) → Apart x y e
 apart-cancel n x y e N h = record { over = off n (x .plus) (y .less) (y .plus) (x .less) e N (h .over); under = off n (y .plus) (x .less) (x .plus) (y .less) e N (h .under) }
+
+pub same-times : (s : Bool) (n m : ℕ) (k : Signed) → Same (signed s n) k → Same (signed s (n * m)) (times m k)
+same-times true n m k e = let f : (n + k .plus) * m ≡ k .less * m = ap (λ (z : ℕ). z * m) (omega arith) in omega arith
+same-times false n m k e = let f : (n + k .less) * m ≡ k .plus * m = ap (λ (z : ℕ). z * m) (omega arith) in omega arith
+
+-- ---- a number that is not zero has one sign and one size
+pub alike : (s u : Bool) (a b : ℕ) → 0 < a → Same (signed s a) (signed u b) → (s ≡ u) × (a ≡ b)
+alike true true a b h e = (refl, omega arith)
+alike false false a b h e = (refl, omega arith)
+alike true false a b h e = absurd (none a b h e)
+  where
+    none : (a b : ℕ) → 0 < a → 0 + 0 ≡ b + a → ⊥
+    none a b h e = omega arith
+alike false true a b h e = absurd (none a b h e)
+  where
+    none : (a b : ℕ) → 0 < a → a + b ≡ 0 + 0 → ⊥
+    none a b h e = omega arith

@@ -129,3 +129,12 @@ bits-are x s n v = bits-at x s n (2 ^ 1074) (pow-pos 1074) v ∙ ap (patternOf s
 pub unique : (x y : Float) (s : Bool) (a c : ℕ) → 0 < c → T (fits binary64 x) → T (fits binary64 y) → HasValue x s a c → HasValue y s a c → x ≡ y
 unique x y s a c C p q v w =
     sym (ofBits-toBits binary64 x p) ∙ ap (ofBits binary64) (bits-at x s a c C v ∙ sym (bits-at y s a c C w)) ∙ ofBits-toBits binary64 y q
+
+-- a zero
+zero-fits : (s : Bool) → T (fits binary64 (fin s 0 (pos 0)))
+unfolding fits
+zero-fits s = tt
+
+pub zero-is : (x : Float) → T (fits binary64 x) → T (finite x) → unitsOf x ≡ 0 → x ≡ fin (signOf x) 0 (pos 0)
+zero-is x f t z =
+    unique x (fin (signOf x) 0 (pos 0)) (signOf x) 0 (2 ^ 1074) (pow-pos 1074) f (zero-fits (signOf x)) (rw z at (own x f t)) (refl, refl)

@@ -6,5 +6,6 @@ pub mod Leading
 pub mod Quarters
 pub mod Packing
 pub mod Rounds
+pub mod Standing
 pub mod Aligning
 pub mod Fusing

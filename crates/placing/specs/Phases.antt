@@ -9,7 +9,7 @@ use Rattle.quant.specs.declared.complex.Complex.{Complex}
 use Rattle.quant.specs.declared.settings.Settings.{Settings}
 use Rattle.quant.specs.Phaser.{radiansOf, pairAt}
 use Rattle.rows.specs.Rows.{allFinite}
-use Rattle.shape.specs.Segment.{number}
+use Rattle.points.specs.Points.{number}
 use Rattle.pulse.specs.declared.bin.Bin.{Bin}
 use Rattle.placing.specs.declared.phases.Turned.{Turned}
 use Rattle.placing.specs.declared.phases.Turned.the-variants.{Pairs, NotFinite}

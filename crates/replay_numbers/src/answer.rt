@@ -6,6 +6,7 @@ use executor::osc::Swapped;
 use executor::osc::swap_phase;
 use fma::mul_add;
 use ieee::ceil::ceil;
+use points::lay;
 use quant::aligned::Placed;
 use quant::aligned::place;
 use quant::quantity::Frequency;
@@ -14,6 +15,7 @@ use quant::quantity::Time;
 use words::float;
 use words::level;
 use words::readable;
+use words::word;
 
 pub(crate) fn answer(line: &[u8]) {
     if line.len() < 1 {
@@ -29,6 +31,8 @@ pub(crate) fn answer(line: &[u8]) {
     match letter {
         b'm' => print_float(mul_add(float(line, 0), float(line, 1), float(line, 2))),
         b'u' => print_float(ceil(float(line, 0))),
+        b'r' => print_float(trig::reduce(float(line, 0))),
+        b'l' => print_float(laid(line)),
         b'c' => print_between(line, trig::cosine(float(line, 0))),
         b's' => print_between(line, trig::sine(float(line, 0))),
         b'a' => print_placed(placed(line)),
@@ -40,12 +44,23 @@ pub(crate) fn answer(line: &[u8]) {
 // Of a letter that is none of these, more words than a line can have.
 fn words_of(letter: u8) -> u8 {
     match letter {
-        b'u' => 1,
-        b'm' | b'c' | b's' | b'a' => 3,
+        b'u' | b'r' => 1,
+        b'm' | b'l' | b'c' | b's' | b'a' => 3,
         b'p' | b'P' | b'f' | b'F' => 5,
         b'w' => 7,
         _ => 255,
     }
+}
+
+// Of 64 points laid at once. Of no other is there one: a NaN.
+fn laid(line: &[u8]) -> f64 {
+    let mut part: [f64; 64] = [0.0; 64];
+    lay(&mut part, float(line, 0), float(line, 1));
+    let i = word(line, 2) as usize;
+    if i < 64 {
+        return part[i];
+    }
+    0.0 / 0.0
 }
 
 fn placed(line: &[u8]) -> Placed {

@@ -4,6 +4,8 @@
 //
 //     m A B C                                      A * B + C, rounded once
 //     u X                                          the least whole number at or above X
+//     r X                                          X less a whole multiple of TAU, at most PI in size
+//     l X STEP I                                   point I of the first 64 from X on, STEP apart
 //     c X LOW HIGH                                 1 where the cosine of X lies between LOW and HIGH, both counted, else 0; s the sine
 //     a TIME RATE LEVEL                            CODE START OFFSET: where a pulse starts. LEVEL is 20 more than the align level
 //     p BASE DELTA PHASE NUMBER TIME               CODE BASE DELTA PHASE: ShiftPhase; P SetPhase, f ShiftFreq, F SetFreq

@@ -9,8 +9,9 @@ use lib.Ieee.{Float}
 use lib.Ieee.Fits.{and-i, and-l, and-r}
 use lib.Ieee.Scale.{finite}
 use Rattle.rows.specs.Rows.{allFinite}
-use Rattle.shape.specs.Segment.{pointAt, points}
-use Rattle.shape.proofs.Between.{points-between}
+use Rattle.points.specs.Points.{pointAt, points}
+use Rattle.exact.proofs.Finite.{smaller-finite}
+use Rattle.points.proofs.Between.{points-between}
 
 module _ (x dx : Float) where
   abbrev fine : ℕ → Type 0
@@ -39,7 +40,7 @@ module _ (x dx : Float) where
   pub ends : (n : ℕ) → 0 < n → n ≤ 65536 → (finite (pointAt x dx 0) && finite (pointAt x dx (n - 1))) ≡ allFinite (points n 0 x dx)
   ends n h l =
       same (finite (pointAt x dx 0) && finite (pointAt x dx (n - 1))) (allFinite (points n 0 x dx))
-      (λ t. all-fine n 0 (λ k g. subst fine (omega arith) (points-between x dx k (n - 1) (omega arith) (omega arith) (and-l (finite (pointAt x dx 0)) (finite (pointAt x dx (n - 1))) t) (and-r (finite (pointAt x dx 0)) (finite (pointAt x dx (n - 1))) t))))
+      (λ t. all-fine n 0 (λ k g. subst fine (omega arith) (points-between (λ (z : Float). T (finite z)) (record { smaller = smaller-finite; known = λ z t. t }) x dx k (n - 1) (omega arith) (omega arith) (and-l (finite (pointAt x dx 0)) (finite (pointAt x dx (n - 1))) t) (and-r (finite (pointAt x dx 0)) (finite (pointAt x dx (n - 1))) t))))
       (λ t. let first : fine 0 = subst fine (omega arith) (each-fine n 0 t 0 h) in
       let last : fine (n - 1) = subst fine (omega arith) (each-fine n 0 t (n - 1) (omega arith)) in
       and-i (finite (pointAt x dx 0)) (finite (pointAt x dx (n - 1))) first last)

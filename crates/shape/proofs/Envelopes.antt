@@ -18,7 +18,8 @@ use Rattle.shape.specs.declared.parts.Parted.{Parted}
 use Rattle.shape.specs.declared.parts.Parted.the-variants as parted
 use Rattle.shape.specs.declared.envelope.Enveloped.the-variants.{Points, Refused}
 use Rattle.shape.specs.Hann.{hannOf}
-use Rattle.shape.specs.Segment.{pointAt, values}
+use Rattle.points.specs.Points.{pointAt}
+use Rattle.shape.specs.Segment.{values}
 use Rattle.shape.specs.Parts.{indexAt, t1, t3, unbroken, broken, inOrder, partedOf}
 use Rattle.shape.specs.Envelope.{shapeOf, finitePoints, filledOf, envelopedOf, scratchAfter, Fitting}
 use Rattle.shape.proofs.Filling.{values-length, within-fits}

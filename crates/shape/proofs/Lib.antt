@@ -1,8 +1,8 @@
 pub mod Points
+pub mod Near
 pub mod Laying
 pub mod Filling
 pub mod Envelopes
-pub mod Between
 pub mod Ends
 pub mod Rising
 pub mod Twelve

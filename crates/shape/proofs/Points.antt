@@ -1,50 +1,55 @@
--- One turn of a loop over points, said of the count that is left; and one sample stored. Assumes nothing.
-use Prim.Native.Nat.{ℕ, suc, _+_, _-_, _<_, _≤_}
+-- One turn of a loop that stores ones, said of the count that is left; and one of a loop that puts a value into the place of each point. Assumes nothing.
+use Prim.Native.Nat.{ℕ, zero, suc, _+_, _-_, _<_, _≤_}
 use native.Mathlib.Omega.{arith}
+use native.Mathlib.Nat.{le-of-suc-le-suc, not-suc-le-zero}
 use native.Mathlib.Numerals.{add-one}
-use mathlib.Core.Path.{_≡_, sym, ap, _∙_}
-use mathlib.Core.List.{List, _∷_, _++_, append-nil}
-use lib.ListN.{length, take, set, replicate, length-set}
+use mathlib.Core.Path.{_≡_, refl, sym, ap, _∙_}
+use mathlib.Core.List.{List, [], _∷_, _++_, append-nil, map}
+use lib.ListN.{length, getD, take, set, replicate, length-set, length-map}
 use lib.Seq.{take-suc-set, append-snoc, take-all}
-use lib.Ieee.{Float}
+use lib.Ieee.{Float, nan}
 use Rattle.exact.specs.Doubles.{one}
-use Rattle.shape.specs.Hann.{hannOf}
-use Rattle.shape.specs.Segment.{pointAt, values}
+use Rattle.rows.proofs.Turns.{upto, upto-get, upto-next, upto-end}
 
-left-suc : (i n : ℕ) → i < n → n - i ≡ suc (n - (i + 1))
-left-suc i n h = omega arith
+-- ---- ones
+pub held : (part : List Float) (i n : ℕ) → i < n → i < length part → take (i + 1) (set part i one) ++ replicate (n - (i + 1)) one ≡ take i part ++ replicate (n - i) one
+held part i n h g = rw left (stored (replicate (n - (i + 1)) one))
+  where
+    left : n - i ≡ suc (n - (i + 1))
+    left = omega arith
 
-values-turn : (i n : ℕ) → i < n → (x dx : Float) → values (n - i) i x dx ≡ hannOf (pointAt x dx i) ∷ values (n - (i + 1)) (i + 1) x dx
-unfolding values
-values-turn i n h x dx = rw (left-suc i n h, add-one)
+    stored : (rest : List Float) → take (i + 1) (set part i one) ++ rest ≡ take i part ++ (one ∷ rest)
+    stored rest = rw (add-one i, take-suc-set part i one g) (append-snoc (take i part) one rest)
 
--- a sample is stored before the rest
-stored : (part : List Float) (i : ℕ) (y : Float) (rest : List Float) → i < length part → take (i + 1) (set part i y) ++ rest ≡ take i part ++ (y ∷ rest)
-stored part i y rest h = rw (add-one i, take-suc-set part i y h) (append-snoc (take i part) y rest)
+pub held-all : (part all : List Float) (i n : ℕ) → length part ≤ i → n ≤ i → take i part ++ replicate (n - i) one ≡ all → part ≡ all
+held-all part all i n h g e = rw (none, take-all i part h, append-nil) at e
+  where
+    none : n - i ≡ 0
+    none = omega arith
 
-module _ (part : List Float) (i n : ℕ) (h : i < n) (g : i < length part) where
-  pub sampled : (x dx : Float) → take (i + 1) (set part i (hannOf (pointAt x dx i))) ++ values (n - (i + 1)) (i + 1) x dx ≡ take i part ++ values (n - i) i x dx
-  sampled x dx = stored part i (hannOf (pointAt x dx i)) (values (n - (i + 1)) (i + 1) x dx) g ∙ ap (λ (l : List Float). take i part ++ l) (sym (values-turn i n h x dx))
+-- ---- a value for each point: after k turns the first k are values
+pub record Valued (f : Float → Float) (part₀ part : List Float) (k : ℕ) : Type 0 where
+  pub within : k ≤ length part₀
+  pub same : length part ≡ length part₀
+  pub done : part ≡ upto (map f part₀) part₀ k
 
-  pub held : take (i + 1) (set part i one) ++ replicate (n - (i + 1)) one ≡ take i part ++ replicate (n - i) one
-  held = rw (left-suc i n h) (stored part i one (replicate (n - (i + 1)) one) g)
+map-at : (f : Float → Float) (l : List Float) (k : ℕ) → k < length l → getD (map f l) k nan ≡ f (getD l k nan)
+map-at f [] k h = absurd (not-suc-le-zero h)
+map-at f (x ∷ l) zero h = refl
+map-at f (x ∷ l) (suc k) h = map-at f l k (le-of-suc-le-suc h)
 
--- nothing is left
-module _ (part all : List Float) (i n : ℕ) (h : length part ≤ i) (g : n ≤ i) where
-  none : n - i ≡ 0
-  none = omega arith
+module _ (f : Float → Float) (part₀ part : List Float) (k : ℕ) where
+  pub valued-turn : k < length part₀ → Valued f part₀ part k → (y : Float) → y ≡ f (getD part k nan) → Valued f part₀ (set part k y) (k + 1)
+  valued-turn h i y e =
+      let new = map f part₀ in
+      let old : getD part k nan ≡ getD part₀ k nan = ap (λ (l : List Float). getD l k nan) (i .done) ∙ upto-get new part₀ k nan in
+      record {
+        within = omega arith;
+        same = length-set part k y ∙ i .same;
+        done = ap (λ (l : List Float). set l k y) (i .done) ∙ upto-next new part₀ k nan y h (length-map part₀ f) (map-at f part₀ k h ∙ ap f (sym old) ∙ sym e);
+      }
 
-  pub sampled-all : (x dx : Float) → take i part ++ values (n - i) i x dx ≡ all → part ≡ all
-  unfolding values
-  sampled-all x dx e = rw (none, take-all i part h, append-nil) at e
-
-  pub held-all : take i part ++ replicate (n - i) one ≡ all → part ≡ all
-  held-all e = rw (none, take-all i part h, append-nil) at e
-
--- a turn of the loop that samples
-pub sample-turn : (part₀ part all : List Float) (i : ℕ) (x dx y : Float) → y ≡ hannOf (pointAt x dx i) → i < length part → length part ≡ length part₀
-    → take i part ++ values (length part₀ - i) i x dx ≡ all
-    → (i + 1 ≤ length (set part i y)) × (length (set part i y) ≡ length part₀) × (take (i + 1) (set part i y) ++ values (length part₀ - (i + 1)) (i + 1) x dx ≡ all)
-sample-turn part₀ part all i x dx y e h same done =
-    let under : i < length part₀ = omega arith in
-    (omega (arith, length-set part i y), length-set part i y ∙ same, rw e (sampled part i (length part₀) under h x dx ∙ done))
+  pub valued-all : length part₀ ≤ k → Valued f part₀ part k → part ≡ map f part₀
+  valued-all h i =
+      let end : k ≡ length part₀ = omega (arith, i .within) in
+      i .done ∙ ap (upto (map f part₀) part₀) end ∙ upto-end (map f part₀) part₀ (length-map part₀ f)

@@ -31,7 +31,7 @@ use Rattle.ieee.proofs.Ceiling.{value}
 use Rattle.ieee.proofs.Comparing.{fractions-of-le}
 use Rattle.ieee.proofs.Cutting.{cut-value, index-within, index-above}
 use Rattle.shape.specs.Parts.{indexOf, indexAt, t1, t2, t3, inOrder}
-use Rattle.shape.proofs.Between.{smaller-finite, round-either}
+use Rattle.exact.proofs.Finite.{smaller-finite, round-either}
 
 abbrev Q : ℕ
 Q = 2 ^ 1074

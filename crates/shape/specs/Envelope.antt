@@ -14,7 +14,8 @@ use Rattle.shape.specs.declared.parts.Parted.{Parted}
 use Rattle.shape.specs.declared.parts.Parted.the-variants as parted
 use Rattle.shape.specs.declared.envelope.Enveloped.{Enveloped}
 use Rattle.shape.specs.declared.envelope.Enveloped.the-variants.{Points, Refused}
-use Rattle.shape.specs.Segment.{points, values}
+use Rattle.points.specs.Points.{points}
+use Rattle.shape.specs.Segment.{values}
 
 -- the smaller of two
 abbrev pub least : ℕ → ℕ → ℕ

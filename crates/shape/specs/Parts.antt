@@ -15,7 +15,7 @@ use Rattle.quant.specs.declared.refusal.Refusal.the-variants.{ShapeTooShort, En
 use Rattle.shape.specs.declared.parts.Parts.{Parts}
 use Rattle.shape.specs.declared.parts.Parted.{Parted}
 use Rattle.shape.specs.declared.parts.Parted.the-variants.{Within, Refused}
-use Rattle.shape.specs.Segment.{number}
+use Rattle.points.specs.Points.{number}
 
 -- an index of what a number is cut to: the Rust's cast stops at 0 and at 2^64 - 1, and takes a NaN to 0
 abbrev pub indexOf : Cut → ℕ

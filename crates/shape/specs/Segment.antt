@@ -1,23 +1,28 @@
--- Document 01, "Placing and sampling": "point i is fused i*dx + x0". Definitions only.
-use Prim.Native.Nat.{ℕ, zero, suc}
+-- Document 01, "Placing and sampling": the values at an envelope's points. Definitions only.
+use Prim.Native.Nat.{ℕ, zero, suc, _-_, _*_, _^_, _≤_, _<_}
 use mathlib.Core.List.{List, [], _∷_}
-use lib.IntN.{pos}
-use lib.Ieee.{Float, binary64, ofInt}
-use Rattle.fma.specs.Fused.{fma}
+use lib.Dec.{T}
+use lib.ListN.{length, getD}
+use lib.Ieee.{Float, nan, binary64, fits}
+use lib.Ieee.Scale.{finite}
+use Rattle.exact.specs.Value.{unitsOf}
+use Rattle.points.specs.Points.{pointAt}
 use Rattle.shape.specs.Hann.{hannOf}
 
--- an index as a double; exact up to 2^53
-abbrev pub number : ℕ → Float
-number i = ofInt binary64 (pos i)
-
-abbrev pub pointAt : Float → Float → ℕ → Float
-pointAt x dx i = fma binary64 (number i) dx x
-
--- n points from the i-th on, and the values at them
-unfoldable pub points : ℕ → ℕ → Float → Float → List Float
-points zero i x dx = []
-points (suc n) i x dx = pointAt x dx i ∷ points n (suc i) x dx
-
+-- at n points from the i-th on
 unfoldable pub values : ℕ → ℕ → Float → Float → List Float
 values zero i x dx = []
 values (suc n) i x dx = hannOf (pointAt x dx i) ∷ values n (suc i) x dx
+
+-- z is a double of at most 7/8 in size
+pub record Near (z : Float) : Type 0 where
+  pub fit : T (fits binary64 z)
+  pub known : T (finite z)
+  pub small : unitsOf z ≤ 7 * 2 ^ 1071
+
+-- some points, but no more than an envelope has, of which the first and the last are near
+pub record EndsNear (part : List Float) : Type 0 where
+  pub some : 0 < length part
+  pub few : length part ≤ 65536
+  pub first : Near (getD part 0 nan)
+  pub last : Near (getD part (length part - 1) nan)

@@ -1,15 +1,20 @@
-// Points of one part of an envelope, and their values. The Rust's `sample_array`.
+// The values of one part of an envelope. The Rust's `sample_array`.
 ghost use mathlib.Core.Path.{_≡_};
+ghost use mathlib.Core.Bool.{true};
+ghost use mathlib.Core.List.{map};
 ghost use Prim.Native.Nat.{_≤_};
 ghost use lib.ListN.{length, replicate};
 ghost use Rattle.exact.specs.Doubles.{one};
 ghost use Rattle.rows.specs.Rows.{allFinite};
-ghost use Rattle.shape.specs.Segment.{pointAt, points, values};
+ghost use Rattle.points.specs.Points.{points};
+ghost use Rattle.shape.specs.Hann.{hannOf, hannNear};
+ghost use Rattle.shape.specs.Segment.{values, Near, EndsNear};
 use super::hann::hann;
-use fma::mul_add;
+use super::hann::hann_near;
 use ieee::finite::is_finite;
+use points::lay;
+use points::point;
 use quant::judge::both;
-use std::num::nearest_u64_to_f64;
 
 // Whether the first `count` points from x on are finite. They lie between the first and the last, so these two are judged.
 pub(crate) fn points_finite(x: f64, dx: f64, count: usize) -> bool
@@ -25,13 +30,62 @@ pub(crate) fn points_finite(x: f64, dx: f64, count: usize) -> bool
     )
 }
 
-// The values at the points from x on, for every sample of a part.
+// The values at the points from x on, for every sample of a part: first the points, then their values.
 pub(crate) fn sample(part: &mut [f64], x: f64, dx: f64)
     ensures { λ r. ⌜ now (part .exit) ≡ values (length (now (part .entry))) 0 x dx ⌝ }
 {
+    lay(part, x, dx);
+    if ends_near(part) {
+        value_near(part);
+        return;
+    }
+    value_each(part);
+}
+
+// Whether the first and the last of points are at most 7/8 in size. All points lie between them.
+fn ends_near(part: &[f64]) -> bool
+    ensures { λ r. ⌜ (r ≡ true → EndsNear (now (part .entry))) ⌝ }
+{
+    let n = part.len();
+    if n > 65536 {
+        return false;
+    }
+    if n == 0 {
+        return false;
+    }
+    if !is_near(part[0]) {
+        return false;
+    }
+    is_near(part[n - 1])
+}
+
+fn is_near(z: f64) -> bool
+    ensures { λ r. ⌜ (r ≡ true → Near z) ⌝ }
+{
+    if z < 0.875 {
+        return z > -0.875;
+    }
+    false
+}
+
+// The value at each point, none of which is 1 or more in size. No turn of this loop waits for a test, so that several can be worked out at once.
+fn value_near(part: &mut [f64])
+    ensures { λ r. ⌜ now (part .exit) ≡ map hannNear (now (part .entry)) ⌝ }
+{
     let mut i: usize = 0;
     while i < part.len() {
-        part[i] = hann(point(x, dx, i));
+        part[i] = hann_near(part[i]);
+        i += 1;
+    }
+}
+
+// The value at each point, wherever it is.
+fn value_each(part: &mut [f64])
+    ensures { λ r. ⌜ now (part .exit) ≡ map hannOf (now (part .entry)) ⌝ }
+{
+    let mut i: usize = 0;
+    while i < part.len() {
+        part[i] = hann(part[i]);
         i += 1;
     }
 }
@@ -45,10 +99,4 @@ pub(crate) fn hold(part: &mut [f64])
         part[i] = 1.0;
         i += 1;
     }
-}
-
-fn point(x: f64, dx: f64, i: usize) -> f64
-    ensures { λ r. ⌜ r ≡ pointAt x dx i ⌝ }
-{
-    mul_add(nearest_u64_to_f64(i as u64), dx, x)
 }

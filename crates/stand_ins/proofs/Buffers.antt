@@ -6,7 +6,7 @@ use mathlib.Core.List.{List, []}
 use lib.Dec.{eqb}
 use lib.Ieee.{Float, nan, add, sub, mul, div, rem, neg, lt, eq, le, sum, round, ofBits, ofInt}
 use lib.ListN.{length, getD, take}
-use Rattle.exact.specs.Doubles.{one}
+use Rattle.exact.specs.Doubles.{nought, one}
 use Rattle.ieee.specs.Ceiling.{ceiling}
 use Rattle.ieee.specs.Cut.{cutOf}
 use Rattle.ieee.specs.Exp2.{exp2Of}
@@ -23,7 +23,8 @@ use Rattle.fir.specs.Fir.{doubled, tapAt, sumTo, filteredFrom}
 use Rattle.quant.specs.declared.refusal.Answer.{Answer}
 use Rattle.quant.specs.Refusal.{codeOf}
 use Rattle.shape.specs.Hann.{hannOf}
-use Rattle.shape.specs.Segment.{points, values}
+use Rattle.points.specs.Points.{points}
+use Rattle.shape.specs.Segment.{values}
 use Rattle.shape.specs.Parts.{indexAt, partedOf}
 use Rattle.shape.specs.Envelope.{shapeOf, finitePoints, limitOf, envelopedOf, scratchAfter}
 use Rattle.pulse.specs.Bin.{sameRow, placeOf}
@@ -51,11 +52,11 @@ use Rattle.system.specs.System.{Outcome, outcome}
 use Rattle.system.specs.System as system
 use Rattle.system.proofs.Promised as promised
 use Rattle.stand_ins.specs.Whole.{anything, answerOf, iq-numbers, offset-numbers, iir-numbers, fir-numbers, bin-alone, bin-pair, pulse-alone, pulse-pair, pulse-of-each}
-use Rattle.stand_ins.specs.ByValue.{partsFor}
+use Rattle.stand_ins.specs.ByValue.{always, partsFor}
 use Rattle.stand_ins.specs.Buffers as lent
 use Rattle.stand_ins.specs.Inputs as given
 use Rattle.stand_ins.specs.Table.{itself, stepLeft, stepCame, bothLeft, mixedLeft, mixedCame, firstSummed, firstMixed, firstBinMixed, Buffers}
-use Rattle.stand_ins.proofs.StandIns.{Only, not-all-refused, not-always, not-fixed, isTwo, both-rows-move}
+use Rattle.stand_ins.proofs.StandIns.{Only, not-all-refused, not-always, not-fixed, isTwo, both-rows-move, varies}
 
 -- ---- the one outcome that a promise of several equations allows
 
@@ -166,6 +167,8 @@ buffers =
       plateau-moves = both-rows-move lent.add-plateau bothLeft _ _ _ _ _ (only-plateau (given.plateau 1)) (only-plateau (given.plateau 0)) refl refl refl refl refl refl refl refl refl refl;
       envelope-moves = both-rows-move lent.add-envelope bothLeft _ _ _ _ _ (only-envelope (given.enveloped 1)) (only-envelope (given.enveloped 0)) refl refl refl refl refl refl refl refl refl refl;
       lists-move = both-rows-move lent.mix-lists mixedLeft mixedCame _ _ _ _ (only-mixed (given.mixing 1 bin-alone pulse-alone)) (only-mixed (given.mixing 0 bin-alone pulse-alone)) refl refl refl refl refl refl refl refl refl refl;
+      part-laid = not-always lent.lay itself (λ (x : lent.Part). x .part) isOneRow (given.parting one) _ (λ z p. p) refl refl refl;
+      part-moves = varies _ always itself (λ (x : lent.Part). length (x .part)) isOneRow (given.parting one) (given.parting nought) refl refl refl refl refl;
       scratch-filled = not-always lent.envelope (λ (y : lent.Points). y .scratch) (λ (x : lent.Laying). x .scratch) isOneRow given.laying _ (only-points given.laying) refl refl refl;
       first-summed = not-always lent.sum-lists itself firstSummed twoEnd (given.summing bin-alone pulse-pair) _ (λ z p. p) refl refl refl;
       first-mixed = not-always lent.mix-lists (λ (y : lent.Mixed). y .out .left) firstMixed (λ (r : Rowed). isTwo (r .i)) _ _ (only-mixed (given.mixing 0 bin-alone pulse-pair)) refl refl refl;

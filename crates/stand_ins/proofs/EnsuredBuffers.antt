@@ -17,6 +17,7 @@ use Rattle.host.proofs.skierralu_fir as fir-c
 use Rattle.mix.proofs.add_plateau as add-plateau
 use Rattle.host.proofs.skierralu_add_plateau as add-plateau-c
 use Rattle.mix.proofs.add_envelope as add-envelope
+use Rattle.points.proofs.lay as lay
 use Rattle.shape.proofs.envelope.envelope as envelope
 use Rattle.merge.proofs.work.sum_lists as sum-lists
 use Rattle.mixdown.proofs.mix_lists as mix-lists
@@ -50,6 +51,9 @@ module _ {M : Type 1} (𝓤 : URA M) (H : Heap 𝓤) (A : Atoms 𝓤) (mem : Mem
       (λ κs a r e. call.EnvelopeI (record { rows = a .0; i = now (a .1 .0); q = now (a .1 .1 .0); start = a .1 .1 .1 .0; points = now (a .1 .1 .1 .1 .0); amp = a .1 .1 .1 .1 .1 .0; drag = a .1 .1 .1 .1 .1 .1 .0; carrier = a .1 .1 .1 .1 .1 .1 .1 .0; rotation = a .1 .1 .1 .1 .1 .1 .1 .1 .0 }) (record { i = now (e .1 .0); q = now (e .1 .1 .0) }))
       (λ κs a r e. call.EnvelopeQ (record { rows = a .0; i = now (a .1 .0); q = now (a .1 .1 .0); start = a .1 .1 .1 .0; points = now (a .1 .1 .1 .1 .0); amp = a .1 .1 .1 .1 .1 .0; drag = a .1 .1 .1 .1 .1 .1 .0; carrier = a .1 .1 .1 .1 .1 .1 .1 .0; rotation = a .1 .1 .1 .1 .1 .1 .1 .1 .0 }) (record { i = now (e .1 .0); q = now (e .1 .1 .0) }))
   envelope-added-says κs a g r e = (refl, refl)
+
+  pub lay-says : Says 𝓤 lay.ended (lay.clauses 𝓤 H A mem run) (λ κs a r e. call.lay .Promise (record { part = now (a .0); start = a .1 .0; step = a .1 .1 .0 }) (now (e .0)))
+  lay-says κs a g r e = (refl, refl)
 
   pub envelope-says : SaysTwo 𝓤 envelope.ended (envelope.clauses 𝓤 H A mem run)
       (λ κs a r e. call.PointsAnswer (record { curve = record { width = a .0 .0; plateau = a .1 .0 .0; offset = a .1 .1 .0; rate = a .1 .1 .1 .0 .0; dt = a .1 .1 .1 .1 .0 .0; room = a .1 .1 .1 .1 .1 .0 }; scratch = now (a .1 .1 .1 .1 .1 .1 .0) }) (record { answer = r; scratch = now (e .1 .1 .1 .1 .1 .1 .0) }))

@@ -16,7 +16,8 @@ use Rattle.iir.specs.Filter.{given, pipelined, turns}
 use Rattle.fir.specs.Fir.{doubled, tapAt, sumTo, filteredFrom}
 use Rattle.quant.specs.declared.refusal.Answer.the-variants.{Done}
 use Rattle.shape.specs.Hann.{hannOf}
-use Rattle.shape.specs.Segment.{points, values}
+use Rattle.points.specs.Points.{points}
+use Rattle.shape.specs.Segment.{values}
 use Rattle.shape.specs.Parts.{indexAt, partedOf}
 use Rattle.shape.specs.Envelope.{shapeOf, finitePoints}
 use Rattle.pulse.specs.Bin.{sameRow, placeOf}

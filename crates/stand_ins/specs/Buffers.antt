@@ -15,6 +15,7 @@ use Rattle.host.specs.Coded.{Coded}
 use Rattle.mix.specs.Part.{firstRow, secondRow}
 use Rattle.mix.specs.Plateau.{carried, real, imaginary}
 use Rattle.mix.specs.Envelope.{shapedBy}
+use Rattle.points.specs.Points.{points}
 use Rattle.shape.specs.declared.envelope.Enveloped.{Enveloped}
 use Rattle.shape.specs.Envelope.{limitOf, envelopedOf, scratchAfter}
 use Rattle.pulse.specs.declared.list.Pulse.{Pulse}
@@ -114,6 +115,16 @@ module _ (x : Envelope) (y : Two) where
 
 abbrev pub add-envelope : Call
 add-envelope = record { Given = Envelope; Left = Two; Promise = λ x y. EnvelopeI x y × EnvelopeQ x y; accepted = always }
+
+-- ---- the points of a part
+
+pub record Part : Type 0 where
+  pub part : List Float
+  pub start : Float
+  pub step : Float
+
+abbrev pub lay : Call
+lay = equation (λ (x : Part). points (length (x .part)) 0 (x .start) (x .step)) always
 
 -- ---- an envelope's points in the scratch
 

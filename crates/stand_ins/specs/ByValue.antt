@@ -5,7 +5,8 @@ use mathlib.Core.List.{List}
 use lib.Dec.{eqb}
 use lib.IntN.{ℤ}
 use lib.Ieee.{Float}
-use Rattle.trig.specs.Trig.{cosineOf, sineOf, Both}
+use Rattle.trig.specs.Reduce.{wrapped}
+use Rattle.trig.specs.Trig.{cosineAt, cosineOf, sineOf, Both}
 use Rattle.naming.specs.declared.Name.{Name}
 use Rattle.quant.specs.declared.aligned.Aligned.{Aligned}
 use Rattle.quant.specs.declared.aligned.Aligned.the-variants as aligned
@@ -37,6 +38,7 @@ use Rattle.tables.specs.declared.Found.the-variants as found
 use Rattle.tables.specs.declared.Told.{Told}
 use Rattle.tables.specs.declared.Told.the-variants as told
 use Rattle.tables.specs.Tables as tables
+use Rattle.points.specs.Points.{pointAt}
 use Rattle.shape.specs.declared.parts.Parted.{Parted}
 use Rattle.shape.specs.declared.parts.Parted.the-variants as parted
 use Rattle.shape.specs.declared.envelope.Enveloped.{Enveloped}
@@ -67,11 +69,24 @@ cosine = equation cosineOf always
 abbrev pub sine : Call
 sine = equation sineOf always
 
+abbrev pub cosine-near : Call
+cosine-near = equation (λ (x : Float). cosineAt (wrapped x)) always
+
 abbrev pub hann : Call
 hann = equation hannOf always
 
 abbrev pub both : Call
 both = record { Given = Float; Left = Float × Float; Promise = λ x y. Both x (y .0) (y .1); accepted = always }
+
+-- ---- a point
+
+pub record Pointing : Type 0 where
+  pub start : Float
+  pub step : Float
+  pub index : ℕ
+
+abbrev pub point : Call
+point = equation (λ (x : Pointing). pointAt (x .start) (x .step) (x .index)) always
 
 -- ---- alignment: a time, a rate and a level; a phase; the clock
 

@@ -17,8 +17,8 @@ use Rattle.sheet.specs.Sheet.{sheetText}
 use Rattle.bench_table.specs.Numbers.{over, whole}
 use Rattle.bench_table.specs.Call.{channel, clock, binWith, pulseAt, noCrosstalk}
 use Rattle.stand_ins.specs.Whole.{tablesOf, holding, barrier}
-use Rattle.stand_ins.specs.ByValue.{Timed, Clocked, Turning, Swapping, Weighing, Curve, Pulsed, Looking, Planning, Verdict}
-use Rattle.stand_ins.specs.Buffers.{Step, Plateau, Envelope, Laying, Summing, gatheredFor, Mixing, Owning}
+use Rattle.stand_ins.specs.ByValue.{Pointing, Timed, Clocked, Turning, Swapping, Weighing, Curve, Pulsed, Looking, Planning, Verdict}
+use Rattle.stand_ins.specs.Buffers.{Step, Plateau, Envelope, Part, Laying, Summing, gatheredFor, Mixing, Owning}
 use Rattle.stand_ins.specs.Texts.{Place, Field, Fields, Sheet, Printing, Answering}
 
 -- ---- by value: time 0 at rate 1 and level 0, an oscillator at rest, amplitude 1, a width of 1 at an offset of 0.5
@@ -147,6 +147,13 @@ enveloped x =
       carrier = unit;
       rotation = unit;
     }
+
+-- points 1 apart from 0 on; a part of one sample, 0, for the points from x on
+abbrev pub pointing : ℕ → Pointing
+pointing i = record { start = whole 0; step = whole 1; index = i }
+
+abbrev pub parting : Float → Part
+parting x = record { part = whole 0 ∷ []; start = x; step = whole 1 }
 
 -- a scratch of one sample
 abbrev pub laying : Laying

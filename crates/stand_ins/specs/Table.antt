@@ -1,7 +1,7 @@
 -- Which of document 01's stand-ins are ruled out for which call, and the inputs that show it. Definitions only.
 use mathlib.Core.List.{List}
 use lib.Ieee.{Float}
-use lib.ListN.{replicate}
+use lib.ListN.{length, replicate}
 use Rattle.exact.specs.Doubles.{nought, one}
 use Rattle.tables.specs.declared.Tables.{Tables}
 use Rattle.merge.specs.declared.work.Ends.{Ends}
@@ -39,7 +39,9 @@ pub record ByValue : Type 1 where
   -- "one fixed .. cosine"
   pub cosine : NotFixed value.cosine itself anything nought one
   pub sine : NotFixed value.sine itself anything nought one
+  pub cosine-near : NotFixed value.cosine-near itself anything nought one
   pub hann : NotFixed value.hann itself anything nought (over 5 10)
+  pub point : NotFixed value.point itself anything (given.pointing 1) (given.pointing 0)
   pub both-cosine : NotFixed value.both (λ (y : Float × Float). y .0) anything nought one
   pub both-sine : NotFixed value.both (λ (y : Float × Float). y .1) anything nought one
   pub phaser-fixed : NotFixed value.phaser itself anything nought (over 5 10)
@@ -149,6 +151,8 @@ pub record Buffers : Type 1 where
   pub plateau-moves : RowsMove lent.add-plateau bothLeft (one-of (λ (x : lent.Plateau). x .i) (λ (x : lent.Plateau). x .q)) (given.plateau 1) (given.plateau 0)
   pub envelope-moves : RowsMove lent.add-envelope bothLeft (one-of (λ (x : lent.Envelope). x .i) (λ (x : lent.Envelope). x .q)) (given.enveloped 1) (given.enveloped 0)
   pub lists-move : RowsMove lent.mix-lists mixedLeft mixedCame (given.mixing 1 bin-alone pulse-alone) (given.mixing 0 bin-alone pulse-alone)
+  pub part-laid : NotAlways lent.lay itself (λ (x : lent.Part). x .part) (given.parting one)
+  pub part-moves : NotFixed lent.lay itself (λ (x : lent.Part). length (x .part)) (given.parting one) (given.parting nought)
   pub scratch-filled : NotAlways lent.envelope (λ (y : lent.Points). y .scratch) (λ (x : lent.Laying). x .scratch) given.laying
   -- "only the first pulse or bin sampled"
   pub first-summed : NotAlways lent.sum-lists itself firstSummed (given.summing bin-alone pulse-pair)

@@ -1,13 +1,13 @@
 -- The steps of the reduction, by the sizes of their operands in units of 2 ^ -1074: the remainder of TAU, which below TAU is the angle
 -- itself, and one TAU off or on where the size is above PI. Each is exact: the remainder always is, and the difference is of two sizes of
 -- which neither is more than twice the other. Assumes nothing.
-use mathlib.Core.Path.{_≡_, refl, sym, ap, _∙_, subst}
-use mathlib.Core.Bool.{Bool, true, false, not, cond, false≢true}
+use mathlib.Core.Path.{_≡_, refl, sym, ap, _∙_}
+use mathlib.Core.Bool.{Bool, true, false, not, cond}
 use Prim.Native.Nat.{ℕ, _-_, _*_, _%_, _^_, _≤_, _<_}
 use native.Mathlib.Nat.{le-trans, le-of-eq, le-of-lt, lt-of-le-of-lt, mul-le-mul-right, mod-eq-of-lt, sub-le}
-use lib.Dec.{T, ltb→lt, lit<}
+use lib.Dec.{T, lit<}
 use lib.Pow.{pow-pos}
-use lib.Ieee.{Float, nan, inf, fin, binary64, ofBits, rem, sub, add, neg, below, lt, fits, round}
+use lib.Ieee.{Float, binary64, ofBits, rem, sub, add, neg, below, lt, fits, round}
 use lib.Ieee.Fits.{rem-fits}
 use lib.Ieee.Bits.{ofBits-fits}
 use lib.Ieee.Scale.{finite}
@@ -17,9 +17,9 @@ use Rattle.exact.proofs.Value.{neg-value, own, unique}
 use Rattle.exact.proofs.Sum.{sum-second}
 use Rattle.exact.proofs.Operation.{add-rounds, sub-rounds}
 use Rattle.exact.proofs.Few.{Few, few-of, few-sub, few-value, units-below}
-use Rattle.exact.proofs.Compare.{lt-is}
+use Rattle.exact.proofs.Compare.{lt-is, between, inside}
 use Rattle.exact.proofs.Remainder.{rem-exact}
-use Rattle.trig.specs.Reduce.{TAU, PI, wrapped}
+use Rattle.trig.specs.Reduce.{TAU, PI, wrapped, reduced}
 
 -- ---- the two constants
 pub tau-fits : T (fits binary64 TAU)
@@ -28,14 +28,14 @@ tau-fits = ofBits-fits binary64 _
 pub tau-finite : T (finite TAU)
 tau-finite = unfold ofBits in tt
 
-tau-value : Units TAU false (unitsOf TAU)
+pub tau-value : Units TAU false (unitsOf TAU)
 unfolding ofBits
 tau-value = own TAU tau-fits tau-finite
 
 pi-fits : T (fits binary64 PI)
 pi-fits = ofBits-fits binary64 _
 
-pi-value : Units PI false (unitsOf PI)
+pub pi-value : Units PI false (unitsOf PI)
 unfolding ofBits
 pi-value = own PI pi-fits tt
 
@@ -58,26 +58,17 @@ rem-own x f t h =
     unique x (rem binary64 x TAU) (signOf x) (unitsOf x) (2 ^ 1074) (pow-pos 1074) f (rem-fits binary64 x TAU f) (own x f t)
     (rw (mod-eq-of-lt h) at (rem-value x f t))
 
--- the two tests of the code say that: n is between -m and m
-size-below : (s : Bool) (n m : ℕ) → below s n false m ≡ true → below true m s n ≡ true → n < m
-size-below false n m p q = ltb→lt n m (subst T (sym p) tt)
-size-below true n m p q = ltb→lt n m (subst T (sym q) tt)
+-- and the reduction is the wrap alone
+pub reduced-near : (x : Float) → T (fits binary64 x) → T (finite x) → unitsOf x < unitsOf TAU → reduced x ≡ wrapped x
+unfolding reduced
+reduced-near x f t h = ap wrapped (sym (rem-own x f t h))
 
-rem-tested : (x : Float) → T (fits binary64 x) → T (finite x) → lt x TAU ≡ true → lt (neg TAU) x ≡ true → x ≡ rem binary64 x TAU
-rem-tested x f t p q =
-    let s = signOf x in
-    let a = unitsOf x in
-    let b = unitsOf TAU in
-    rem-own x f t
-    (size-below s a b (sym (lt-is x TAU s false a b (2 ^ 1074) (pow-pos 1074) (own x f t) tau-value) ∙ p)
-    (sym (lt-is (neg TAU) x true s b a (2 ^ 1074) (pow-pos 1074) (neg-value TAU false b (2 ^ 1074) tau-value) (own x f t)) ∙ q))
-
-pub rem-small : (x : Float) → T (fits binary64 x) → lt x TAU ≡ true → lt (neg TAU) x ≡ true → x ≡ rem binary64 x TAU
-unfolding rem lt neg ofBits
-rem-small nan f p q = refl
-rem-small (inf true) f p q = absurd (false≢true q)
-rem-small (inf false) f p q = absurd (false≢true p)
-rem-small (fin s m e) f p q = rem-tested (fin s m e) f tt p q
+-- the two tests of the code say that it is
+pub reduced-tested : (x : Float) → T (fits binary64 x) → lt x TAU ≡ true → lt (neg TAU) x ≡ true → reduced x ≡ wrapped x
+unfolding ofBits neg
+reduced-tested x f p q =
+    let t = between (neg TAU) x TAU tt tt q p in
+    reduced-near x f t (inside x TAU (unitsOf TAU) f t tau-value p q)
 
 -- ---- which way the wrap goes
 module _ (r : Float) where

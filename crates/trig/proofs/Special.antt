@@ -3,17 +3,15 @@
 use mathlib.Core.Path.{_≡_, refl, ap, _∙_}
 use mathlib.Core.List.{List, [], _∷_}
 use mathlib.Core.Bool.{Bool, true, false}
-use Prim.Native.Nat.{_^_}
 use lib.Dec.{T, lit≤}
 use lib.IntN.{pos}
-use lib.Pow.{pow-pos}
 use lib.Ieee.{Float, nan, inf, fin, binary64, ofBits, sub, mul, fits}
 use lib.Ieee.Fits.{sub-fits, mul-fits}
 use lib.Ieee.Bits.{ofBits-fits}
 use lib.Ieee.Scale.{finite}
 use Rattle.exact.specs.Doubles.{one}
 use Rattle.exact.specs.Value.{signOf, unitsOf}
-use Rattle.exact.proofs.Value.{own, unique}
+use Rattle.exact.proofs.Value.{zero-is}
 use Rattle.trig.specs.Reduce.{reduced}
 use Rattle.trig.specs.Trig.{horner, evens, odds, cosineAt, sineAt, cosineOf, sineOf}
 use Rattle.trig.proofs.Multiple.{reduces, zero-sign, reduced-zero, reduced-nan, reduced-inf}
@@ -30,19 +28,10 @@ unfolding sineAt horner mul sub ofBits
 sine-at-zero true = refl
 sine-at-zero false = refl
 
-zero-fits : (s : Bool) → T (fits binary64 (fin s 0 (pos 0)))
-unfolding fits
-zero-fits s = tt
-
 -- where the reduced angle is a zero, that is x's: cosine is 1, and sine is a zero of x's sign
 module _ (x : Float) (f : T (fits binary64 x)) (t : T (finite x)) (z : unitsOf (reduced x) ≡ 0) where
   angle-zero : reduced x ≡ fin (signOf x) 0 (pos 0)
-  angle-zero =
-      let s = signOf x in
-      let r = reduced x in
-      let R = reduces x f t in
-      unique r (fin s 0 (pos 0)) s 0 (2 ^ 1074) (pow-pos 1074) (R .fit) (zero-fits s)
-      (rw (zero-sign x f t z, z) at (own r (R .fit) (R .known))) (refl, refl)
+  angle-zero = let R = reduces x f t in zero-is (reduced x) (R .fit) (R .known) z ∙ ap (λ (s : Bool). fin s 0 (pos 0)) (zero-sign x f t z)
 
   pub cosine-zero : cosineOf x ≡ one
   unfolding cosineOf

@@ -1,9 +1,12 @@
 -- The reduction of an angle by TAU: r = x % TAU; above PI less TAU, below -PI plus TAU. And what it is for that to be exact. Definitions only.
-use mathlib.Core.Bool.{cond}
+use mathlib.Core.Path.{_≡_}
+use mathlib.Core.Logic.{_⊎_}
+use mathlib.Core.Bool.{true, false, cond}
 use Prim.Native.Nat.{_≤_}
 use lib.Dec.{T}
-use lib.Ieee.{Float, binary64, ofBits, rem, sub, add, neg, lt, fits}
+use lib.Ieee.{Float, binary64, ofBits, rem, sub, add, neg, lt, ne, fits}
 use lib.Ieee.Scale.{finite}
+use Rattle.exact.specs.Doubles.{nought}
 use Rattle.exact.specs.Value.{signOf, unitsOf}
 use Rattle.exact.specs.Signed.{Signed, Same, signed, times, plusS}
 
@@ -32,3 +35,13 @@ pub record Reduction (x r : Float) : Type 0 where
   pub small : unitsOf r ≤ unitsOf PI
   pub k : Signed
   pub exact : Same (plusS (numberOf r) (times (unitsOf TAU) k)) (numberOf x)
+
+-- what the code tests: x is TAU or more in size, or no number
+abbrev pub Far : Float → Type 0
+Far x = (lt x TAU ≡ false) ⊎ (lt (neg TAU) x ≡ false)
+
+-- and r is less than PI in size, and not zero
+pub record Inside (r : Float) : Type 0 where
+  pub below : lt r PI ≡ true
+  pub above : lt (neg PI) r ≡ true
+  pub some : ne r nought ≡ true

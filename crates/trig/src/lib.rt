@@ -1,8 +1,6 @@
 // Cosine and sine of any double: the angle is reduced by TAU, every step of it exact, and Horner's rule runs in one fixed order of operations.
 ghost use mathlib.Core.Path.{_≡_};
-ghost use lib.Ieee.{binary64, rem};
-ghost use Rattle.trig.specs.Reduce as Reduce;
-ghost use Rattle.trig.specs.Reduce.{wrapped, reduced};
+ghost use Rattle.trig.specs.Reduce.{wrapped, reduced, Far, Inside};
 ghost use Rattle.trig.specs.Trig.{cosineAt, sineAt, cosineOf, sineOf, Both};
 
 // 0x401921FB54442D18
@@ -11,22 +9,61 @@ const TAU: f64 = 6.283185307179586;
 // 0x400921FB54442D18
 const PI: f64 = 3.141592653589793;
 
+// 1 / TAU, 0x3FC45F306DC9C883
+const INVERSE: f64 = 0.15915494309189535;
+
+// TAU is HIGH + LOW, of 31 binary digits and of 16. 0x401921FB54400000
+const HIGH: f64 = 6.2831853069365025;
+
+// 0x3DF0B46000000000
+const LOW: f64 = 2.430837753308879e-10;
+
+// 3 * 2^51, amid the doubles that are the whole numbers from 2^52 to 2^53
+const MIDDLE: f64 = 6755399441055744.0;
+
+// MIDDLE - 2^21
+const BOTTOM: f64 = 6755399438958592.0;
+
+// MIDDLE + 2^21
+const TOP: f64 = 6755399443152896.0;
+
 pub struct Pair {
     pub cos: f64,
     pub sin: f64,
 }
 
-// The angle less a whole multiple of TAU, at most PI in size.
+// The angle less a whole multiple of TAU, at most PI in size. The division is left for what two products do not settle: angles beside an
+// odd multiple of PI, multiples of TAU, and those of 2^21 turns or more.
 pub fn reduce(x: f64) -> f64
     ensures { λ r. ⌜ r ≡ reduced x ⌝ }
 {
-    wrap(remainder(x))
+    if x < TAU {
+        if x > -TAU {
+            return wrap(x);
+        }
+    }
+    let r = turned(x);
+    if r < PI {
+        if r > -PI {
+            if r != 0.0 {
+                return r;
+            }
+        }
+    }
+    wrap(x % TAU)
 }
 
 pub fn cosine(x: f64) -> f64
     ensures { λ c. ⌜ c ≡ cosineOf x ⌝ }
 {
     cos_at(reduce(x))
+}
+
+// The cosine of an angle below TAU in size: at most one TAU is taken off or put on, and nothing is divided.
+pub fn cosine_near(x: f64) -> f64
+    ensures { λ c. ⌜ c ≡ cosineAt (wrapped x) ⌝ }
+{
+    cos_at(wrap(x))
 }
 
 pub fn sine(x: f64) -> f64
@@ -45,16 +82,19 @@ pub fn both(x: f64) -> Pair
     Pair { cos: c, sin: s }
 }
 
-// The remainder by TAU. Below TAU in size that is x itself, and the division is spared.
-fn remainder(x: f64) -> f64
-    ensures { λ r. ⌜ r ≡ rem binary64 x Reduce.TAU ⌝ }
+// x less q TAU, for a whole number q near x / TAU: t is that much above MIDDLE, where a double has no digits below 1. Where the answer is
+// less than PI in size, both products and both differences are exact. A zero settles nothing, since a reduced zero has the sign of x.
+fn turned(x: f64) -> f64
+    ensures { λ r. ⌜ (Far x → Inside r → r ≡ reduced x) ⌝ }
 {
-    if x < TAU {
-        if x > -TAU {
-            return x;
+    let t = x * INVERSE + MIDDLE;
+    if t < TOP {
+        if t > BOTTOM {
+            let q = t - MIDDLE;
+            return x - q * HIGH - q * LOW;
         }
     }
-    x % TAU
+    0.0
 }
 
 // Above PI less TAU, below -PI plus TAU.

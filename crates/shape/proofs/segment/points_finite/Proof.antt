@@ -2,7 +2,7 @@
 use borrow.Author.Needs.{needs}
 use native.Mathlib.Omega.{arith}
 use Rattle.rows.specs.Rows.{allFinite}
-use Rattle.shape.specs.Segment.{points}
+use Rattle.points.specs.Points.{points}
 use Rattle.shape.proofs.Ends.{ends}
 use Rattle.shape.proofs.segment.points_finite.Statement.{statement}
 use Rattle.shape.proofs.segment.points_finite.Tie as tie

@@ -1,72 +1,48 @@
--- `shape::segment::sample` meets its contract. The invariant: the values stored so far and those that are left make up the part. Assumes nothing.
+-- `shape::segment::sample` meets its contract. Assumes nothing.
 use borrow.Author.Needs.{needs}
-use Prim.Native.Nat.{_+_, _-_, _≤_}
-use native.Mathlib.Omega.{arith}
-use mathlib.Core.Path.{_≡_, refl, ap, _∙_}
-use mathlib.Core.List.{_++_}
-use lib.ListN.{length, take, length-set}
-use Rattle.shape.specs.Hann.{hannOf}
-use Rattle.shape.specs.Segment.{values}
-use Rattle.shape.proofs.Points.{sample-turn, sampled-all}
+use mathlib.Core.Path.{_∙_, ap, subst}
+use mathlib.Core.List.{map}
+use lib.ListN.{length}
+use Rattle.shape.specs.Hann.{hannOf, hannNear}
+use Rattle.shape.specs.Segment.{EndsNear}
+use Rattle.shape.proofs.Near.{each-valued, near-valued}
 use Rattle.shape.proofs.segment.sample.Statement.{statement}
 use Rattle.shape.proofs.segment.sample.Tie as tie
 
-abbrev Inv-loop : tie.InvT-loop
-Inv-loop part₀ x dx i₀ part i = (i ≤ length part) × (length part ≡ length part₀) × (take i part ++ values (length part₀ - i) i x dx ≡ values (length part₀ - i₀) i₀ x dx)
+lay-requires : tie.Need-lay-requires
+lay-requires c κs = search needs
 
-abbrev μ-loop : tie.MeasureT-loop
-μ-loop part₀ x dx i₀ part i = length part - i
+ends-near-requires : tie.Need-ends-near-requires
+ends-near-requires c κs = search needs
 
-loop-holds : tie.Need-loop-holds Inv-loop μ-loop
-loop-holds c = (search needs, refl, refl)
+value-near-requires : tie.Need-value-near-requires
+value-near-requires c κs = search needs
 
-point-requires : tie.Need-point-requires Inv-loop μ-loop
-point-requires c κs = search needs
+same-length : tie.Need-same-length
+same-length c = search needs
 
-hann-requires : tie.Need-hann-requires Inv-loop μ-loop
-hann-requires c κs = search needs
-
-mul-part : tie.Need-mul-part Inv-loop μ-loop
-mul-part c = omega arith
-
-slice-write-part : tie.Need-slice-write-part Inv-loop μ-loop
-slice-write-part c = omega arith
-
-add-i : tie.Need-add-i Inv-loop μ-loop
-add-i c = omega arith
-
-loop-less : tie.Need-loop-less Inv-loop μ-loop
-loop-less c = simp length-set (omega arith)
-
-loop-again : tie.Need-loop-again Inv-loop μ-loop
-loop-again c =
-    let at = c .before .before .before .loop in
-    let a = c .before .before .before .before .before .args in
-    sample-turn (a .part .now) (at .part) _ (at .i) (a .x) (a .dx) (c .hann .result) (c .hann .ensures ∙ ap hannOf (c .before .point .ensures)) (omega arith) (at .inv .1) (at .inv .2)
-
-same-length : tie.Need-same-length Inv-loop μ-loop
-same-length c = c .before .loop .inv .1
-
-returns : tie.Need-returns Inv-loop μ-loop
+returns : tie.Need-returns
 returns c =
-    let at = c .before .loop in
-    let a = c .before .before .before .args in
-    let all : length (a .part .now) - 0 ≡ length (a .part .now) = omega arith in
-    sampled-all (at .part) _ (at .i) (length (a .part .now)) (omega arith) (omega (arith, at .inv .1)) (a .x) (a .dx) (rw all at (at .inv .2))
+    let b = c .before .before in
+    let near = b .before .before .before in
+    let laid = near .before .before .before .before in
+    let a = laid .before .before .before .args in
+    b .value-near .ensures
+    ∙ ap (map hannNear) (laid .lay .ensures)
+    ∙ near-valued (length (a .part .now)) (a .x) (a .dx) (subst EndsNear (laid .lay .ensures) (near .ends-near .ensures (b .before .before .if1 .taken)))
+
+value-each-requires : tie.Need-value-each-requires
+value-each-requires c κs = search needs
+
+same-length-2 : tie.Need-same-length-2
+same-length-2 c = search needs
+
+returns-2 : tie.Need-returns-2
+returns-2 c =
+    let b = c .before .before in
+    let laid = b .before .before .before .before .before .before .before in
+    let a = laid .before .before .before .args in
+    b .value-each .ensures ∙ ap (map hannOf) (laid .lay .ensures) ∙ each-valued (length (a .part .now)) 0 (a .x) (a .dx)
 
 pub sample-spec : {M : Type 1} → statement M
-sample-spec =
-    tie.close
-    (tie.spec
-    Inv-loop
-    μ-loop
-    loop-holds
-    point-requires
-    hann-requires
-    mul-part
-    slice-write-part
-    add-i
-    loop-less
-    loop-again
-    same-length
-    returns)
+sample-spec = tie.close (tie.spec lay-requires ends-near-requires value-near-requires same-length returns value-each-requires same-length-2 returns-2)

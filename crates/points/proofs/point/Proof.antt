@@ -1,7 +1,7 @@
--- `shape::segment::point` meets its contract. Assumes nothing.
+-- `points::point` meets its contract. Assumes nothing.
 use borrow.Author.Needs.{needs}
-use Rattle.shape.proofs.segment.point.Statement.{statement}
-use Rattle.shape.proofs.segment.point.Tie as tie
+use Rattle.points.proofs.point.Statement.{statement}
+use Rattle.points.proofs.point.Tie as tie
 
 nearest-u64-to-f64-requires : tie.Need-nearest-u64-to-f64-requires
 nearest-u64-to-f64-requires c κs = search needs
