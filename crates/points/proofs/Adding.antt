@@ -1,26 +1,24 @@
 -- Points by exact sums: high + low is point i, where high is the start's upper part and i times the step's, and low the same of the lower parts. All four are
 -- whole numbers of steps, and so are high and low, which stay below 2 ^ 53 of their steps: neither is rounded, and high + low is rounded once, as the
 -- fused i dx + x is. Assumes nothing.
-use mathlib.Core.Path.{_≡_, sym, _∙_, subst}
+use mathlib.Core.Path.{_≡_, sym, ap, _∙_, subst}
 use mathlib.Core.Bool.{Bool, true, false, false≢true}
 use Prim.Native.Nat.{ℕ, _+_, _*_, _^_, _≤_, _<_}
-use native.Mathlib.Nat.{le-trans, mul-assoc, mul-comm, mul-left-comm, mul-pos, mul-le-mul-left, mul-le-mul-right}
+use native.Mathlib.Nat.{le-trans, mul-assoc, mul-le-mul-left, mul-le-mul-right}
 use native.Mathlib.Omega.{arith}
 use lib.Dec.{lit≤}
 use lib.Pow.{pow-pos}
-use lib.Ieee.{Float, binary64, add}
+use lib.Ieee.{Float, binary64, add, sum}
 use Rattle.exact.specs.Value.{Units, signOf}
 use Rattle.exact.specs.Signed.{Signed, Same, signed, times, plusS}
-use Rattle.exact.proofs.Sum.{sum-same}
 use Rattle.exact.proofs.Operation.{add-rounds}
 use Rattle.exact.proofs.Grid.{On, Clear, Under, add-on, add-clear, sum-agree}
 use Rattle.exact.proofs.Steps.{on-as, clear-as, finer-clear}
 use Rattle.exact.proofs.Upper.{top}
 use Rattle.exact.proofs.Split.{upper, lower, rest, Split, split}
-use Rattle.fma.proofs.Fusing.{fma-at}
-use Rattle.points.specs.Points.{number, pointAt}
+use Rattle.points.specs.Points.{pointAt}
 use Rattle.points.specs.Grid.{OnGrid}
-use Rattle.points.proofs.Between.{index-value}
+use Rattle.points.proofs.Fused.{point-sum}
 
 -- ---- in whole numbers: the start is v steps of 2 ^ -51 less 3's, the step w; p - q and a are the same in steps of 2 ^ -88
 module _ (m n a p q v w : ℕ) (l : m ≤ n) (few : n ≤ 65536) (reach : n * a ≤ 9 * 2 ^ 86) (P : p ≤ 3 * 2 ^ 86) (Q : q ≤ 3 * 2 ^ 86)
@@ -110,9 +108,5 @@ module _ (n : ℕ) (x dx : Float) (o : OnGrid n x dx) where
       add-rounds binary64 high low (h .on .sign) (l .sign) (h .on .steps * u) (l .steps * u) W (pow-pos 1074) (h .on .value) (l .value)
       ∙ sum-agree u (h .on .steps) (l .steps) (i * a) b (h .on .sign) (l .sign) false (signOf x) (pow-pos 986) (h .some) (λ e. absurd (false≢true e))
       (whole i a (of-start .v) (of-step .v) k (signed (h .on .sign) (h .on .steps)) (signed (l .sign) (l .steps)) (h .on .same) (l .same))
-      ∙ sym (fma-at (number i) dx x false false (signOf x) (i * W) (a * u) (b * u) W (pow-pos 1074) (index-value i W (le-trans g (le-trans (o .few) (lit≤ tt)))) step-value (o .start .value)
-      ∙ sum-same binary64 false (signOf x) (i * W * (a * u)) (b * u * W) (W * W) (i * a * u) (b * u) W (mul-pos (pow-pos 1074) (pow-pos 1074)) (pow-pos 1074)
-      (regroup i a u W) (mul-assoc (b * u) W W))
-    where
-      regroup : (i a u w : ℕ) → i * w * (a * u) * w ≡ i * a * u * (w * w)
-      regroup i a u w = simp (mul-assoc, mul-comm, mul-left-comm)
+      ∙ sym (point-sum x dx (signOf x) false (b * u) (a * u) i (le-trans g (le-trans (o .few) (lit≤ tt))) (o .start .value) step-value
+      ∙ ap (λ (m : ℕ). sum binary64 false m (signOf x) (b * u) W) (sym (mul-assoc i a u)))

@@ -2,7 +2,7 @@
 -- goes from a rounding to each smaller one, as "is finite" does, holds of every point where it holds of these two. Assumes nothing.
 use Prim.Native.Nat.{ℕ, _+_, _-_, _*_, _^_, _≤_, _<_, compare, Ordering, Ordering·lt, Ordering·eq, Ordering·gt}
 use native.Mathlib.Omega.{arith}
-use native.Mathlib.Nat.{mul-pos, mul-comm, mul-one, mul-le-mul-right, zero-mul}
+use native.Mathlib.Nat.{mul-pos, mul-comm, mul-le-mul-right, zero-mul}
 use mathlib.Core.Path.{_≡_, refl, sym, ap, subst, _∙_}
 use mathlib.Core.Bool.{Bool, true, false, Bool·beq}
 use lib.Dec.{T}
@@ -10,14 +10,14 @@ use lib.IntN.{ℤ}
 use lib.Ieee.{Float, nan, inf, fin, binary64, up, down, unlike, round, sum, add, mul, ofInt}
 use lib.Ieee.Fits.{down-pos}
 use lib.Ieee.Exact.{HasValue}
-use lib.Ieee.Back.{round-whole}
 use lib.Ieee.Scale.{finite}
 use Rattle.exact.proofs.Order.{compared, Stands}
 use Rattle.exact.proofs.Sum.{sum-like, sum-first, sum-second, sum-none}
-use Rattle.exact.proofs.Value.{rescale, scale}
+use Rattle.exact.proofs.Value.{scale}
 use Rattle.fma.specs.Fused.{fma}
 use Rattle.fma.proofs.Fusing.{fma-at}
 use Rattle.points.specs.Points.{number, pointAt}
+use Rattle.points.proofs.Fused.{index-value}
 
 -- such a property
 pub record Shrinks (P : Float → Type 0) : Type 0 where
@@ -67,11 +67,6 @@ module _ (fine : Float → Type 0) (S : Shrinks fine) (r u : Bool) (lo hi c q : 
       by false e = unlike-signs e
 
 -- ---- points
-
--- an index as a fraction over p
-pub index-value : (i p : ℕ) → i ≤ 2 ^ 53 → HasValue (number i) false (i * p) p
-unfolding ofInt
-index-value i p h = rescale (number i) false i 1 (i * p) p (omega arith) (mul-one (i * p)) (round-whole binary64 false i h)
 
 module _ (fine : Float → Type 0) (S : Shrinks fine) (t u : Bool) (n w : ℕ) (d g : ℤ) where
   abbrev p : ℕ

@@ -2,20 +2,19 @@
 use mathlib.Core.Path.{_≡_, refl, sym, ap, _∙_}
 use mathlib.Core.Bool.{Bool, false}
 use mathlib.Core.List.{_∷_}
-use Prim.Native.Nat.{ℕ, zero, suc, _+_, _*_, _^_, _≤_, _<_}
-use native.Mathlib.Nat.{mul-assoc, mul-pos, zero-mul}
+use Prim.Native.Nat.{ℕ, zero, suc, _+_, _^_, _≤_, _<_}
+use native.Mathlib.Nat.{zero-mul}
 use native.Mathlib.Omega.{arith}
 use lib.Dec.{lit≤}
 use lib.Pow.{pow-pos}
-use lib.Ieee.{Float, binary64, ofBits, add}
+use lib.Ieee.{Float, binary64, ofBits, add, sum}
 use Rattle.exact.specs.Doubles.{nought}
 use Rattle.exact.specs.Value.{Units}
 use Rattle.exact.proofs.Operation.{add-rounds}
-use Rattle.exact.proofs.Sum.{sum-same, sum-comm}
-use Rattle.fma.proofs.Fusing.{fma-at}
-use Rattle.points.specs.Points.{number, pointAt, points}
+use Rattle.exact.proofs.Sum.{sum-comm}
+use Rattle.points.specs.Points.{pointAt, points}
 use Rattle.points.specs.Grid.{headed}
-use Rattle.points.proofs.Between.{index-value}
+use Rattle.points.proofs.Fused.{point-sum}
 
 nought-value : Units nought false 0
 unfolding ofBits
@@ -26,9 +25,8 @@ first-is x dx s a b v w =
     let W = 2 ^ 1074 in
     add-rounds binary64 x nought s false a 0 W (pow-pos 1074) v nought-value
     ∙ sum-comm binary64 s false a 0 W
-    ∙ sym (fma-at (number 0) dx x false false s (0 * W) b a W (pow-pos 1074) (index-value 0 W (lit≤ tt)) w v
-    ∙ sum-same binary64 false s (0 * W * b) (a * W) (W * W) 0 a W (mul-pos (pow-pos 1074) (pow-pos 1074)) (pow-pos 1074)
-    (ap (λ (z : ℕ). z * W) (zero-mul b)) (mul-assoc a W W))
+    ∙ ap (λ (n : ℕ). sum binary64 false n s a W) (sym (zero-mul b))
+    ∙ sym (point-sum x dx s false a b 0 (lit≤ tt) v w)
 
 points-same : (n i : ℕ) (x t dx : Float) → ((k : ℕ) → i ≤ k → k < i + n → pointAt t dx k ≡ pointAt x dx k) → points n i t dx ≡ points n i x dx
 unfolding points

@@ -1,3 +1,4 @@
+pub mod Fused
 pub mod Between
 pub mod Turns
 pub mod Adding

@@ -4,7 +4,7 @@ use mathlib.Core.Path.{_≡_, refl, sym, ap, _∙_, subst}
 use mathlib.Core.Logic.{inl, inr}
 use mathlib.Core.Bool.{Bool, true, false}
 use Prim.Native.Nat.{ℕ, _+_, _-_, _*_, _%_, _^_, _≤_, _<_}
-use native.Mathlib.Nat.{le-trans, le-of-lt, mul-assoc, mul-comm, mul-left-comm, mul-pos, mul-le-mul, add-mul, mul-lt-mul-of-pos-right, mul-mod-left}
+use native.Mathlib.Nat.{le-trans, le-of-lt, mul-assoc, mul-comm, mul-left-comm, mul-le-mul, add-mul, mul-lt-mul-of-pos-right, mul-mod-left}
 use native.Mathlib.Omega.{arith}
 use lib.Dec.{lit≤}
 use lib.Pow.{pow-pos}
@@ -12,14 +12,13 @@ use lib.Ieee.{Float, binary64, add, sum, round}
 use Rattle.exact.specs.Doubles.{nought}
 use Rattle.exact.specs.Value.{Units, signOf}
 use Rattle.exact.proofs.Naturals.{sub-mul}
-use Rattle.exact.proofs.Sum.{sum-same, sum-like, sum-first}
+use Rattle.exact.proofs.Sum.{sum-like, sum-first}
 use Rattle.fma.specs.Sticky.{Sticky}
 use Rattle.fma.proofs.StickyBit.{sticky-add, sticky-sub, sticky-below}
 use Rattle.fma.proofs.Standing.{sticky-same}
-use Rattle.fma.proofs.Fusing.{fma-at}
-use Rattle.points.specs.Points.{number, pointAt, points}
+use Rattle.points.specs.Points.{pointAt, points}
 use Rattle.points.specs.Grid.{OnGrid, StandsFor, headed}
-use Rattle.points.proofs.Between.{index-value}
+use Rattle.points.proofs.Fused.{point-sum}
 use Rattle.points.proofs.First.{put-right}
 
 -- ---- m steps up, and what stands for n units up or down
@@ -45,13 +44,10 @@ module _ (m w j n : ℕ) (even : m % 2 ≡ 0) (far : 2 ^ 57 ≤ m) (small : w �
 -- ---- point i of a start of n units and a step of h steps
 point-is : (x dx : Float) (s : Bool) (n h i : ℕ) → i ≤ 65536 → Units x s n → Units dx false (h * 2 ^ 988) → pointAt x dx i ≡ sum binary64 false (i * h * 2 * 2 ^ 987) s n (2 ^ 1074)
 point-is x dx s n h i l v w =
-    let W = 2 ^ 1074 in
-    fma-at (number i) dx x false false s (i * W) (h * 2 ^ 988) n W (pow-pos 1074) (index-value i W (le-trans l (lit≤ tt))) w v
-    ∙ sum-same binary64 false s (i * W * (h * 2 ^ 988)) (n * W) (W * W) (i * h * 2 * 2 ^ 987) n W (mul-pos (pow-pos 1074) (pow-pos 1074)) (pow-pos 1074)
-    (regroup i h (2 ^ 987) W) (mul-assoc n W W)
+    point-sum x dx s false n (h * 2 ^ 988) i (le-trans l (lit≤ tt)) v w ∙ ap (λ (m : ℕ). sum binary64 false m s n (2 ^ 1074)) (regroup i h (2 ^ 987))
   where
-    regroup : (i h u w : ℕ) → i * w * (h * (2 * u)) * w ≡ i * h * 2 * u * (w * w)
-    regroup i h u w = simp (mul-assoc, mul-comm, mul-left-comm)
+    regroup : (i h u : ℕ) → i * (h * (2 * u)) ≡ i * h * 2 * u
+    regroup i h u = simp (mul-assoc, mul-comm, mul-left-comm)
 
 stands-for : (n : ℕ) (x t dx : Float) → StandsFor x t → OnGrid n t dx → (i : ℕ) → 0 < i → i ≤ 65536 → pointAt t dx i ≡ pointAt x dx i
 stands-for n x t dx (inl e) o i I l = ap (λ (y : Float). pointAt y dx i) e

@@ -19,7 +19,7 @@ use Rattle.exact.proofs.Bounded.{mul-off}
 use Rattle.exact.proofs.Steps.{far-on}
 use Rattle.points.specs.Points.{number}
 use Rattle.points.specs.Grid.{Stepped, Stride, OnGrid}
-use Rattle.points.proofs.Between.{index-value}
+use Rattle.points.proofs.Fused.{index-value}
 
 -- 0.75, 2 ^ -36 and 2 ^ -30
 abbrev MOST : Float

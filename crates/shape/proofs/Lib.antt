@@ -1,4 +1,4 @@
-pub mod Points
+pub mod Turns
 pub mod Near
 pub mod Laying
 pub mod Filling

@@ -14,6 +14,12 @@ unfoldable pub values : ℕ → ℕ → Float → Float → List Float
 values zero i x dx = []
 values (suc n) i x dx = hannOf (pointAt x dx i) ∷ values n (suc i) x dx
 
+-- z is a double of at most 2 ^ 100 in size
+pub record Moderate (z : Float) : Type 0 where
+  pub fit : T (fits binary64 z)
+  pub known : T (finite z)
+  pub small : unitsOf z ≤ 2 ^ 1174
+
 -- z is a double of at most 7/8 in size
 pub record Near (z : Float) : Type 0 where
   pub fit : T (fits binary64 z)

@@ -8,7 +8,7 @@ ghost use Rattle.exact.specs.Doubles.{one};
 ghost use Rattle.rows.specs.Rows.{allFinite};
 ghost use Rattle.points.specs.Points.{points};
 ghost use Rattle.shape.specs.Hann.{hannOf, hannNear};
-ghost use Rattle.shape.specs.Segment.{values, Near, EndsNear};
+ghost use Rattle.shape.specs.Segment.{values, Moderate, Near, EndsNear};
 use super::hann::hann;
 use super::hann::hann_near;
 use ieee::finite::is_finite;
@@ -16,7 +16,8 @@ use points::lay;
 use points::point;
 use quant::judge::both;
 
-// Whether the first `count` points from x on are finite. They lie between the first and the last, so these two are judged.
+// Whether the first `count` points from x on are finite. So they are where x and dx are no larger than 2^100. Else they lie between the first and the last, and
+// these two are judged.
 pub(crate) fn points_finite(x: f64, dx: f64, count: usize) -> bool
     requires { ⌜ count ≤ 65536 ⌝ }
     ensures { λ r. ⌜ r ≡ allFinite (points count 0 x dx) ⌝ }
@@ -24,10 +25,25 @@ pub(crate) fn points_finite(x: f64, dx: f64, count: usize) -> bool
     if count == 0 {
         return true;
     }
+    if is_moderate(x) {
+        if is_moderate(dx) {
+            return true;
+        }
+    }
     both(
         is_finite(point(x, dx, 0)),
         is_finite(point(x, dx, count - 1)),
     )
+}
+
+// Whether z is between -2^100 and 2^100.
+fn is_moderate(z: f64) -> bool
+    ensures { λ r. ⌜ (r ≡ true → Moderate z) ⌝ }
+{
+    if z < 1.2676506002282294e30 {
+        return z > -1.2676506002282294e30;
+    }
+    false
 }
 
 // The values at the points from x on, for every sample of a part: first the points, then their values.

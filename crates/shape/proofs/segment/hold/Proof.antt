@@ -6,7 +6,7 @@ use mathlib.Core.Path.{_≡_, refl, _∙_}
 use mathlib.Core.List.{_++_}
 use lib.ListN.{length, take, replicate, length-set}
 use Rattle.exact.specs.Doubles.{one}
-use Rattle.shape.proofs.Points.{held, held-all}
+use Rattle.shape.proofs.Turns.{held, held-all}
 use Rattle.shape.proofs.segment.hold.Statement.{statement}
 use Rattle.shape.proofs.segment.hold.Tie as tie
 

@@ -6,7 +6,7 @@ use mathlib.Core.Path.{refl}
 use lib.ListN.{length}
 use Rattle.rows.proofs.Turns.{upto}
 use Rattle.shape.specs.Hann.{hannNear}
-use Rattle.shape.proofs.Points.{Valued, valued-turn, valued-all}
+use Rattle.shape.proofs.Turns.{Valued, valued-turn, valued-all}
 use Rattle.shape.proofs.segment.value_near.Statement.{statement}
 use Rattle.shape.proofs.segment.value_near.Tie as tie
 
