@@ -25,7 +25,7 @@ use Rattle.points.proofs.Turns.{points-length, points-at}
 use Rattle.trig.specs.Reduce.{TAU}
 use Rattle.trig.specs.Trig.{cosineAt, cosineOf}
 use Rattle.trig.proofs.Reducing.{reduced-near}
-use Rattle.shape.specs.Hann.{hannOf, hannNear}
+use Rattle.shape.specs.Hann.{hannOf, hannWrapped}
 use Rattle.shape.specs.Segment.{values, Near, EndsNear}
 
 -- ---- what the tests say
@@ -82,8 +82,8 @@ module _ (z : Float) (n : Near z) where
       subst (λ (k : ℕ). k < 14148475504056880 * 2 ^ 1023) (sym (units-are angle (unlike false (signOf z)) (sized .size) (sized .value)))
       (below-tau (sized .size) (14148475504056880 * 2 ^ 1023) (unitsOf z) (2 ^ 1023) (2 ^ 1071) (pow-pos 1023) (pow-pos 1071) refl (n .small) (sized .off))
 
-  near-hann : hannNear z ≡ hannOf z
-  unfolding hannNear hannOf cosineOf
+  near-hann : hannWrapped z ≡ hannOf z
+  unfolding hannWrapped hannOf cosineOf
   near-hann =
       ap (λ (r : Float). div binary64 (add binary64 one (cosineAt r)) two)
       (sym (reduced-near angle (mul-fits binary64 TAU z) (value-finite angle (unlike false (signOf z)) (sized .size) (sized .value)) angle-small))
@@ -94,14 +94,14 @@ unfolding points values
 each-valued zero i x dx = refl
 each-valued (suc n) i x dx = ap (λ (l : List Float). hannOf (pointAt x dx i) ∷ l) (each-valued n (suc i) x dx)
 
-all-near : (n i : ℕ) (x dx : Float) → ((k : ℕ) → k < n → Near (pointAt x dx (i + k))) → map hannNear (points n i x dx) ≡ map hannOf (points n i x dx)
+all-near : (n i : ℕ) (x dx : Float) → ((k : ℕ) → k < n → Near (pointAt x dx (i + k))) → map hannWrapped (points n i x dx) ≡ map hannOf (points n i x dx)
 unfolding points
 all-near zero i x dx h = refl
 all-near (suc n) i x dx h =
     let here : Near (pointAt x dx i) = subst (λ (k : ℕ). Near (pointAt x dx k)) (add-zero i) (h 0 (omega arith)) in
     λ j. near-hann (pointAt x dx i) here j ∷ all-near n (suc i) x dx (λ k l. subst (λ (m : ℕ). Near (pointAt x dx m)) (omega arith) (h (suc k) (omega arith))) j
 
-pub near-valued : (n : ℕ) (x dx : Float) → EndsNear (points n 0 x dx) → map hannNear (points n 0 x dx) ≡ values n 0 x dx
+pub near-valued : (n : ℕ) (x dx : Float) → EndsNear (points n 0 x dx) → map hannWrapped (points n 0 x dx) ≡ values n 0 x dx
 near-valued n x dx e = all-near n 0 x dx each ∙ each-valued n 0 x dx
   where
     long : length (points n 0 x dx) ≡ n

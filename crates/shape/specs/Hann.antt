@@ -8,5 +8,5 @@ unfoldable pub hannOf : Float → Float
 hannOf x = div binary64 (add binary64 one (cosineOf (mul binary64 TAU x))) two
 
 -- the same below 1 in size, where one TAU at most comes off the angle or on
-unfoldable pub hannNear : Float → Float
-hannNear x = div binary64 (add binary64 one (cosineAt (wrapped (mul binary64 TAU x)))) two
+unfoldable pub hannWrapped : Float → Float
+hannWrapped x = div binary64 (add binary64 one (cosineAt (wrapped (mul binary64 TAU x)))) two

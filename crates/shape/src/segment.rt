@@ -7,10 +7,10 @@ ghost use lib.ListN.{length, replicate};
 ghost use Rattle.exact.specs.Doubles.{one};
 ghost use Rattle.rows.specs.Rows.{allFinite};
 ghost use Rattle.points.specs.Points.{points};
-ghost use Rattle.shape.specs.Hann.{hannOf, hannNear};
+ghost use Rattle.shape.specs.Hann.{hannOf, hannWrapped};
 ghost use Rattle.shape.specs.Segment.{values, Moderate, Near, EndsNear};
 use super::hann::hann;
-use super::hann::hann_near;
+use super::hann::hann_wrapped;
 use ieee::finite::is_finite;
 use points::lay;
 use points::point;
@@ -52,7 +52,7 @@ pub(crate) fn sample(part: &mut [f64], x: f64, dx: f64)
 {
     lay(part, x, dx);
     if ends_near(part) {
-        value_near(part);
+        value_wrapped(part);
         return;
     }
     value_each(part);
@@ -85,12 +85,12 @@ fn is_near(z: f64) -> bool
 }
 
 // The value at each point, none of which is 1 or more in size. No turn of this loop waits for a test, so that several can be worked out at once.
-fn value_near(part: &mut [f64])
-    ensures { λ r. ⌜ now (part .exit) ≡ map hannNear (now (part .entry)) ⌝ }
+fn value_wrapped(part: &mut [f64])
+    ensures { λ r. ⌜ now (part .exit) ≡ map hannWrapped (now (part .entry)) ⌝ }
 {
     let mut i: usize = 0;
     while i < part.len() {
-        part[i] = hann_near(part[i]);
+        part[i] = hann_wrapped(part[i]);
         i += 1;
     }
 }

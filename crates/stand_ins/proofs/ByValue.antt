@@ -54,7 +54,7 @@ by-value =
       -- of 0 it is 1, and of 1 it is not; of sine 0, and of 1 it is not
       cosine = varies cosineOf value.always itself anything isOne nought one refl refl refl refl refl;
       sine = varies sineOf value.always itself anything isNought nought one refl refl refl refl refl;
-      cosine-near = varies (λ (x : Float). cosineAt (wrapped x)) value.always itself anything isOne nought one refl refl refl refl refl;
+      cosine-wrapped = varies (λ (x : Float). cosineAt (wrapped x)) value.always itself anything isOne nought one refl refl refl refl refl;
       hann = varies hannOf value.always itself anything isOne nought (over 5 10) refl refl refl refl refl;
       point = varies _ value.always itself anything isOne (given.pointing 1) (given.pointing 0) refl refl refl refl refl;
       both-cosine = not-fixed value.both (λ (y : Float × Float). y .0) anything isOne nought one (cosineOf nought, sineOf nought) (cosineOf one, sineOf one) (only-both nought) (only-both one) refl refl refl refl refl;

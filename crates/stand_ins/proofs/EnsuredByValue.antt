@@ -11,7 +11,7 @@ use denote.Ref.{now}
 use Rattle.exact.specs.Doubles.{nought}
 use Rattle.trig.proofs.cosine as cosine
 use Rattle.trig.proofs.sine as sine
-use Rattle.trig.proofs.cosine_near as cosine-near
+use Rattle.trig.proofs.cosine_wrapped as cosine-wrapped
 use Rattle.points.proofs.point as point
 use Rattle.shape.proofs.hann.hann as hann
 use Rattle.host.proofs.skierralu_cos as cos
@@ -51,8 +51,8 @@ module _ {M : Type 1} (𝓤 : URA M) (H : Heap 𝓤) (A : Atoms 𝓤) (mem : Mem
   pub sine-says : Says 𝓤 sine.ended (sine.clauses 𝓤 H A mem run) (λ κs a r e. call.sine .Promise (a .0) r)
   sine-says κs a g r e = (refl, refl)
 
-  pub cosine-near-says : Says 𝓤 cosine-near.ended (cosine-near.clauses 𝓤 H A mem run) (λ κs a r e. call.cosine-near .Promise (a .0) r)
-  cosine-near-says κs a g r e = (refl, refl)
+  pub cosine-wrapped-says : Says 𝓤 cosine-wrapped.ended (cosine-wrapped.clauses 𝓤 H A mem run) (λ κs a r e. call.cosine-wrapped .Promise (a .0) r)
+  cosine-wrapped-says κs a g r e = (refl, refl)
 
   pub point-says : Says 𝓤 point.ended (point.clauses 𝓤 H A mem run) (λ κs a r e. call.point .Promise (record { start = a .0; step = a .1 .0; index = a .1 .1 .0 }) r)
   point-says κs a g r e = (refl, refl)

@@ -69,8 +69,8 @@ cosine = equation cosineOf always
 abbrev pub sine : Call
 sine = equation sineOf always
 
-abbrev pub cosine-near : Call
-cosine-near = equation (λ (x : Float). cosineAt (wrapped x)) always
+abbrev pub cosine-wrapped : Call
+cosine-wrapped = equation (λ (x : Float). cosineAt (wrapped x)) always
 
 abbrev pub hann : Call
 hann = equation hannOf always

@@ -39,7 +39,7 @@ pub record ByValue : Type 1 where
   -- "one fixed .. cosine"
   pub cosine : NotFixed value.cosine itself anything nought one
   pub sine : NotFixed value.sine itself anything nought one
-  pub cosine-near : NotFixed value.cosine-near itself anything nought one
+  pub cosine-wrapped : NotFixed value.cosine-wrapped itself anything nought one
   pub hann : NotFixed value.hann itself anything nought (over 5 10)
   pub point : NotFixed value.point itself anything (given.pointing 1) (given.pointing 0)
   pub both-cosine : NotFixed value.both (λ (y : Float × Float). y .0) anything nought one

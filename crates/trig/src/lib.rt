@@ -60,7 +60,7 @@ pub fn cosine(x: f64) -> f64
 }
 
 // The cosine of an angle below TAU in size: at most one TAU is taken off or put on, and nothing is divided.
-pub fn cosine_near(x: f64) -> f64
+pub fn cosine_wrapped(x: f64) -> f64
     ensures { λ c. ⌜ c ≡ cosineAt (wrapped x) ⌝ }
 {
     cos_at(wrap(x))

@@ -3,7 +3,7 @@ use borrow.Author.Needs.{needs}
 use mathlib.Core.Path.{_∙_, ap, subst}
 use mathlib.Core.List.{map}
 use lib.ListN.{length}
-use Rattle.shape.specs.Hann.{hannOf, hannNear}
+use Rattle.shape.specs.Hann.{hannOf, hannWrapped}
 use Rattle.shape.specs.Segment.{EndsNear}
 use Rattle.shape.proofs.Near.{each-valued, near-valued}
 use Rattle.shape.proofs.segment.sample.Statement.{statement}
@@ -15,8 +15,8 @@ lay-requires c κs = search needs
 ends-near-requires : tie.Need-ends-near-requires
 ends-near-requires c κs = search needs
 
-value-near-requires : tie.Need-value-near-requires
-value-near-requires c κs = search needs
+value-wrapped-requires : tie.Need-value-wrapped-requires
+value-wrapped-requires c κs = search needs
 
 same-length : tie.Need-same-length
 same-length c = search needs
@@ -27,8 +27,8 @@ returns c =
     let near = b .before .before .before in
     let laid = near .before .before .before .before in
     let a = laid .before .before .before .args in
-    b .value-near .ensures
-    ∙ ap (map hannNear) (laid .lay .ensures)
+    b .value-wrapped .ensures
+    ∙ ap (map hannWrapped) (laid .lay .ensures)
     ∙ near-valued (length (a .part .now)) (a .x) (a .dx) (subst EndsNear (laid .lay .ensures) (near .ends-near .ensures (b .before .before .if1 .taken)))
 
 value-each-requires : tie.Need-value-each-requires
@@ -45,4 +45,4 @@ returns-2 c =
     b .value-each .ensures ∙ ap (map hannOf) (laid .lay .ensures) ∙ each-valued (length (a .part .now)) 0 (a .x) (a .dx)
 
 pub sample-spec : {M : Type 1} → statement M
-sample-spec = tie.close (tie.spec lay-requires ends-near-requires value-near-requires same-length returns value-each-requires same-length-2 returns-2)
+sample-spec = tie.close (tie.spec lay-requires ends-near-requires value-wrapped-requires same-length returns value-each-requires same-length-2 returns-2)
