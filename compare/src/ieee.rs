@@ -14,6 +14,8 @@ pub fn compare(report: &mut Report, scale: u64) {
     if let Some(instruction) = instruction() {
         report.subject("f64::mul_add beside the instruction");
         fused(report, scale, f64::mul_add, instruction);
+    } else if cfg!(target_arch = "aarch64") {
+        println!("f64::mul_add is compiled to this machine's own instruction");
     } else {
         println!("no fused instruction on this machine: f64::mul_add is not checked against it");
     }

@@ -52,7 +52,7 @@ fn words_of(letter: u8) -> u8 {
     }
 }
 
-// Of 64 points laid at once. Of no other is there one: a NaN.
+// Point I of 64 that are laid at once; a NaN where there is none.
 fn laid(line: &[u8]) -> f64 {
     let mut part: [f64; 64] = [0.0; 64];
     lay(&mut part, float(line, 0), float(line, 1));
