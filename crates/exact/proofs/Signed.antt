@@ -46,6 +46,11 @@ pub same-times : (s : Bool) (n m : ℕ) (k : Signed) → Same (signed s n) k →
 same-times true n m k e = let f : (n + k .plus) * m ≡ k .less * m = ap (λ (z : ℕ). z * m) (omega arith) in omega arith
 same-times false n m k e = let f : (n + k .less) * m ≡ k .plus * m = ap (λ (z : ℕ). z * m) (omega arith) in omega arith
 
+-- neither part is more than the size
+pub sizes : (s : Bool) (a : ℕ) → (signed s a .plus ≤ a) × (signed s a .less ≤ a)
+sizes true a = (omega arith, omega arith)
+sizes false a = (omega arith, omega arith)
+
 -- ---- a number that is not zero has one sign and one size
 pub alike : (s u : Bool) (a b : ℕ) → 0 < a → Same (signed s a) (signed u b) → (s ≡ u) × (a ≡ b)
 alike true true a b h e = (refl, omega arith)

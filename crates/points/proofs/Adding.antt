@@ -2,7 +2,7 @@
 -- whole numbers of steps, and so are high and low, which stay below 2 ^ 53 of their steps: neither is rounded, and high + low is rounded once, as the
 -- fused i dx + x is. Assumes nothing.
 use mathlib.Core.Path.{_≡_, sym, ap, _∙_, subst}
-use mathlib.Core.Bool.{Bool, true, false, false≢true}
+use mathlib.Core.Bool.{true, false, false≢true}
 use Prim.Native.Nat.{ℕ, _+_, _*_, _^_, _≤_, _<_}
 use native.Mathlib.Nat.{le-trans, mul-assoc, mul-le-mul-left, mul-le-mul-right}
 use native.Mathlib.Omega.{arith}
@@ -11,6 +11,7 @@ use lib.Pow.{pow-pos}
 use lib.Ieee.{Float, binary64, add, sum}
 use Rattle.exact.specs.Value.{Units, signOf}
 use Rattle.exact.specs.Signed.{Signed, Same, signed, times, plusS}
+use Rattle.exact.proofs.Signed.{sizes}
 use Rattle.exact.proofs.Operation.{add-rounds}
 use Rattle.exact.proofs.Grid.{On, Clear, Under, add-on, add-clear, sum-agree}
 use Rattle.exact.proofs.Steps.{on-as, clear-as, finer-clear}
@@ -41,10 +42,6 @@ module _ (m n a p q v w : ℕ) (l : m ≤ n) (few : n ≤ 65536) (reach : n * a 
 whole : (i a v w : ℕ) (k h l : Signed) → Same h (times (2 ^ 37) (plusS (top v) (times i (top w)))) → Same l (plusS (rest k v) (times i (rest (signed false a) w)))
     → Same (plusS h l) (plusS (signed false (i * a)) k)
 whole i a v w k h l e g = omega arith
-
-small : (s : Bool) (b : ℕ) → b ≤ 3 * 2 ^ 86 → (signed s b .plus ≤ 3 * 2 ^ 86) × (signed s b .less ≤ 3 * 2 ^ 86)
-small true b h = (omega arith, h)
-small false b h = (h, omega arith)
 
 -- ---- the sums
 module _ (n : ℕ) (x dx : Float) (o : OnGrid n x dx) where
@@ -86,9 +83,11 @@ module _ (n : ℕ) (x dx : Float) (o : OnGrid n x dx) where
       let b = plusS (top (s .v)) (times i (top (d .v))) in
       let c = plusS (rest k (s .v)) (times i (rest (signed false a) (d .v))) in
       let m : i + 1 ≤ n = omega arith in
-      let z = small (signOf x) (o .start .steps) (o .start .few) in
-      let H = high-under (i + 1) n a (k .plus) (k .less) (s .v) (d .v) m (o .few) (o .reach) (z .0) (z .1) (s .over) (s .under) (d .over) (d .under) in
-      let L = low-under (i + 1) n a (k .plus) (k .less) (s .v) (d .v) m (o .few) (o .reach) (z .0) (z .1) (s .over) (s .under) (d .over) (d .under) in
+      let z = sizes (signOf x) (o .start .steps) in
+      let p = le-trans (z .0) (o .start .few) in
+      let q = le-trans (z .1) (o .start .few) in
+      let H = high-under (i + 1) n a (k .plus) (k .less) (s .v) (d .v) m (o .few) (o .reach) p q (s .over) (s .under) (d .over) (d .under) in
+      let L = low-under (i + 1) n a (k .plus) (k .less) (s .v) (d .v) m (o .few) (o .reach) p q (s .over) (s .under) (d .over) (d .under) in
       record {
         above = clear-as 1023 (add binary64 high (upper dx)) (plusS b (top (d .v))) (plusS (top (s .v)) (times (i + 1) (top (d .v))))
             (add-clear 1023 (lit≤ tt) high (upper dx) b (top (d .v)) (w .above .on) (d .high .on)

@@ -4,7 +4,7 @@ use mathlib.Core.Path.{_≡_, refl, sym, _∙_, subst}
 use mathlib.Core.Logic.{inl, inr}
 use mathlib.Core.Bool.{Bool, true, false, false≢true}
 use Prim.Native.Nat.{ℕ, _+_, _*_, _%_, _^_, _≤_, _<_}
-use native.Mathlib.Nat.{le-trans, le-of-lt, mul-le-mul-right, le-of-mul-le-mul-right, lt-of-mul-lt-mul-right}
+use native.Mathlib.Nat.{le-trans, le-of-lt, lt-of-le-of-lt, mul-le-mul-right, le-of-mul-le-mul-right, lt-of-mul-lt-mul-right}
 use native.Mathlib.Omega.{arith}
 use borrow.Author.Tests.{ltb-true, ltb-false}
 use lib.Dec.{T, lit≤}
@@ -15,7 +15,7 @@ use Rattle.exact.specs.Doubles.{nought}
 use Rattle.exact.specs.Value.{Units, signOf, unitsOf}
 use Rattle.exact.specs.Signed.{Signed, Same, signed, times, plusS, lessS}
 use Rattle.exact.proofs.Value.{own}
-use Rattle.exact.proofs.Signed.{same-times}
+use Rattle.exact.proofs.Signed.{same-times, sizes}
 use Rattle.exact.proofs.Compare.{lt-is, between, inside, some}
 use Rattle.exact.proofs.Grid.{On, add-on, sub-on}
 use Rattle.exact.proofs.Steps.{finer}
@@ -98,10 +98,6 @@ few j u w h v = le-trans (le-of-lt (lt-of-mul-lt-mul-right (2 ^ j) (by v))) (lit
     by (inl e) = omega (arith, pow-pos j)
     by (inr e) = omega arith
 
-sizes : (s : Bool) (u m : ℕ) → u < m → (signed s u .plus < m) × (signed s u .less < m)
-sizes true u m h = (omega arith, h)
-sizes false u m h = (h, omega arith)
-
 -- near is v pairs of steps less 3 2 ^ 51 of them; with one step more or less there is room for it
 near-under : (v p : ℕ) (k : Signed) → 0 < p → (k .plus < 2 ^ 51 * p) × (k .less < 2 ^ 51 * p)
     → v * (2 * p) + k .less ≤ 3 * 2 ^ 52 * p + k .plus + p → 3 * 2 ^ 52 * p + k .plus ≤ v * (2 * p) + k .less + p
@@ -148,7 +144,9 @@ module _ (x : Float) (f : T (fits binary64 x)) (h : lt x LEAST ≡ true) (l : lt
   near-on = finer 1 987 near (top (upper .v)) (upper .high .on)
 
   room : (upper .v * 2 ≤ 3 * 2 ^ 52 + 2 ^ 52) × (3 * 2 ^ 52 ≤ upper .v * 2 + 2 ^ 52)
-  room = near-under (upper .v) (2 ^ 987) kx (pow-pos 987) (sizes (signOf x) (unitsOf x) (2 ^ 51 * 2 ^ 987) small) (upper .over) (upper .under)
+  room =
+      let z = sizes (signOf x) (unitsOf x) in
+      near-under (upper .v) (2 ^ 987) kx (pow-pos 987) (lt-of-le-of-lt (z .0) small, lt-of-le-of-lt (z .1) small) (upper .over) (upper .under)
 
   sticks : (t : Float) (k : Signed) (o : On 987 t k) → (o .sign ≡ signOf x) × Sticky (o .steps) 987 (unitsOf x) → StandsFor x t
   sticks t k o r =

@@ -1,19 +1,18 @@
 -- All points of a segment are finite exactly where its first and its last are, and where its start and its step are not too large. Assumes nothing.
-use Prim.Native.Nat.{ℕ, zero, suc, _+_, _-_, _^_, _≤_, _<_}
+use Prim.Native.Nat.{ℕ, zero, suc, _+_, _-_, _≤_, _<_}
 use native.Mathlib.Omega.{arith}
-use native.Mathlib.Nat.{le-of-lt, le-of-suc-le-suc, not-suc-le-zero}
+use native.Mathlib.Nat.{le-of-suc-le-suc, not-suc-le-zero}
 use mathlib.Core.Path.{_≡_, refl, subst}
 use mathlib.Core.Bool.{Bool, true, false, _&&_}
 use lib.Dec.{T}
-use lib.Ieee.{Float, binary64, ofBits, fits, lt, neg}
+use lib.Ieee.{Float}
 use lib.Ieee.Fits.{and-i, and-l, and-r}
 use lib.Ieee.Scale.{finite}
 use Rattle.rows.specs.Rows.{allFinite}
 use Rattle.points.specs.Points.{pointAt, points}
-use Rattle.exact.specs.Value.{Units, signOf, unitsOf}
+use Rattle.exact.specs.Value.{signOf, unitsOf}
 use Rattle.exact.proofs.Value.{own}
 use Rattle.exact.proofs.Finite.{smaller-finite}
-use Rattle.exact.proofs.Compare.{between, inside}
 use Rattle.points.proofs.Fused.{point-finite}
 use Rattle.points.proofs.Between.{points-between}
 use Rattle.shape.specs.Segment.{Moderate}
@@ -56,17 +55,3 @@ module _ (x dx : Float) where
       same true (allFinite (points n 0 x dx))
       (λ t. all-fine n 0 (λ k h. point-finite x dx (signOf x) (signOf dx) (unitsOf x) (unitsOf dx) (0 + k) (omega arith) (p .small) (q .small) (own x (p .fit) (p .known)) (own dx (q .fit) (q .known))))
       (λ t. tt)
-
--- ---- what the test says
-abbrev LARGEST : Float
-LARGEST = ofBits binary64 0x4630000000000000
-
-largest-value : Units LARGEST false (2 ^ 1174)
-unfolding ofBits
-largest-value = (refl, refl)
-
-pub moderate : (z : Float) → T (fits binary64 z) → lt z LARGEST ≡ true → lt (neg LARGEST) z ≡ true → Moderate z
-unfolding ofBits neg
-moderate z f h l =
-    let t = between (neg LARGEST) z LARGEST tt tt l h in
-    record { fit = f; known = t; small = le-of-lt (inside z LARGEST (2 ^ 1174) f t largest-value h l) }

@@ -1,4 +1,5 @@
 pub mod Turns
+pub mod Tests
 pub mod Near
 pub mod Laying
 pub mod Filling

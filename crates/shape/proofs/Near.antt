@@ -2,14 +2,14 @@
 -- division. Assumes nothing.
 use Prim.Native.Nat.{ℕ, zero, suc, _+_, _-_, _*_, _^_, _≤_, _<_}
 use native.Mathlib.Omega.{arith}
-use native.Mathlib.Nat.{le-trans, le-of-lt, le-of-eq, lt-of-le-of-lt, lt-of-lt-of-le, lt-of-mul-lt-mul-right, mul-pos, mul-le-mul, add-zero, zero-add}
+use native.Mathlib.Nat.{le-trans, le-of-eq, lt-of-le-of-lt, lt-of-lt-of-le, lt-of-mul-lt-mul-right, mul-pos, mul-le-mul, add-zero, zero-add}
 use mathlib.Core.Path.{_≡_, refl, sym, ap, _∙_, subst}
-use mathlib.Core.Bool.{true, false}
+use mathlib.Core.Bool.{false}
 use mathlib.Core.List.{List, _∷_, map}
-use lib.Dec.{T, lit≤}
+use lib.Dec.{lit≤}
 use lib.ListN.{length, getD}
 use lib.Pow.{pow-pos}
-use lib.Ieee.{Float, nan, binary64, ofBits, unlike, lt, neg, add, mul, div, fits}
+use lib.Ieee.{Float, nan, binary64, ofBits, unlike, add, mul, div}
 use lib.Ieee.Fits.{round-fits, mul-fits}
 use Rattle.exact.specs.Doubles.{one, two}
 use Rattle.exact.specs.Value.{Units, signOf, unitsOf}
@@ -17,7 +17,6 @@ use Rattle.exact.specs.Near.{Off}
 use Rattle.exact.proofs.Value.{own, units-are}
 use Rattle.exact.proofs.Few.{value-finite}
 use Rattle.exact.proofs.Finite.{smaller-finite, smaller-units}
-use Rattle.exact.proofs.Compare.{between, inside}
 use Rattle.exact.proofs.Bounded.{Sized, mul-off}
 use Rattle.points.specs.Points.{pointAt, points}
 use Rattle.points.proofs.Between.{Shrinks, points-between}
@@ -27,20 +26,6 @@ use Rattle.trig.specs.Trig.{cosineAt, cosineOf}
 use Rattle.trig.proofs.Reducing.{reduced-near}
 use Rattle.shape.specs.Hann.{hannOf, hannWrapped}
 use Rattle.shape.specs.Segment.{values, Near, EndsNear}
-
--- ---- what the tests say
-abbrev LIMIT : Float
-LIMIT = ofBits binary64 0x3FEC000000000000
-
-limit-value : Units LIMIT false (7 * 2 ^ 1071)
-unfolding ofBits
-limit-value = (refl, refl)
-
-pub near : (z : Float) → T (fits binary64 z) → lt z LIMIT ≡ true → lt (neg LIMIT) z ≡ true → Near z
-unfolding ofBits neg
-near z f h l =
-    let t = between (neg LIMIT) z LIMIT tt tt l h in
-    record { fit = f; known = t; small = le-of-lt (inside z LIMIT (7 * 2 ^ 1071) f t limit-value h l) }
 
 -- ---- between near ends
 near-shrinks : Shrinks Near

@@ -7,6 +7,6 @@ use Rattle.trig.specs.Trig.{cosineAt, cosineOf}
 unfoldable pub hannOf : Float → Float
 hannOf x = div binary64 (add binary64 one (cosineOf (mul binary64 TAU x))) two
 
--- the same below 1 in size, where one TAU at most comes off the angle or on
+-- with one TAU at most off the angle or on; up to 7/8 in size that is the value
 unfoldable pub hannWrapped : Float → Float
 hannWrapped x = div binary64 (add binary64 one (cosineAt (wrapped (mul binary64 TAU x)))) two

@@ -14,17 +14,19 @@ unfoldable pub values : ℕ → ℕ → Float → Float → List Float
 values zero i x dx = []
 values (suc n) i x dx = hannOf (pointAt x dx i) ∷ values n (suc i) x dx
 
--- z is a double of at most 2 ^ 100 in size
-pub record Moderate (z : Float) : Type 0 where
+-- z is a double of at most m units in size
+pub record AtMost (m : ℕ) (z : Float) : Type 0 where
   pub fit : T (fits binary64 z)
   pub known : T (finite z)
-  pub small : unitsOf z ≤ 2 ^ 1174
+  pub small : unitsOf z ≤ m
 
--- z is a double of at most 7/8 in size
-pub record Near (z : Float) : Type 0 where
-  pub fit : T (fits binary64 z)
-  pub known : T (finite z)
-  pub small : unitsOf z ≤ 7 * 2 ^ 1071
+-- of at most 2 ^ 100
+abbrev pub Moderate : Float → Type 0
+Moderate = AtMost (2 ^ 1174)
+
+-- of at most 7/8
+abbrev pub Near : Float → Type 0
+Near = AtMost (7 * 2 ^ 1071)
 
 -- some points, but no more than an envelope has, of which the first and the last are near
 pub record EndsNear (part : List Float) : Type 0 where

@@ -11,7 +11,7 @@ pub fn hann(x: f64) -> f64
     (1.0 + cosine(6.283185307179586 * x)) / 2.0
 }
 
-// The same for an x below 1 in size.
+// The same where x is at most 7/8 in size, and nothing is divided.
 pub(crate) fn hann_wrapped(x: f64) -> f64
     ensures { λ r. ⌜ r ≡ hannWrapped x ⌝ }
 {

@@ -84,7 +84,7 @@ fn is_near(z: f64) -> bool
     false
 }
 
-// The value at each point, none of which is 1 or more in size. No turn of this loop waits for a test, so that several can be worked out at once.
+// The value at each point, where all are at most 7/8 in size. No turn of this loop waits for a test, so that several can be worked out at once.
 fn value_wrapped(part: &mut [f64])
     ensures { λ r. ⌜ now (part .exit) ≡ map hannWrapped (now (part .entry)) ⌝ }
 {

@@ -108,7 +108,6 @@ module _ (x : Float) (f : T (fits binary64 x)) (t : T (finite x)) where
       never n t h e = omega arith
 
 -- ---- the zeros, and what is not finite
-
 pub reduced-zero : (s : Bool) → reduced (fin s 0 (pos 0)) ≡ fin s 0 (pos 0)
 unfolding reduced wrapped rem lt neg ofBits
 reduced-zero true = refl

@@ -36,11 +36,11 @@ pub record Reduction (x r : Float) : Type 0 where
   pub k : Signed
   pub exact : Same (plusS (numberOf r) (times (unitsOf TAU) k)) (numberOf x)
 
--- what the code tests: x is TAU or more in size, or no number
+-- x is not between -TAU and TAU: TAU or more in size, or a NaN
 abbrev pub Far : Float → Type 0
 Far x = (lt x TAU ≡ false) ⊎ (lt (neg TAU) x ≡ false)
 
--- and r is less than PI in size, and not zero
+-- r is between -PI and PI, and not zero
 pub record Inside (r : Float) : Type 0 where
   pub below : lt r PI ≡ true
   pub above : lt (neg PI) r ≡ true

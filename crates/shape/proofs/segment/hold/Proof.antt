@@ -1,23 +1,25 @@
--- `shape::segment::hold` meets its contract. The invariant: the ones stored so far and those that are left make up the part. Assumes nothing.
+-- `shape::segment::hold` meets its contract. The invariant: after i turns the first i are ones. Assumes nothing.
 use borrow.Author.Needs.{needs}
-use Prim.Native.Nat.{_+_, _-_, _≤_}
+use Prim.Native.Nat.{_-_}
 use native.Mathlib.Omega.{arith}
-use mathlib.Core.Path.{_≡_, refl, _∙_}
-use mathlib.Core.List.{_++_}
-use lib.ListN.{length, take, replicate, length-set}
+use mathlib.Core.Path.{refl, _∙_}
+use lib.ListN.{length}
+use lib.Ieee.{Float}
 use Rattle.exact.specs.Doubles.{one}
-use Rattle.shape.proofs.Turns.{held, held-all}
+use Rattle.rows.proofs.Turns.{upto}
+use Rattle.shape.proofs.Turns.{Valued, valued-turn, valued-all, ones}
 use Rattle.shape.proofs.segment.hold.Statement.{statement}
 use Rattle.shape.proofs.segment.hold.Tie as tie
 
 abbrev Inv-loop : tie.InvT-loop
-Inv-loop part₀ i₀ part i = (i ≤ length part) × (length part ≡ length part₀) × (take i part ++ replicate (length part₀ - i) one ≡ replicate (length part₀ - i₀) one)
+Inv-loop part₀ i₀ part i = Valued (λ (x : Float). one) part₀ part i
 
 abbrev μ-loop : tie.MeasureT-loop
-μ-loop part₀ i₀ part i = length part - i
+μ-loop part₀ i₀ part i = length part₀ - i
 
 loop-holds : tie.Need-loop-holds Inv-loop μ-loop
-loop-holds c = (search needs, refl, refl)
+unfolding upto
+loop-holds c = record { within = search needs; same = refl; done = refl }
 
 mul-part : tie.Need-mul-part Inv-loop μ-loop
 mul-part c = omega arith
@@ -29,23 +31,22 @@ add-i : tie.Need-add-i Inv-loop μ-loop
 add-i c = omega arith
 
 loop-less : tie.Need-loop-less Inv-loop μ-loop
-loop-less c = simp length-set (omega arith)
+loop-less c = omega arith
 
 loop-again : tie.Need-loop-again Inv-loop μ-loop
 loop-again c =
     let at = c .before .loop in
     let a = c .before .before .args in
-    (simp length-set (omega arith), simp length-set (at .inv .1), held (at .part) (at .i) (length (a .part .now)) (omega (arith, at .inv .1)) (omega arith) ∙ at .inv .2)
+    valued-turn (λ (x : Float). one) (a .part .now) (at .part) (at .i) (omega arith) (at .inv) one refl
 
 same-length : tie.Need-same-length Inv-loop μ-loop
-same-length c = c .before .loop .inv .1
+same-length c = c .before .loop .inv .same
 
 returns : tie.Need-returns Inv-loop μ-loop
 returns c =
     let at = c .before .loop in
     let a = c .before .before .args in
-    let all : length (a .part .now) - 0 ≡ length (a .part .now) = omega arith in
-    held-all (at .part) _ (at .i) (length (a .part .now)) (omega arith) (omega (arith, at .inv .1)) (rw all at (at .inv .2))
+    valued-all (λ (x : Float). one) (a .part .now) (at .part) (at .i) (omega arith) (at .inv) ∙ ones (a .part .now)
 
 pub hold-spec : {M : Type 1} → statement M
 hold-spec =

@@ -2,7 +2,7 @@
 use mathlib.Core.Path.{sym, subst}
 use mathlib.Core.Bool.{false≢true}
 use lib.Dec.{T}
-use Rattle.shape.proofs.Ends.{moderate}
+use Rattle.shape.proofs.Tests.{moderate}
 use Rattle.shape.proofs.segment.is_moderate.Statement.{statement}
 use Rattle.shape.proofs.segment.is_moderate.Tie as tie
 

@@ -2,7 +2,7 @@
 use mathlib.Core.Path.{sym, subst}
 use mathlib.Core.Bool.{false≢true}
 use lib.Dec.{T}
-use Rattle.shape.proofs.Near.{near}
+use Rattle.shape.proofs.Tests.{near}
 use Rattle.shape.proofs.segment.is_near.Statement.{statement}
 use Rattle.shape.proofs.segment.is_near.Tie as tie
 
