@@ -12,7 +12,8 @@ pub mod Bounds
 pub mod Carrier
 pub mod Zero
 pub mod Samples
-pub mod Example
 pub mod One
+pub mod Alone
 pub mod Merged
 pub mod Call
+pub mod Example

@@ -1,6 +1,7 @@
 -- A sampling call that is done with one pulse added: there is one bin with one pulse, and what the call leaves is what that pulse, added alone,
--- leaves. By the bins in turn: the count never falls, and each pulse counts one. Assumes nothing.
-use Prim.Native.Nat.{ℕ, suc, _+_, _≤_, _<_}
+-- leaves. By the bins in turn: the count is that of their pulses, each of which counts one. Assumes nothing.
+use Prim.Native.Nat.{ℕ, zero, suc, _+_, _≤_, _<_}
+use native.Mathlib.Nat.{le-of-suc-le-suc, not-suc-le-zero}
 use native.Mathlib.Omega.{arith}
 use mathlib.Core.Path.{_≡_, refl, sym, ap, subst, _∙_}
 use mathlib.Core.Bool.{true}
@@ -53,13 +54,18 @@ module _ (s : Settings) (rows : ℕ) where
 
   -- ---- all bins
   module _ (merged : List Float → List Pulse) where
-    more : (rs : List (List Float)) (k m : ℕ) (st : Rowed) → ranBins s rows merged rs k st .answer ≡ answer.Done m → k ≤ m
-    unfolding ranBins
-    more [] k m st e = let same = done-inj k m e in omega (arith, same)
-    more (r ∷ rs) k m st e = let o = ranPulses s (binOf r) rows (merged r) k st in by (o .answer) (o .left) refl e (λ n l. more rs n m l)
+    -- how many pulses they have, and that these are the ones that are added
+    unfoldable total : List (List Float) → ℕ
+    total [] = 0
+    total (r ∷ rs) = length (merged r) + total rs
+
+    all-added : (rs : List (List Float)) (k m : ℕ) (st : Rowed) → ranBins s rows merged rs k st .answer ≡ answer.Done m → m ≡ k + total rs
+    unfolding ranBins total
+    all-added [] k m st e = let same = done-inj k m e in omega (arith, same)
+    all-added (r ∷ rs) k m st e = let o = ranPulses s (binOf r) rows (merged r) k st in by (o .answer) (o .left) refl e (λ n l. all-added rs n m l)
       where
         by : (a : Answer) (l : Rowed) → ranPulses s (binOf r) rows (merged r) k st .answer ≡ a → andThen (out a l) (ranBins s rows merged rs) .answer ≡ answer.Done m
-            → ((n : ℕ) (l' : Rowed) → ranBins s rows merged rs n l' .answer ≡ answer.Done m → n ≤ m) → k ≤ m
+            → ((n : ℕ) (l' : Rowed) → ranBins s rows merged rs n l' .answer ≡ answer.Done m → m ≡ n + total rs) → m ≡ k + (length (merged r) + total rs)
         by (answer.Done n) l f g later = let c = counted (binOf r) (merged r) k n st f in let d = later n l g in omega (arith, c, d)
         by (answer.Refused why n) l f g later = let z : _≡_ {A = ℕ} 0 1 = cc in absurd (omega arith)
 
@@ -81,7 +87,7 @@ module _ (s : Settings) (rows : ℕ) where
         by (answer.Done n) l f (p ∷ ps) h g later =
             let c = counted (binOf r) (merged r) k n st (ap (λ (o : Out). o .answer) f) in
             let some : length (merged r) ≡ suc (length ps) = ap length h in
-            let d = more rs n k l g in
+            let d = all-added rs n k l g in
             absurd (omega (arith, c, some, d))
 
     -- one is added
@@ -123,5 +129,25 @@ module _ (s : Settings) (rows : ℕ) where
         by (answer.Done n) l f (p ∷ q ∷ ps) h g later =
             let c = counted (binOf r) (merged r) k n st (ap (λ (o : Out). o .answer) f) in
             let some : length (merged r) ≡ suc (suc (length ps)) = ap length h in
-            let d = more rs n (suc k) l g in
+            let d = all-added rs n (suc k) l g in
             absurd (omega (arith, c, some, d))
+
+    -- ---- of one pulse in all, the place is one
+    at-least : (rs : List (List Float)) (p : ℕ) → p < length rs → length (merged (getD rs p [])) ≤ total rs
+    unfolding total
+    at-least [] p h = absurd (not-suc-le-zero h)
+    at-least (r ∷ rs) zero h = omega arith
+    at-least (r ∷ rs) (suc p) h = let g = at-least rs p (le-of-suc-le-suc h) in omega arith
+
+    same-place : (rs : List (List Float)) (p q : ℕ) → p < length rs → q < length rs → length (merged (getD rs p [])) ≡ 1 → length (merged (getD rs q [])) ≡ 1 → total rs ≡ 1 → p ≡ q
+    unfolding total
+    same-place [] p q h g e f t = absurd (not-suc-le-zero h)
+    same-place (r ∷ rs) zero zero h g e f t = refl
+    same-place (r ∷ rs) zero (suc q) h g e f t = let l = at-least rs q (le-of-suc-le-suc g) in absurd (omega arith)
+    same-place (r ∷ rs) (suc p) zero h g e f t = let l = at-least rs p (le-of-suc-le-suc h) in absurd (omega arith)
+    same-place (r ∷ rs) (suc p) (suc q) h g e f t =
+        let l = at-least rs p (le-of-suc-le-suc h) in
+        ap suc (same-place rs p q (le-of-suc-le-suc h) (le-of-suc-le-suc g) e f (omega arith))
+
+    pub one-place : (rs : List (List Float)) (p q k : ℕ) (st : Rowed) → ranBins s rows merged rs k st .answer ≡ answer.Done (suc k) → p < length rs → q < length rs → length (merged (getD rs p [])) ≡ 1 → length (merged (getD rs q [])) ≡ 1 → p ≡ q
+    one-place rs p q k st d h g e f = let t = all-added rs k (suc k) st d in same-place rs p q h g e f (omega arith)

@@ -1,56 +1,71 @@
--- 0.0 plus a finite double is that double's value: it is held already, so nothing is rounded. Only a zero's sign may change. Assumes nothing.
+-- A zero of either sign plus a finite double has that double's value: it is held already, so nothing is rounded. Only a zero's sign may change. Assumes
+-- nothing.
 use mathlib.Core.Path.{_≡_, refl, sym, ap, _∙_, subst}
-use mathlib.Core.Bool.{Bool, true, false}
+use mathlib.Core.Bool.{Bool, true, false, Bool·beq}
 use Prim.Native.Nat.{ℕ, zero, suc, _^_, _<_}
 use native.Mathlib.Nat.{zero-add, sub-zero, zero-lt-suc}
 use lib.Dec.{T}
 use lib.Pow.{pow-pos}
-use lib.Ieee.{Float, binary64, fits, round, sum, add, ofBits}
+use lib.Ieee.{Float, binary64, fits, round, sum, add, eq}
 use lib.Ieee.Scale.{finite}
 use Rattle.exact.specs.Doubles.{nought}
 use Rattle.exact.specs.Value.{Units, signOf, unitsOf}
 use Rattle.exact.specs.Signed.{signed}
 use Rattle.exact.proofs.Sum.{sum-like, sum-second, sum-none}
 use Rattle.exact.proofs.Operation.{add-rounds}
+use Rattle.exact.proofs.Compare.{none}
 use Rattle.exact.proofs.Value.{own}
 use Rattle.exact.proofs.Few.{Few, few-of, few-value, units-below, value-finite}
 use Rattle.accuracy.specs.Exact.{valueOf}
 use Rattle.accuracy.proofs.Product.{value-is}
-
-nought-units : Units nought false 0
-unfolding ofBits
-nought-units = (refl, refl)
 
 record Kept (x : Float) (s : Bool) (n : ℕ) : Type 0 where
   sign : Bool
   value : Units x sign n
   same : signed sign n ≡ signed s n
 
-plus-units : (s : Bool) (n : ℕ) → Few n → n < 2 ^ 2098 → Kept (sum binary64 false 0 s n (2 ^ 1074)) s n
-plus-units false n w l =
-    record {
-      sign = false;
-      value = subst (λ (z : Float). Units z false n) (sym (sum-like binary64 false false 0 n (2 ^ 1074) refl ∙ ap (λ (z : ℕ). round binary64 false z (2 ^ 1074)) (zero-add n))) (few-value false n w l);
-      same = refl;
-    }
-plus-units true zero w l =
-    record { sign = false; value = subst (λ (z : Float). Units z false 0) (sym (sum-none binary64 false true 0 0 (2 ^ 1074) refl refl)) (few-value false 0 w l); same = refl }
-plus-units true (suc n) w l =
-    record {
-      sign = true;
-      value = subst (λ (z : Float). Units z true (suc n)) (sym (sum-second binary64 false true 0 (suc n) (2 ^ 1074) refl (zero-lt-suc n) ∙ ap (λ (z : ℕ). round binary64 true z (2 ^ 1074)) (sub-zero (suc n)))) (few-value true (suc n) w l);
-      same = refl;
-    }
+module _ (t s : Bool) (n : ℕ) (w : Few n) (l : n < 2 ^ 2098) where
+  -- the zero and n have one sign
+  like : Bool·beq t s ≡ true → t ≡ s → Kept (sum binary64 t 0 s n (2 ^ 1074)) s n
+  like e f =
+      record {
+        sign = t;
+        value = subst (λ (z : Float). Units z t n) (sym (sum-like binary64 t s 0 n (2 ^ 1074) e ∙ ap (λ (z : ℕ). round binary64 t z (2 ^ 1074)) (zero-add n))) (few-value t n w l);
+        same = ap (λ (z : Bool). signed z n) f;
+      }
 
-pub record Unchanged (x : Float) : Type 0 where
-  pub is-finite : T (finite (add binary64 nought x))
-  pub value : valueOf (add binary64 nought x) ≡ valueOf x
+  -- they have two, and n is not 0
+  unlike : Bool·beq t s ≡ false → 0 < n → Kept (sum binary64 t 0 s n (2 ^ 1074)) s n
+  unlike e h =
+      record {
+        sign = s;
+        value = subst (λ (z : Float). Units z s n) (sym (sum-second binary64 t s 0 n (2 ^ 1074) e h ∙ ap (λ (z : ℕ). round binary64 s z (2 ^ 1074)) (sub-zero n))) (few-value s n w l);
+        same = refl;
+      }
 
-pub nought-plus : (x : Float) → T (fits binary64 x) → T (finite x) → Unchanged x
-nought-plus x f t =
+-- two zeros
+none-units : (t s : Bool) → Bool·beq t s ≡ false → signed false 0 ≡ signed s 0 → Few 0 → Kept (sum binary64 t 0 s 0 (2 ^ 1074)) s 0
+none-units t s e f w =
+    record { sign = false; value = subst (λ (z : Float). Units z false 0) (sym (sum-none binary64 t s 0 0 (2 ^ 1074) e refl)) (few-value false 0 w (pow-pos 2098)); same = f }
+
+plus-units : (t s : Bool) (n : ℕ) → Few n → n < 2 ^ 2098 → Kept (sum binary64 t 0 s n (2 ^ 1074)) s n
+plus-units false false n w l = like false false n w l refl refl
+plus-units true true n w l = like true true n w l refl refl
+plus-units false true zero w l = none-units false true refl refl w
+plus-units true false zero w l = none-units true false refl refl w
+plus-units false true (suc n) w l = unlike false true (suc n) w l refl (zero-lt-suc n)
+plus-units true false (suc n) w l = unlike true false (suc n) w l refl (zero-lt-suc n)
+
+-- z plus x is finite, and x's value
+pub record Unchanged (z x : Float) : Type 0 where
+  pub is-finite : T (finite (add binary64 z x))
+  pub value : valueOf (add binary64 z x) ≡ valueOf x
+
+pub zero-plus : (z x : Float) → eq z nought ≡ true → T (fits binary64 x) → T (finite x) → Unchanged z x
+zero-plus z x h f t =
     let s = signOf x in
     let n = unitsOf x in
-    let e = add-rounds binary64 nought x false s 0 n (2 ^ 1074) (pow-pos 1074) nought-units (own x f t) in
-    let k = plus-units s n (few-of x f t) (units-below x f t) in
-    let v : Units (add binary64 nought x) (k .sign) n = subst (λ (z : Float). Units z (k .sign) n) (sym e) (k .value) in
-    record { is-finite = value-finite (add binary64 nought x) (k .sign) n v; value = value-is (add binary64 nought x) (k .sign) n v ∙ k .same }
+    let e = add-rounds binary64 z x (signOf z) s 0 n (2 ^ 1074) (pow-pos 1074) (none z h) (own x f t) in
+    let k = plus-units (signOf z) s n (few-of x f t) (units-below x f t) in
+    let v : Units (add binary64 z x) (k .sign) n = subst (λ (y : Float). Units y (k .sign) n) (sym e) (k .value) in
+    record { is-finite = value-finite (add binary64 z x) (k .sign) n v; value = value-is (add binary64 z x) (k .sign) n v ∙ k .same }

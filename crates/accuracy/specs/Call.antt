@@ -1,9 +1,10 @@
 -- Demand 3, of the sampling call: "Take an accepted plateau pulse (no shape), sampled alone onto rows of zeros." Definitions only.
 use Prim.Native.Nat.{ℕ, _+_, _^_, _≤_, _<_}
 use mathlib.Core.Path.{_≡_}
+use mathlib.Core.Bool.{true}
 use mathlib.Core.List.{List, [], _∷_}
-use lib.Ieee.{Float, nan}
-use lib.ListN.{length, getD, replicate}
+use lib.Ieee.{Float, nan, eq}
+use lib.ListN.{length, getD}
 use Rattle.exact.specs.Doubles.{nought}
 use Rattle.quant.specs.declared.aligned.Placed.the-variants.{Start}
 use Rattle.quant.specs.declared.complex.Complex.{Complex}
@@ -33,55 +34,69 @@ pub record Bounded (amp start rotation : Complex) : Type 0 where
   pub start-turns : squares start ≤ 2 ^ 2148 + 2 ^ 2104
   pub rotation-turns : squares rotation ≤ 2 ^ 2148 + 2 ^ 2104
 
--- rows of zeros: one, or two of one length
-pub record Zeros (rows len : ℕ) (st : Rowed) : Type 0 where
-  pub i : st .i ≡ replicate len nought
-  pub q : rows ≡ 2 → st .q ≡ replicate len nought
+-- a row of zeros: `len` samples, each for itself 0 or -0, which both equal 0
+pub record ZeroRow (len : ℕ) (row : List Float) : Type 0 where
+  pub long : length row ≡ len
+  pub each : (k : ℕ) → k < len → eq (getD row k nan) nought ≡ true
 
--- the one pulse that a call added, as sampled: its bin, itself, its start and its offset
-pub record Only (t : Tables) (r : Request) (c : Crosstalk) (factors : List Float) (bins : List (List Float)) (pulses : List Pulse) : Type 0 where
+-- "rows of zeros": one, or two of one length
+pub record Zeros (rows len : ℕ) (st : Rowed) : Type 0 where
+  pub i : ZeroRow len (st .i)
+  pub q : rows ≡ 2 → ZeroRow len (st .q)
+
+-- ---- a pulse as sampled, after merging and crosstalk: the clock, its bin, itself, its start and its offset
+pub record AsSampled : Type 0 where
   pub settings : Settings
-  pub fit : fittingOf (r .rate) (r .delay) (r .level) ≡ Fit settings
+  pub bin : Bin
+  pub pulse : Pulse
+  pub start : ℕ
+  pub offset : Float
+
+module _ (x : AsSampled) where
+  -- its amplitude, its start pair and its rotation pair
+  abbrev pub ampOf : Complex
+  ampOf = x .pulse .amp
+
+  abbrev pub startOf : Complex
+  startOf = startPair (x .settings) (x .bin) (x .start) (x .offset)
+
+  abbrev pub rotationOf : Complex
+  rotationOf = rotationPair (x .settings) (x .bin)
+
+  -- its length, in samples
+  abbrev pub lengthOf : ℕ
+  lengthOf = countOf (x .settings) (x .bin)
+
+  -- "amplitude times start times rotation to the power k"
+  abbrev pub exactOf : ℕ → Gauss
+  exactOf k = carrierExactly ampOf startOf rotationOf k
+
+-- x is the one pulse that a call added: its bin stands among the bins by first appearance, and after merging and crosstalk has no other pulse
+pub record Only (t : Tables) (r : Request) (c : Crosstalk) (factors : List Float) (bins : List (List Float)) (pulses : List Pulse) (x : AsSampled) : Type 0 where
+  pub fit : fittingOf (r .rate) (r .delay) (r .level) ≡ Fit (x .settings)
   pub row : List Float
   pub place : ℕ
   pub within : place < length (binsBy t bins (partsIn (planned t (r .channel) c factors .taking)))
   pub there : getD (binsBy t bins (partsIn (planned t (r .channel) c factors .taking))) place [] ≡ row
-  pub pulse : Pulse
-  pub only : mergedOf t bins pulses (partsIn (planned t (r .channel) c factors .taking)) row ≡ pulse ∷ []
-  pub start : ℕ
-  pub offset : Float
-  pub placed : placedAt settings pulse ≡ Start start offset
+  pub its-bin : x .bin ≡ binOf row
+  pub only : mergedOf t bins pulses (partsIn (planned t (r .channel) c factors .taking)) row ≡ x .pulse ∷ []
+  pub placed : placedAt (x .settings) (x .pulse) ≡ Start (x .start) (x .offset)
 
 -- "Then each sample k of the pulse, counted from its start and below its length, lies within (k+1)·2^-49·m of the exact product: amplitude times
--- start times rotation to the power k, with the computed doubles read as exact fractions, in I and, with two rows, likewise in Q." Samples outside
--- the pulse are zero.
-module _ (t : Tables) (r : Request) (c : Crosstalk) (factors : List Float) (bins : List (List Float)) (pulses : List Pulse) (len : ℕ) (o : Only t r c factors bins pulses) (after : Rowed) where
-  abbrev pub theBin : Bin
-  theBin = binOf (o .row)
+-- start times rotation to the power k, with the computed doubles read as exact fractions, in I and, with two rows, likewise in Q." Samples before
+-- and behind the pulse stay, bit for bit, what they were: zeros of either sign.
+pub record PlateauNear (x : AsSampled) (rows len : ℕ) (st after : Rowed) : Type 0 where
+  pub inside : x .start + lengthOf x ≤ len
+  pub in-i : (k : ℕ) → k < lengthOf x → Near (getD (after .i) (x .start + k) nan) (exactOf x k .re) k (absolute (ampOf x))
+  pub in-q : rows ≡ 2 → (k : ℕ) → k < lengthOf x → Near (getD (after .q) (x .start + k) nan) (exactOf x k .im) k (absolute (ampOf x))
+  pub before-i : (k : ℕ) → k < x .start → getD (after .i) k nan ≡ getD (st .i) k nan
+  pub behind-i : (k : ℕ) → x .start + lengthOf x ≤ k → getD (after .i) k nan ≡ getD (st .i) k nan
+  pub before-q : rows ≡ 2 → (k : ℕ) → k < x .start → getD (after .q) k nan ≡ getD (st .q) k nan
+  pub behind-q : rows ≡ 2 → (k : ℕ) → x .start + lengthOf x ≤ k → getD (after .q) k nan ≡ getD (st .q) k nan
 
-  abbrev pub startOf : Complex
-  startOf = startPair (o .settings) theBin (o .start) (o .offset)
-
-  abbrev pub rotationOf : Complex
-  rotationOf = rotationPair (o .settings) theBin
-
-  abbrev pub exactOf : ℕ → Gauss
-  exactOf k = carrierExactly (o .pulse .amp) startOf rotationOf k
-
-  pub record PlateauNear : Type 0 where
-    pub inside : o .start + countOf (o .settings) theBin ≤ len
-    pub in-i : (k : ℕ) → k < countOf (o .settings) theBin → Near (getD (after .i) (o .start + k) nan) (exactOf k .re) k (absolute (o .pulse .amp))
-    pub in-q : r .rows ≡ 2 → (k : ℕ) → k < countOf (o .settings) theBin → Near (getD (after .q) (o .start + k) nan) (exactOf k .im) k (absolute (o .pulse .amp))
-    pub before-i : (k : ℕ) → k < o .start → getD (after .i) k nan ≡ nought
-    pub behind-i : (k : ℕ) → o .start + countOf (o .settings) theBin ≤ k → k < len → getD (after .i) k nan ≡ nought
-    pub before-q : r .rows ≡ 2 → (k : ℕ) → k < o .start → getD (after .q) k nan ≡ nought
-    pub behind-q : r .rows ≡ 2 → (k : ℕ) → o .start + countOf (o .settings) theBin ≤ k → k < len → getD (after .q) k nan ≡ nought
-
-  -- a pulse without a shape, and the mission's bounds
-  abbrev pub PlateauThen : Type 0
-  PlateauThen = theBin .envelope .shape ≡ Plain → Bounded (o .pulse .amp) startOf rotationOf → PlateauNear
-
--- the one pulse, and what holds of it if it has no shape
-pub record OneNear (t : Tables) (r : Request) (c : Crosstalk) (factors : List Float) (bins : List (List Float)) (pulses : List Pulse) (len : ℕ) (after : Rowed) : Type 0 where
-  pub one : Only t r c factors bins pulses
-  pub near : PlateauThen t r c factors bins pulses len one after
+-- the one pulse, and that there is no other; and what holds of it if it has no shape and keeps the mission's bounds
+pub record OneNear (t : Tables) (r : Request) (c : Crosstalk) (factors : List Float) (bins : List (List Float)) (pulses : List Pulse) (len : ℕ) (st after : Rowed) : Type 0 where
+  pub one : AsSampled
+  pub only : Only t r c factors bins pulses one
+  pub alone : (x : AsSampled) → Only t r c factors bins pulses x → x ≡ one
+  pub near : one .bin .envelope .shape ≡ Plain → Bounded (ampOf one) (startOf one) (rotationOf one) → PlateauNear one (r .rows) len st after
