@@ -1,6 +1,8 @@
 pub mod Calls
 pub mod Full
 pub mod Zones
+pub mod Opened
+pub mod Standing
 pub mod Sound
 pub mod Own
 pub mod Apart

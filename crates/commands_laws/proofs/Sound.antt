@@ -1,16 +1,16 @@
--- From made tables, after any run of adds and command calls, accepted or refused, every list stands by bin and time and every count is
--- right. Each call keeps it, and a step keeps it by its cases. Assumes nothing.
+-- From made tables, after any run of adds and command calls, accepted or refused, every list stands by bin and time, every count is right and
+-- every bin is good. Each call keeps it, and a step keeps it by its cases. Assumes nothing.
 use Prim.Native.Nat.{ℕ, suc, _+_, _*_, _≤_, _<_}
 use native.Mathlib.Omega.{arith}
 use mathlib.Core.Path.{_≡_, refl, sym, ap, _∙_}
 use mathlib.Core.Bool.{Bool, true, false, _&&_, cond}
 use mathlib.Core.List.{List, [], _∷_}
-use lib.Dec.{eqb, ltb}
-use borrow.Author.Tests.{eqb-true, eqb-false, ltb-true}
+use lib.Dec.{ltb}
+use borrow.Author.Tests.{ltb-true}
 use lib.Ieee.{Float, isNan, nan, inf, fin}
 use lib.Ieee.Scale.{finite}
-use lib.ListN.{length, getD, set, length-set, length-take, List·getD-map}
-use lib.Seq.{getD-set-same, getD-set-other, map-set-same}
+use lib.ListN.{length, take, drop, set, length-set, length-take, length-drop}
+use lib.Seq.{getD-set-same, getD-set-other}
 use Rattle.exact.specs.Doubles.{nought}
 use Rattle.naming.specs.declared.Name.{Name}
 use Rattle.quant.specs.declared.refusal.Refusal.the-variants.{Unfit, Malformed, Full, WrongSize}
@@ -19,108 +19,28 @@ use Rattle.quant.specs.Settings.{isTolerance}
 use Rattle.executor.specs.declared.osc.OscState.{OscState}
 use Rattle.pulse.specs.declared.list.Pulse.{Pulse}
 use Rattle.pulse.specs.declared.weight.Weight.{Weight}
+use Rattle.pulse.specs.Bin.{binOf, GoodBin}
 use Rattle.pulse.specs.List.{stored}
-use Rattle.pulse.specs.Sorted.{sorted, timed}
 use Rattle.pulse.proofs.Stored.{stored-list, stored-sorted, stored-timed, stored-length}
 use Rattle.tables.specs.declared.Channel.{Channel}
 use Rattle.tables.specs.declared.Tables.{Tables}
 use Rattle.tables.specs.declared.Found.{Found}
 use Rattle.tables.specs.declared.Found.the-variants.{At, Nowhere}
-use Rattle.tables.specs.Tables.{found, isIn, shapesIn, done, refused, noChannel, channelAt, fresh, finiteOsc, withChannels, withChannel, settled, withAdded, withShape, settledShape, withAddedShape, channelsIn, empty, made}
+use Rattle.tables.specs.Tables.{found, isIn, shapesIn, done, refused, channelAt, fresh, finiteOsc, withChannels, withChannel, settled, withAdded, withShape, settledShape, withAddedShape, channelsIn, empty, made}
 use Rattle.tables.proofs.Finding.{found-eight, found-under}
 use Rattle.commands.specs.declared.command.Command.{Command}
 use Rattle.commands.specs.declared.command.Arranged.{Arranged}
 use Rattle.commands.specs.declared.step.Step.{Step}
 use Rattle.commands.specs.Step.{binsAfter, pulsesAfter, withOsc}
-use Rattle.commands.specs.Play.{grown, pulseAt, stores}
+use Rattle.commands.specs.Play.{rowsOf, grown, pulseAt, stores}
 use Rattle.commands.specs.Run.{Ran, ranTo, refusedAt, stepOf, ran, sizesFit, executed}
-use Rattle.commands_laws.specs.Sound.{listOf, binned, Stands, Sound, Reached, start, channel, shape, call}
+use Rattle.commands_laws.specs.Sound.{listOf, binAt, Stands, Sound, Reached, start, channel, shape, call}
 use Rattle.commands.specs.Command.{named}
 use Rattle.commands.proofs.Cases.{Kind, refuses, goes, turns, swaps, puts, step-kind}
 use Rattle.commands_laws.proofs.Zones.{zone-stays, binned-more, binned-placed}
+use Rattle.commands_laws.proofs.Standing.{stands-alike, stands-fresh, osc-sound, at-place, at-other, stands-other, either}
+use Rattle.commands_laws.proofs.Opened.{Opens, step-opens}
 use Rattle.commands_laws.proofs.Calls.{bins-size}
-
--- ---- a channel with the counts of another
-
-stands-alike : (t u : Tables) (pulses : List Pulse) (i : ℕ) → channelAt u i .bins ≡ channelAt t i .bins → channelAt u i .pulses ≡ channelAt t i .pulses
-    → Stands t pulses i → Stands u pulses i
-stands-alike t u pulses i b p h =
-    record {
-      most-bins = rw b (h .most-bins);
-      most-pulses = rw p (h .most-pulses);
-      in-order = rw p (h .in-order);
-      in-time = rw p (h .in-time);
-      in-bins = rw (b, p) (h .in-bins);
-    }
-
--- a channel that starts fresh
-stands-fresh : (u : Tables) (pulses : List Pulse) (i : ℕ) → channelAt u i .bins ≡ 0 → channelAt u i .pulses ≡ 0 → Stands u pulses i
-unfolding sorted timed binned
-stands-fresh u pulses i b p =
-    record { most-bins = rw b (omega arith); most-pulses = rw p (omega arith); in-order = rw p refl; in-time = rw p refl; in-bins = rw (b, p) refl }
-
--- ---- an oscillator changed
-
--- tables with the same channels, as far as their lists go
-record Alike (t u : Tables) : Type 0 where
-  count : u .count ≡ t .count
-  places : length (u .channels) ≡ length (t .channels)
-  bins : (i : ℕ) → channelAt u i .bins ≡ channelAt t i .bins
-  pulses : (i : ℕ) → channelAt u i .pulses ≡ channelAt t i .pulses
-
--- a field that a new channel has in common with the one whose place it takes
-pub same-field : {A : Type 0} (f : Channel → A) (l : List Channel) (i : ℕ) (c : Channel) → f c ≡ f (getD l i noChannel) → (j : ℕ)
-    → f (getD (set l i c) j noChannel) ≡ f (getD l j noChannel)
-same-field {A} f l i c e j =
-    sym (List·getD-map f (set l i c) j noChannel)
-    ∙ ap (λ (m : List A). getD m j (f noChannel)) (map-set-same f l i c noChannel e)
-    ∙ List·getD-map f l j noChannel
-
-alike-osc : (t : Tables) (i : ℕ) (o : OscState) → Alike t (withOsc t i o)
-alike-osc t i o =
-    let c : Channel = record { name = channelAt t i .name; osc = o; bins = channelAt t i .bins; pulses = channelAt t i .pulses } in
-    record {
-      count = refl;
-      places = length-set (t .channels) i c;
-      bins = same-field (λ (x : Channel). x .bins) (t .channels) i c refl;
-      pulses = same-field (λ (x : Channel). x .pulses) (t .channels) i c refl;
-    }
-
-alike-sound : (t u : Tables) (bins : List (List Float)) (pulses : List Pulse) → Sound t bins pulses → Alike t u → Sound u bins pulses
-alike-sound t u bins pulses h same =
-    record {
-      eight = same .places ∙ h .eight;
-      rows = h .rows;
-      records = h .records;
-      few = rw (same .count) (h .few);
-      each = λ j below. stands-alike t u pulses j (same .bins j) (same .pulses j) (h .each j (rw (same .count) at below));
-    }
-
-osc-sound : (t : Tables) (bins : List (List Float)) (pulses : List Pulse) → Sound t bins pulses → (i : ℕ) (o : OscState) → Sound (withOsc t i o) bins pulses
-osc-sound t bins pulses h i o = alike-sound t (withOsc t i o) bins pulses h (alike-osc t i o)
-
--- ---- one place set
-
-module _ (t : Tables) (i : ℕ) (c : Channel) (inside : i < length (t .channels)) where
-  at-place : (n : ℕ) → channelAt (withChannels t (set (t .channels) i c) n) i ≡ c
-  at-place n = getD-set-same (t .channels) i c noChannel inside
-
-  at-other : (n j : ℕ) → (j ≡ i → ⊥) → channelAt (withChannels t (set (t .channels) i c) n) j ≡ channelAt t j
-  at-other n j apart = getD-set-other (t .channels) i j c noChannel apart
-
-  -- what stands elsewhere stays, where the pulses there do
-  stands-other : (n j : ℕ) (pulses : List Pulse) → (j ≡ i → ⊥) → Stands t pulses j → Stands (withChannels t (set (t .channels) i c) n) pulses j
-  stands-other n j pulses apart h =
-      let same = at-other n j apart in
-      stands-alike t (withChannels t (set (t .channels) i c) n) pulses j (ap (λ (x : Channel). x .bins) same) (ap (λ (x : Channel). x .pulses) same) h
-
--- by whether two places are one
-either : (P : Type 0) (j i : ℕ) → (j ≡ i → P) → ((j ≡ i → ⊥) → P) → P
-either P j i same apart = go (eqb j i) refl
-  where
-    go : (b : Bool) → eqb j i ≡ b → P
-    go true e = same (eqb-true j i e)
-    go false e = apart (eqb-false j i e)
 
 -- ---- a channel added
 
@@ -141,6 +61,12 @@ module _ (t : Tables) (bins : List (List Float)) (pulses : List Pulse) (h : Soun
             let there = at-place t i new inside m in
             rw e (stands-fresh (withChannels t (set (t .channels) i new) m) pulses i (ap (λ (x : Channel). x .bins) there) (ap (λ (x : Channel). x .pulses) there)))
             (λ apart. stands-other t i new inside m j pulses apart (h .each j (old j below apart)));
+        good = λ j k below under.
+            either (GoodBin (binAt bins j k)) j i
+            (λ e.
+            let none : channelAt (withChannels t (set (t .channels) i new) m) j .bins ≡ 0 = rw e (ap (λ (x : Channel). x .bins) (at-place t i new inside m)) in
+            absurd (omega (arith, under, none)))
+            (λ apart. h .good j k (old j below apart) (rw (ap (λ (x : Channel). x .bins) (at-other t i new inside m j apart)) at under));
       }
 
   settled-sound : (f : Found) → found t n ≡ f → Sound (settled t f new .tables) bins pulses
@@ -175,6 +101,7 @@ module _ (t : Tables) (bins : List (List Float)) (pulses : List Pulse) (h : Soun
         records = h .records;
         few = h .few;
         each = λ j below. stands-alike t (withShape t n) pulses j refl refl (h .each j below);
+        good = h .good;
       }
 
   settled-shape-sound : (known : Bool) → Sound (settledShape t known n .tables) bins pulses
@@ -194,6 +121,10 @@ module _ (t : Tables) (bins : List (List Float)) (pulses : List Pulse) (h : Soun
       go false = h
 
 -- ---- one command
+
+-- no two channels have a place for a bin in common
+elsewhere : (i j m k : ℕ) → (j ≡ i → ⊥) → m < 64 → k < 64 → 64 * j + k ≡ 64 * i + m → ⊥
+elsewhere i j m k apart a b e = apart (omega arith)
 
 not-nan : (x : Float) → finite x ≡ true → isNan x ≡ false
 unfolding isNan
@@ -268,27 +199,57 @@ module _ (t : Tables) (bins : List (List Float)) (pulses : List Pulse) (h : Soun
         } in
         stands-other t i (grown c new) inside (t .count) j records apart moved
 
-    stored-sound : (rows' : List (List Float)) → length rows' ≡ 512 → Sound after rows' records
-    stored-sound rows' long =
+    -- the bins, of which one may be new: the one behind those that are there
+    module _ (opens : new ≡ true → GoodBin (binOf row)) (last : new ≡ true → length (rowsOf t bins i) ≤ place) where
+      behind : new ≡ true → place ≡ c .bins
+      behind e =
+          let far = rw (length-take (c .bins) (take 64 (drop (64 * i) bins)), length-take 64 (drop (64 * i) bins), length-drop (64 * i) bins) at (last e) in
+          let r = room e in
+          omega (arith, far, most, r, under, h .rows)
+
+      good-here : (b : Bool) → new ≡ b → (k : ℕ) → k < grown c b .bins → GoodBin (binAt (cond b (set bins (64 * i + place) row) bins) i k)
+      good-here false e k below = h .good i k present below
+      good-here true e k below =
+          either (GoodBin (binAt (set bins (64 * i + place) row) i k)) k place
+          (λ same. rw (same, getD-set-same bins (64 * i + place) row [] (let r = room e in omega (arith, most, r, under, h .rows))) (opens e))
+          (λ apart. rw (getD-set-other bins (64 * i + place) (64 * i + k) row [] (λ z. apart (omega (arith, z)))) (h .good i k present (let b = behind e in omega (arith, b, below, apart))))
+
+      good-there : (b : Bool) → new ≡ b → (j k : ℕ) → (j ≡ i → ⊥) → j < t .count → k < channelAt t j .bins → GoodBin (binAt (cond b (set bins (64 * i + place) row) bins) j k)
+      good-there false e j k apart present' below = h .good j k present' below
+      good-there true e j k apart present' below =
+          let r = room e in
+          let few' = h .each j present' .most-bins in
+          rw (getD-set-other bins (64 * i + place) (64 * j + k) row [] (λ z. elsewhere i j place k apart (omega (arith, most, r)) (omega (arith, below, few')) z)) (h .good j k present' below)
+
+      good-after : (j k : ℕ) → j < t .count → k < channelAt after j .bins → GoodBin (binAt (cond new (set bins (64 * i + place) row) bins) j k)
+      good-after j k there' below =
+          either (GoodBin (binAt (cond new (set bins (64 * i + place) row) bins) j k)) j i
+          (λ e. rw e (good-here new refl k (rw (e, ap (λ (x : Channel). x .bins) (at-place t i (grown c new) inside (t .count))) at below)))
+          (λ apart. good-there new refl j k apart there' (rw (ap (λ (x : Channel). x .bins) (at-other t i (grown c new) inside (t .count) j apart)) at below))
+
+    stored-sound : (rows' : List (List Float)) → length rows' ≡ 512 → ((j k : ℕ) → j < t .count → k < channelAt after j .bins → GoodBin (binAt rows' j k)) → Sound after rows' records
+    stored-sound rows' long fine =
         record {
           eight = length-set (t .channels) i (grown c new) ∙ h .eight;
           rows = long;
           records = stored-length (1024 * i) (c .pulses) p pulses ∙ h .records;
           few = h .few;
           each = λ j below. either (Stands after records j) j i (λ e. rw e stands-here) (λ apart. stands-there j below apart);
+          good = fine;
         }
 
-  kind-sound : (c : Command) (s : Step) → Kind t bins c s → Sound (s .tables) (binsAfter s bins) (pulsesAfter s pulses)
-  kind-sound c _ (refuses r) = h
-  kind-sound c _ goes = h
-  kind-sound c _ (turns i o there) = osc-sound t bins pulses h i o
-  kind-sound c _ (swaps i j o q swap) = osc-sound (withOsc t i o) bins pulses (osc-sound t bins pulses h i o) j q
-  kind-sound c _ (puts i place new time w row there known most old room last few) =
+  kind-sound : (c : Command) (s : Step) → Kind t bins c s → Opens s → Sound (s .tables) (binsAfter s bins) (pulsesAfter s pulses)
+  kind-sound c _ (refuses r) opens = h
+  kind-sound c _ goes opens = h
+  kind-sound c _ (turns i o there) opens = osc-sound t bins pulses h i o
+  kind-sound c _ (swaps i j o q swap) opens = osc-sound (withOsc t i o) bins pulses (osc-sound t bins pulses h i o) j q
+  kind-sound c _ (puts i place new time w row there known most old room last few) opens =
       let s = stores t i place new time w row in
       stored-sound (named c) i place new time w row there known most old room few (binsAfter s bins) (bins-size s bins ∙ h .rows)
+      (good-after (named c) i place new time w row there known most old room few opens last)
 
   pub step-sound : (a : Arranged) → let s = stepOf t bins a in Sound (s .tables) (binsAfter s bins) (pulsesAfter s pulses)
-  step-sound a = kind-sound (a .command) (stepOf t bins a) (step-kind t bins a)
+  step-sound a = kind-sound (a .command) (stepOf t bins a) (step-kind t bins a) (step-opens t bins a)
 
 -- ---- a call
 
@@ -325,7 +286,7 @@ start-sound : (a time : Float) (oversize : Bool) (bins : List (List Float)) (pul
 start-sound a time oversize bins pulses rows records = go (isTolerance a && isTolerance time)
   where
     none : (x y : Float) (o : Bool) → Sound (empty x y o) bins pulses
-    none x y o = record { eight = refl; rows = rows; records = records; few = omega arith; each = λ j below. absurd (omega arith) }
+    none x y o = record { eight = refl; rows = rows; records = records; few = omega arith; each = λ j below. absurd (omega arith); good = λ j k below under. absurd (omega arith) }
 
     go : (b : Bool) → Sound (cond b (done (empty a time oversize)) (refused Unfit (empty nought nought false)) .tables) bins pulses
     go true = none a time oversize

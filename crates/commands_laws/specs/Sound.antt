@@ -1,15 +1,17 @@
 -- Words for the law of what our calls leave: a channel's list as it stands, and what can be reached from made tables by adding channels
 -- and shapes and by calls of commands, accepted or refused. Definitions only.
-use Prim.Native.Nat.{ℕ, _*_, _≤_, _<_}
+use Prim.Native.Nat.{ℕ, _+_, _*_, _≤_, _<_}
 use mathlib.Core.Path.{_≡_}
 use mathlib.Core.Bool.{Bool, true, _&&_}
 use mathlib.Core.List.{List, [], _∷_}
 use lib.Dec.{ltb}
 use lib.Ieee.{Float}
-use lib.ListN.{length, take, drop}
+use lib.ListN.{length, take, drop, getD}
 use Rattle.naming.specs.declared.Name.{Name}
 use Rattle.executor.specs.declared.osc.OscState.{OscState}
+use Rattle.pulse.specs.declared.bin.Bin.{Bin}
 use Rattle.pulse.specs.declared.list.Pulse.{Pulse}
+use Rattle.pulse.specs.Bin.{binOf, GoodBin}
 use Rattle.pulse.specs.Sorted.{sorted, timed}
 use Rattle.tables.specs.declared.Tables.{Tables}
 use Rattle.tables.specs.Tables.{made, withAdded, withAddedShape, channelAt}
@@ -19,6 +21,10 @@ use Rattle.commands.specs.Run.{executed}
 -- the records of the channel at a place
 abbrev pub listOf : Tables → List Pulse → ℕ → List Pulse
 listOf t pulses i = take (channelAt t i .pulses) (drop (1024 * i) pulses)
+
+-- bin k of the channel at place i: 64 places a channel
+abbrev pub binAt : List (List Float) → ℕ → ℕ → Bin
+binAt bins i k = binOf (getD bins (64 * i + k) [])
 
 -- whether every record belongs to one of so many bins
 unfoldable pub binned : ℕ → List Pulse → Bool
@@ -33,12 +39,14 @@ pub record Stands (t : Tables) (pulses : List Pulse) (i : ℕ) : Type 0 where
   pub in-time : timed (listOf t pulses i) ≡ true
   pub in-bins : binned (channelAt t i .bins) (listOf t pulses i) ≡ true
 
+-- so does every channel's, and each of its bins is as plays leave it
 pub record Sound (t : Tables) (bins : List (List Float)) (pulses : List Pulse) : Type 0 where
   pub eight : length (t .channels) ≡ 8
   pub rows : length bins ≡ 512
   pub records : length pulses ≡ 8192
   pub few : t .count ≤ 8
   pub each : (i : ℕ) → i < t .count → Stands t pulses i
+  pub good : (i k : ℕ) → i < t .count → k < channelAt t i .bins → GoodBin (binAt bins i k)
 
 -- after any run of calls, from made tables and whatever rows and records are lent
 pub data Reached : Tables → List (List Float) → List Pulse → Type 0 where

@@ -2,3 +2,4 @@ pub mod Turning
 pub mod Ways
 pub mod Accepted
 pub mod Numbers
+pub mod Twelve

@@ -1,6 +1,6 @@
--- The numbers 9 to 12 are given exactly when document 01's table says (8 is given in every other refusal: proofs/Ways.antt). Read off the ways that a
--- pulse is judged; an envelope is refused by 11, 12 or 8 only. Assumes nothing.
-use Prim.Native.Nat.{ℕ, _+_, _-_, _≤_, _<_}
+-- The numbers 9 to 11 are given exactly when document 01's table says (12: proofs/Twelve.antt; 8 is given in every other refusal: proofs/Ways.antt). Read
+-- off the ways that a pulse is judged; an envelope is refused by 11, 12 or 8 only. Assumes nothing.
+use Prim.Native.Nat.{ℕ, _-_, _≤_}
 use native.Mathlib.Omega.{arith}
 use mathlib.Core.Path.{_≡_, refl, sym, ap, _∙_}
 use mathlib.Core.Bool.{true}
@@ -17,11 +17,11 @@ use Rattle.shape.specs.Envelope.{envelopedOf, least}
 use Rattle.shape.proofs.Envelopes.{eleven, refused-by}
 use Rattle.shape.proofs.Laying.{too-short}
 use Rattle.pulse.specs.declared.bin.Bin.{Bin}
-use Rattle.pulse.specs.declared.envelope.Shape.the-variants.{Plain, Hann}
+use Rattle.pulse.specs.declared.envelope.Shape.the-variants.{Hann}
 use Rattle.pulse.specs.declared.list.Pulse.{Pulse}
 use Rattle.placing.specs.declared.Judged.{Judged}
 use Rattle.placing.specs.declared.Judged.the-variants.{Refused}
-use Rattle.placing.specs.Judged.{placedAt, countOf, measuredAt, judged}
+use Rattle.placing.specs.Judged.{placedAt, measuredAt, judged}
 use Rattle.placing.proofs.Ways.{Inside, Way, no-index, before, beyond, past, unshaped, over, plain-rest, curved-rest, flat, curved, way, way-given}
 
 module _ (s : Settings) (b : Bin) (p : Pulse) (len : ℕ) where
@@ -112,38 +112,6 @@ module _ (s : Settings) (b : Bin) (p : Pulse) (len : ℕ) where
             short = eleven (b .envelope .width .0) (b .envelope .plateau .0) (k .offset) (s .rate .0) (s .dt .0) (least (len - k .start) 65536) (m ∙ ap enveloped.Refused same);
           }
       by (over k z h e) = let z : _≡_ {A = ℕ} 0 1 = cc in absurd (omega arith)
-      by (plain-rest k z h m e) = let z : _≡_ {A = ℕ} 0 1 = cc in absurd (omega arith)
-      by (curved-rest k n z m h e) = let z : _≡_ {A = ℕ} 0 1 = cc in absurd (omega arith)
-      by (flat k z h m e) = let z : _≡_ {A = ℕ} 0 1 = cc in absurd (omega arith)
-      by (curved k n z m h e) = let z : _≡_ {A = ℕ} 0 1 = cc in absurd (omega arith)
-
-  -- ---- 12: the end is past the row; of a shape as `twelve` of shape's proofs/Twelve.antt says
-  abbrev pub Ends : Inside s b p len → Type 0
-  Ends k =
-      ((b .envelope .shape ≡ Plain) × (len < k .start + countOf s b))
-      ⊎ ((b .envelope .shape ≡ Hann) × (measuredAt s b (k .offset) (len - k .start) ≡ enveloped.Refused EndPastRow))
-
-  pub record Over : Type 0 where
-    pub at : Inside s b p len
-    pub over : Ends at
-
-  pub twelve-given : Over → judged s b p len ≡ Refused EndPastRow
-  twelve-given h = by (h .over)
-    where
-      by : Ends (h .at) → judged s b p len ≡ Refused EndPastRow
-      by (inl o) = way-given s b p len (Refused EndPastRow) (over (h .at) (o .0) (o .1) refl)
-      by (inr o) = way-given s b p len (Refused EndPastRow) (unshaped (h .at) EndPastRow (o .0) (o .1) refl)
-
-  pub only-twelve : judged s b p len ≡ Refused EndPastRow → Over
-  only-twelve e = by (way s b p len (Refused EndPastRow) e)
-    where
-      by : Way s b p len (Refused EndPastRow) → Over
-      by (no-index g e) = let z : _≡_ {A = ℕ} 0 1 = cc in absurd (omega arith)
-      by (before g e) = let z : _≡_ {A = ℕ} 0 1 = cc in absurd (omega arith)
-      by (beyond g e) = let z : _≡_ {A = ℕ} 0 1 = cc in absurd (omega arith)
-      by (past w o g h e) = let z : _≡_ {A = ℕ} 0 1 = cc in absurd (omega arith)
-      by (unshaped k r z m e) = let same : r ≡ EndPastRow = cc in record { at = k; over = inr (z, m ∙ ap enveloped.Refused same) }
-      by (over k z h e) = record { at = k; over = inl (z, h) }
       by (plain-rest k z h m e) = let z : _≡_ {A = ℕ} 0 1 = cc in absurd (omega arith)
       by (curved-rest k n z m h e) = let z : _≡_ {A = ℕ} 0 1 = cc in absurd (omega arith)
       by (flat k z h m e) = let z : _≡_ {A = ℕ} 0 1 = cc in absurd (omega arith)

@@ -156,7 +156,7 @@ least : (g : ℕ) → 0 ≤ g
 least g = omega arith
 
 -- ---- signs
-zero-size : Units nought false 0
+pub zero-size : Units nought false 0
 unfolding ofBits
 zero-size = (refl, refl)
 

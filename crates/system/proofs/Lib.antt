@@ -5,4 +5,6 @@ pub mod Numbers
 pub mod Commands
 pub mod Verdict
 pub mod Sampling
+pub mod Bins
+pub mod Twelve
 pub mod System

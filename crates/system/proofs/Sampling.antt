@@ -39,7 +39,7 @@ use Rattle.system.specs.Said.{partsOf, pulsesOf, withPulses, verdict, be
 use Rattle.system.proofs.Verdict.{fewer, bins-verdict}
 
 -- settings that fit are those of the request
-settings-are : (r : Request) (s : Settings) → fittingOf (r .rate) (r .delay) (r .level) ≡ Fit s → s ≡ settingsOf r
+pub settings-are : (r : Request) (s : Settings) → fittingOf (r .rate) (r .delay) (r .level) ≡ Fit s → s ≡ settingsOf r
 settings-are r s e = go (isRate (r .rate .0) && finite (div binary64 one (r .rate .0)) && finite (r .delay .0) && isLevel (r .level)) e
   where
     go : (b : Bool) → fitting b (r .rate) (r .delay) (r .level) ≡ Fit s → s ≡ settingsOf r
@@ -94,7 +94,7 @@ module _ (s : State) (r : Request) (c : Crosstalk) (factors : List Float) where
     fit = settings-are r (a .settings) (a .fit)
 
     -- the verdict on its pulses
-    told-so : result .answer ≡ verdict (settingsOf r) (length (s .rows .i)) (pulsesOf s r c factors) 0
+    pub told-so : result .answer ≡ verdict (settingsOf r) (length (s .rows .i)) (pulsesOf s r c factors) 0
     told-so =
         let parts = partsOf s r c factors in
         ap (λ (x : Left). x .answer) (a .is)

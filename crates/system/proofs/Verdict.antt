@@ -1,5 +1,6 @@
--- The answer of a call's pulses is the verdict on them, one after another: it depends on no sample, since adding a pulse changes no length. And a
--- pulse is refused with 8, 9, 10, 11 or 12, and no other number. Assumes nothing.
+-- The answer of a call's pulses is the verdict on them, one after another: it depends on no sample, since adding a pulse changes no length. It
+-- refuses at place k exactly where pulse k is the first that is refused. And a pulse is refused with 8, 9, 10, 11 or 12, and no other number. Assumes
+-- nothing.
 use Prim.Native.Nat.{ℕ, suc, _+_, _-_, _<_}
 use native.Mathlib.Omega.{arith}
 use mathlib.Core.Path.{_≡_, refl, sym, ap, subst, _∙_}
@@ -102,6 +103,60 @@ module _ (s : Settings) (len : ℕ) where
       go (judgement.Refused r) h = refl
       go (judgement.Plateau f) h = h
       go (judgement.Shaped f) h = h
+
+-- ---- the first pulse that is refused
+
+-- where j are added already: pulse k, and those before it are accepted
+pub record PulseAt (s : Settings) (len : ℕ) (ds : List Due) (j k : ℕ) : Type 0 where
+  pub before : List Due
+  pub this : Due
+  pub behind : List Due
+  pub are : ds ≡ before ++ (this ∷ behind)
+  pub place : j + length before ≡ k
+  pub accepted : verdict s len before j ≡ Done k
+
+module _ (s : Settings) (len : ℕ) (why : Refusal) where
+  pub record FirstRefused (ds : List Due) (j k : ℕ) : Type 0 where
+    pub pulse : PulseAt s len ds j k
+    pub refused : judged s (pulse .this .bin) (pulse .this .pulse) len ≡ judgement.Refused why
+
+  pub first-refused : (ds : List Due) (j k : ℕ) → verdict s len ds j ≡ Refused why k → FirstRefused ds j k
+  unfolding verdict
+  first-refused [] j k e = let z : _≡_ {A = ℕ} 0 1 = cc in absurd (omega arith)
+  first-refused (d ∷ ds) j k e = go (judged s (d .bin) (d .pulse) len) refl (first-refused ds (suc j) k) e
+    where
+      later : ((ys : List Due) → verdict s len (d ∷ ys) j ≡ verdict s len ys (suc j)) → FirstRefused ds (suc j) k → FirstRefused (d ∷ ds) j k
+      later passed f =
+          let p = f .pulse in
+          record {
+            pulse =
+                record {
+                  before = d ∷ p .before;
+                  this = p .this;
+                  behind = p .behind;
+                  are = ap (λ (l : List Due). d ∷ l) (p .are);
+                  place = let h = p .place in omega (arith, h);
+                  accepted = passed (p .before) ∙ p .accepted;
+                };
+            refused = f .refused;
+          }
+
+      go : (x : Judged) → judged s (d .bin) (d .pulse) len ≡ x → (verdict s len ds (suc j) ≡ Refused why k → FirstRefused ds (suc j) k) → unless x j (verdict s len ds (suc j)) ≡ Refused why k → FirstRefused (d ∷ ds) j k
+      go (judgement.Refused r) h more f =
+          let is : r ≡ why = cc in
+          let at : j ≡ k = cc in
+          record { pulse = record { before = []; this = d; behind = ds; are = refl; place = omega (arith, at); accepted = ap Done at }; refused = h ∙ ap judgement.Refused is }
+      go (judgement.Plateau x) h more f = later (λ ys. ap (λ (y : Judged). unless y j (verdict s len ys (suc j))) h) (more f)
+      go (judgement.Shaped x) h more f = later (λ ys. ap (λ (y : Judged). unless y j (verdict s len ys (suc j))) h) (more f)
+
+  pub first-told : (ds : List Due) (j k : ℕ) → FirstRefused ds j k → verdict s len ds j ≡ Refused why k
+  unfolding verdict
+  first-told ds j k f =
+      let p = f .pulse in
+      ap (λ (l : List Due). verdict s len l j) (p .are)
+      ∙ verdict-append s len (p .before) (p .this ∷ p .behind) j
+      ∙ ap (λ (a : Answer). onward s len a (verdict s len (p .this ∷ p .behind))) (p .accepted)
+      ∙ ap (λ (y : Judged). unless y k (verdict s len (p .behind) (suc k))) (f .refused)
 
 -- ---- the pulses of a bin
 module _ (s : Settings) (rows : ℕ) where

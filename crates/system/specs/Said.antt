@@ -146,7 +146,7 @@ pub record Holds (s : State) (c : Call) : Type 0 where
   pub only : (o : Outcome) → Promised s c o → o ≡ outcome s c
   pub said : AsSaid s c (outcome s c)
 
--- ---- any run: each call holds, and after it every list stands by bin and time and every count is right
+-- ---- any run: each call holds, and after it every list stands by bin and time, every count is right and every bin is as plays leave it
 unfoldable pub EveryCall : State → List Event → Type 0
 EveryCall s [] = Unit {0}
 EveryCall s (calls c ∷ more) = let u = outcome s c .after in Holds s c × Sound (u .tables) (u .bins) (u .pulses) × EveryCall u more
