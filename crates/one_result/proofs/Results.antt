@@ -72,8 +72,8 @@ pub one-print : (count : ℕ) (names : List Name) (matrix : List Float) (before 
     → Print count names matrix before r t → Print count names matrix before s u → (r ≡ s) × (t ≡ u)
 one-print count names matrix before r s t u a b = (one (a .answered) (b .answered), one (a .left) (b .left))
 
-pub one-sheet-answer : (text before : List ℕ) (r s : ℕ) (t u : List ℕ) → Answered text before r t → Answered text before s u → (r ≡ s) × (t ≡ u)
-one-sheet-answer text before r s t u a b = (one (a .count) (b .count), one (a .left) (b .left))
+pub one-sheet-answer : (text before : List ℕ) (r s : Printed) (t u : List ℕ) → Answered text before r t → Answered text before s u → (r ≡ s) × (t ≡ u)
+one-sheet-answer text before r s t u a b = (one (a .answer) (b .answer), one (a .left) (b .left))
 
 -- whether there is anything behind the key
 abbrev told : Behind → Bool

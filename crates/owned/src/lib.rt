@@ -1,12 +1,13 @@
 // The command call for a caller that owns its arrays: they come and go by value, so that such a caller is covered.
 // `execute_owned` lends arrays of structs and is proved by hand; all else is covered.
 ghost use mathlib.Core.Path.{_≡_};
-ghost use lib.ListN.{take};
-ghost use Rattle.commands.specs.Run.{ranTo, executed};
-ghost use Rattle.owned.specs.Owned.{atMost1024, executedWith};
+ghost use Rattle.commands.specs.Run.{ranTo};
+ghost use Rattle.owned.specs.Owned.{executedOwned, toRun, toldOf, executedWith};
 use commands::command::Arranged;
 use commands::execute::execute;
 use pulse::list::Pulse;
+use quant::refusal::Answer;
+use quant::refusal::Refusal;
 use tables::Tabled;
 use tables::Tables;
 
@@ -15,7 +16,7 @@ pub struct Executed {
     pub pulses: [Pulse; 8192],
 }
 
-// The first `count` commands; where `count` is over 1,024, all of them.
+// The first `count` commands. A count over 1,024 is refusal 13: then none runs, so that all stays as it came.
 pub fn execute_owned(
     t: Tables,
     commands: [Arranged; 1024],
@@ -23,29 +24,43 @@ pub fn execute_owned(
     bins: &mut [[f64; 5]],
     pulses: [Pulse; 8192],
 ) -> Executed
-    ensures { λ r. ⌜ ranTo (r .tabled) (now (bins .exit)) (r .pulses) ≡ executed t (take count commands) (now (bins .entry)) pulses ⌝ }
+    ensures { λ r. ⌜ ranTo (r .tabled) (now (bins .exit)) (r .pulses) ≡ executedOwned t commands count (now (bins .entry)) pulses ⌝ }
 {
     let mut lent = pulses;
-    let n = at_most_1024(count);
+    let n = to_run(count);
     let tabled = execute(t, &commands[..n], bins, &mut lent);
     let left = lent;
-    with_pulses(tabled, left)
+    with_pulses(count, tabled, left)
 }
 
-fn at_most_1024(count: usize) -> usize
-    ensures { λ r. ⌜ r ≡ atMost1024 count ⌝ }
+fn to_run(count: usize) -> usize
+    ensures { λ r. ⌜ r ≡ toRun count ⌝ }
 {
-    if count < 1024 {
+    if count <= 1024 {
         return count;
     }
-    1024
+    0
 }
 
-fn with_pulses(tabled: Tabled, pulses: [Pulse; 8192]) -> Executed
-    ensures { λ r. ⌜ r ≡ executedWith tabled pulses ⌝ }
+fn with_pulses(count: usize, tabled: Tabled, pulses: [Pulse; 8192]) -> Executed
+    ensures { λ r. ⌜ r ≡ executedWith count tabled pulses ⌝ }
 {
+    let told = told(count, tabled);
     Executed {
-        tabled: tabled,
+        tabled: told,
         pulses: pulses,
     }
+}
+
+fn told(count: usize, tabled: Tabled) -> Tabled
+    ensures { λ r. ⌜ r ≡ toldOf count tabled ⌝ }
+{
+    if 1024 < count {
+        let t = tabled.tables;
+        return Tabled {
+            answer: Answer::Refused(Refusal::WrongSize, 0),
+            tables: t,
+        };
+    }
+    tabled
 }

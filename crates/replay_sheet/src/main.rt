@@ -2,6 +2,7 @@
 // with a line `--`. `compare/sheet_damage` makes such a list, and what must be printed.
 ghost use mathlib.Core.Path.{_≡_};
 ghost use Prim.Native.Nat.{_<_, min};
+use sheet::print::Printed;
 
 fn main() {
     let mut text = lines::text::room();
@@ -26,8 +27,10 @@ fn each(list: &[u8]) {
 // An answer, and its end.
 fn show(text: &[u8]) {
     let mut out = [0u8; 4096];
-    let size = sheet_answer::answer(text, &mut out);
-    io::write_all(1, &out[..size]);
+    let answer = sheet_answer::answer(text, &mut out);
+    if let Printed::Bytes(size) = answer {
+        io::write_all(1, &out[..size]);
+    }
     io::write_all(1, b"--\n");
 }
 

@@ -1,6 +1,6 @@
--- A sheet's text line by line, as it is put, and how long it is. Assumes nothing.
+-- A sheet's text line by line, as it is put, and how long it is; and what its first bad line says of its names and numbers. Assumes nothing.
 use Prim.Native.Nat.{ℕ, zero, suc, _+_, _-_, _*_, _≤_, _<_}
-use mathlib.Core.Bool.{Bool, true, false, _&&_, not}
+use mathlib.Core.Bool.{Bool, true, false, _&&_, not, cond}
 use mathlib.Core.List.{List, [], _∷_, _++_, append-assoc}
 use mathlib.Core.Path.{_≡_, refl, sym, ap, _∙_}
 use native.Mathlib.Nat.{suc-mul, zero-mul}
@@ -10,7 +10,7 @@ use lib.Dec.{leb}
 use lib.Ieee.{Float, binary64, toBits, nan}
 use lib.Ieee.Scale.{finite}
 use lib.ListN.{length, getD, take, drop, length-append, length-drop}
-use lib.Seq.{append-snoc, drop-cons, drop-drop, length-take-le, take-all}
+use lib.Seq.{append-snoc, drop-cons, drop-drop, length-take-le, take-all, take-suc}
 use Rattle.hex.proofs.Number.{length-digits}
 use Rattle.hex.specs.Hex as hex
 use Rattle.naming.proofs.Named.{well-formed, length-bytes, writes}
@@ -19,11 +19,11 @@ use Rattle.naming.proofs.Words.{length-sixteen}
 use Rattle.naming.specs.Name as quant
 use Rattle.naming.specs.Name.{bytesOf, sixteen, isName}
 use Rattle.naming.specs.declared.Name.{Name}
+use Rattle.quant.specs.declared.refusal.Answer.the-variants.{Done, Refused}
 use Rattle.quant.specs.declared.refusal.Refusal.{Refusal}
 use Rattle.quant.specs.declared.refusal.Refusal.the-variants.{Malformed, WrongSize, Crosstalk}
-use Rattle.rows.specs.Rows as rows
 use Rattle.sheet.specs.Puts.{Put, nameLine, factorLine, blockText, twoLines, namesSize}
-use Rattle.sheet.specs.Sheet.{channelsKey, columnKey, rowKey, factorKey, isIn, goodNames, single, allFinite, patterns, countText, columnsText, factorsText, blocksText, blocksOf, sheetOf, sheetText, printFits, printedOf, bytesAfter, Print}
+use Rattle.sheet.specs.Sheet.{channelsKey, columnKey, rowKey, factorKey, isIn, goodNames, allFinite, patterns, countText, columnsText, factorsText, blocksText, blocksOf, sheetOf, sheetText, printFits, columnsJudged, factorAt, factorsJudged, printedBy, printedOf, bytesAfter, Print}
 use Rattle.sheet.specs.declared.print.Printed.{Printed}
 use Rattle.sheet.proofs.Parts.{part-cons}
 
@@ -69,9 +69,11 @@ module _ (names : List Name) (count : ℕ) (within : count ≤ length names) (i 
   unfolding goodNames
   good-next = rw (part-cons names count within i d h)
 
-  pub single-next : single (drop i (take count names)) ≡ (not (isIn (getD names i d) (drop (suc i) (take count names))) && single (drop (suc i) (take count names)))
-  unfolding single
-  single-next = rw (part-cons names count within i d h)
+  pub columns-next : columnsJudged (take i names) (drop i (take count names))
+      ≡ cond (not (isName (getD names i d))) (Refused Malformed (i + 2))
+      (cond (isIn (getD names i d) (take i names)) (Refused Crosstalk (i + 2)) (columnsJudged (take (suc i) names) (drop (suc i) (take count names))))
+  unfolding columnsJudged
+  columns-next = rw (part-cons names count within i d h, take-suc names i d (omega arith), length-take-le i names (omega arith))
 
   pub size-next : namesSize (drop i (take count names)) ≡ twoLines (getD names i d) + namesSize (drop (suc i) (take count names))
   unfolding namesSize
@@ -100,6 +102,11 @@ module _ (numbers : List Float) (i : ℕ) (h : i < length numbers) where
   pub finite-next : allFinite (drop i numbers) ≡ (finite (getD numbers i nan) && allFinite (drop (suc i) numbers))
   unfolding allFinite
   finite-next = rw (drop-cons numbers i nan h)
+
+  pub judged-next : (count : ℕ) → factorsJudged count i (drop i numbers)
+      ≡ cond (finite (getD numbers i nan)) (factorsJudged count (suc i) (drop (suc i) numbers)) (Refused Malformed (factorAt count i))
+  unfolding factorsJudged
+  judged-next count = rw (drop-cons numbers i nan h)
 
 -- ---- finite numbers
 
@@ -194,14 +201,40 @@ module _ (count : ℕ) (names : List Name) (matrix : List Float) (within : count
 
 -- ---- the answer
 
--- the same test, as rows of samples are judged
-pub same-finite : (l : List Float) → rows.allFinite l ≡ allFinite l
-unfolding rows.allFinite allFinite
-same-finite [] = refl
-same-finite (x ∷ l) = ap (λ (t : Bool). finite x && t) (same-finite l)
+-- columns of which no line is bad are names
+pub good-columns : (before ns : List Name) (k : ℕ) → columnsJudged before ns ≡ Done k → goodNames ns ≡ true
+unfolding columnsJudged goodNames
+good-columns before [] k e = refl
+good-columns before (n ∷ ns) k e = by (isName n) (isIn n before) e (good-columns (before ++ n ∷ []) ns k)
+  where
+    by : (t u : Bool)
+        → cond (not t) (Refused Malformed (length before + 2))
+        (cond u (Refused Crosstalk (length before + 2)) (columnsJudged (before ++ n ∷ []) ns)) ≡ Done k
+        → (columnsJudged (before ++ n ∷ []) ns ≡ Done k → goodNames ns ≡ true) → (t && goodNames ns) ≡ true
+    by false u q more = let z : _≡_ {A = ℕ} 0 1 = cc in absurd (omega arith)
+    by true true q more = let z : _≡_ {A = ℕ} 0 1 = cc in absurd (omega arith)
+    by true false q more = more q
+
+-- factors of which no line is bad are finite
+pub fine-factors : (count i : ℕ) (l : List Float) (k : ℕ) → factorsJudged count i l ≡ Done k → allFinite l ≡ true
+unfolding factorsJudged allFinite
+fine-factors count i [] k e = refl
+fine-factors count i (x ∷ l) k e = by (finite x) e (fine-factors count (suc i) l k)
+  where
+    by : (t : Bool) → cond t (factorsJudged count (suc i) l) (Refused Malformed (factorAt count i)) ≡ Done k
+        → (factorsJudged count (suc i) l ≡ Done k → allFinite l ≡ true) → (t && allFinite l) ≡ true
+    by false q more = let z : _≡_ {A = ℕ} 0 1 = cc in absurd (omega arith)
+    by true q more = more q
+
+-- and finite factors have no bad line
+pub no-bad-factor : (count i : ℕ) (l : List Float) → allFinite l ≡ true → factorsJudged count i l ≡ Done 0
+unfolding factorsJudged allFinite
+no-bad-factor count i [] e = refl
+no-bad-factor count i (x ∷ l) e = let parts = both (finite x) (allFinite l) e in rw (parts .0) (no-bad-factor count (suc i) l (parts .1))
 
 -- what `printFits` says
 pub record Sized (count : ℕ) (names : List Name) (matrix : List Float) (room : ℕ) : Type 0 where
+  pub some : 1 ≤ count
   pub most : count ≤ 8
   pub numbers : count * count ≤ length matrix
   pub text : length (sheetText (sheetOf count names matrix)) ≤ room
@@ -213,6 +246,7 @@ sized count names matrix room e =
     let middle = both _ (leb (count * count) (length matrix)) (outer .0) in
     let inner = both (leb 1 count) (leb count 8) (middle .0) in
     record {
+      some = leb-true 1 count (inner .0);
       most = leb-true count 8 (inner .1);
       numbers = leb-true (count * count) (length matrix) (middle .1);
       text = leb-true (length (sheetText (sheetOf count names matrix))) room (outer .1);
@@ -223,46 +257,23 @@ module _ (count : ℕ) (names : List Name) (matrix : List Float) (before : List 
       → after ≡ bytesAfter count names matrix r before → Print count names matrix before r after
   of-printed r after e m = record { answered = sym e; left = rw e m }
 
-  pub no-room : printFits count names matrix (length before) ≡ false → printedOf count names matrix (length before) ≡ Printed.Refused WrongSize
+  pub no-room : printFits count names matrix (length before) ≡ false → printedOf count names matrix (length before) ≡ Printed.Refused WrongSize 0
   unfolding printedOf
   no-room e = rw e
 
   module _ (e : printFits count names matrix (length before) ≡ true) where
-    pub bad-name : goodNames (take count names) ≡ false → printedOf count names matrix (length before) ≡ Printed.Refused Malformed
-    unfolding printedOf
-    bad-name g = rw (e, g)
+    pub bad-column : (r : Refusal) (line : ℕ) → columnsJudged [] (take count names) ≡ Refused r line
+        → printedOf count names matrix (length before) ≡ Printed.Refused r line
+    unfolding printedOf printedBy
+    bad-column r line g = rw (e, g)
 
-    module _ (g : goodNames (take count names) ≡ true) where
-      pub bad-number : allFinite (take (count * count) matrix) ≡ false → printedOf count names matrix (length before) ≡ Printed.Refused Malformed
-      unfolding printedOf
-      bad-number f = rw (e, g, f)
+    module _ (k : ℕ) (g : columnsJudged [] (take count names) ≡ Done k) where
+      pub bad-factor : (r : Refusal) (line : ℕ) → factorsJudged count 0 (take (count * count) matrix) ≡ Refused r line
+          → printedOf count names matrix (length before) ≡ Printed.Refused r line
+      unfolding printedOf printedBy
+      bad-factor r line f = rw (e, g, f)
 
-      module _ (f : allFinite (take (count * count) matrix) ≡ true) where
-        pub doubled : single (take count names) ≡ false → printedOf count names matrix (length before) ≡ Printed.Refused Crosstalk
-        unfolding printedOf
-        doubled d = rw (e, g, f, d)
-
-        pub printed : single (take count names) ≡ true
-            → printedOf count names matrix (length before) ≡ Printed.Bytes (length (sheetText (sheetOf count names matrix)))
-        unfolding printedOf
-        printed d = rw (e, g, f, d)
-
--- the bytes printed are within the room
-pub printed-within : (count : ℕ) (names : List Name) (matrix : List Float) (room size : ℕ) → printedOf count names matrix room ≡ Printed.Bytes size → size ≤ room
-unfolding printedOf
-printed-within count names matrix room size e =
-    by (printFits count names matrix room) refl (goodNames (take count names) && allFinite (take (count * count) matrix)) refl (single (take count names)) refl
-  where
-    never : (r : Printed) (k : Refusal) → r ≡ Printed.Bytes size → r ≡ Printed.Refused k → ⊥
-    never r k p q = let z : _≡_ {A = ℕ} 0 1 = cc in omega arith
-
-    by : (t : Bool) → printFits count names matrix room ≡ t
-        → (u : Bool) → (goodNames (take count names) && allFinite (take (count * count) matrix)) ≡ u
-        → (v : Bool) → single (take count names) ≡ v → size ≤ room
-    by false p u q v d = absurd (never (printedOf count names matrix room) WrongSize e (rw p))
-    by true p false q v d = absurd (never (printedOf count names matrix room) Malformed e (rw (p, q)))
-    by true p true q false d = absurd (never (printedOf count names matrix room) Crosstalk e (rw (p, q, d)))
-    by true p true q true d =
-        let is : printedOf count names matrix room ≡ Printed.Bytes (length (sheetText (sheetOf count names matrix))) = rw (p, q, d) in
-        let same : length (sheetText (sheetOf count names matrix)) ≡ size = cc in
-        omega (arith, sized count names matrix room p .text)
+      pub printed : (l : ℕ) → factorsJudged count 0 (take (count * count) matrix) ≡ Done l
+          → printedOf count names matrix (length before) ≡ Printed.Bytes (length (sheetText (sheetOf count names matrix)))
+      unfolding printedOf printedBy
+      printed l f = rw (e, g, f)

@@ -1,6 +1,6 @@
 -- Document 01, "The sheet": from a text to the answer, the names and the matrix; and, apart from that, a sheet as data, its text, and what
 -- printing leaves. Lines count from 1. Definitions only.
-use Prim.Native.Nat.{ℕ, suc, _+_, _-_, _*_, _^_}
+use Prim.Native.Nat.{ℕ, suc, _+_, _-_, _*_, _/_, _^_}
 use mathlib.Core.Path.{_≡_}
 use mathlib.Core.Bool.{Bool, true, false, _&&_, _||_, not, cond}
 use mathlib.Core.List.{List, [], _∷_, _++_}
@@ -329,18 +329,48 @@ printFits count names matrix room =
     && leb (count * count) (length matrix)
     && leb (length (sheetText (sheetOf count names matrix))) room
 
--- 13, then 2, then 14; else how many bytes are printed
+-- The lines of the sheet that would be printed, in reading order: the first bad one decides, and no bad one is `Done 0`.
+
+-- the columns' lines, behind the first and those of the columns `before`: 2 where a name breaks the rule, 14 where it is one of these
+unfoldable pub columnsJudged : List Name → List Name → Answer
+columnsJudged before [] = Done 0
+columnsJudged before (n ∷ ns) =
+    cond (not (isName n)) (Refused Malformed (length before + 2))
+    (cond (isIn n before) (Refused Crosstalk (length before + 2)) (columnsJudged (before ++ n ∷ []) ns))
+
+-- the line of the factor at i, from 0: the first, the columns', the `row=` lines down to its block's, and the factors' down to its own
+unfoldable pub factorAt : ℕ → ℕ → ℕ
+factorAt count i = 1 + count + (i / count + 1) + (i + 1)
+
+-- the factors' lines from the one at i on: 2 where a number is not finite; a `row=` line is never bad, since it names a column
+unfoldable pub factorsJudged : ℕ → ℕ → List Float → Answer
+factorsJudged count i [] = Done 0
+factorsJudged count i (x ∷ xs) = cond (finite x) (factorsJudged count (suc i) xs) (Refused Malformed (factorAt count i))
+
+-- how many bytes are printed, or the first bad line of the columns', then of the factors'
+unfoldable pub printedBy : Answer → Answer → ℕ → Printed
+printedBy (Refused r line) factors size = Printed.Refused r line
+printedBy (Done k) (Refused r line) size = Printed.Refused r line
+printedBy (Done k) (Done l) size = Printed.Bytes size
+
+-- 13, then the lines in reading order; else how many bytes are printed
 unfoldable pub printedOf : ℕ → List Name → List Float → ℕ → Printed
 printedOf count names matrix room =
-    cond (not (printFits count names matrix room)) (Printed.Refused WrongSize)
-    (cond (not (goodNames (take count names) && allFinite (take (count * count) matrix))) (Printed.Refused Malformed)
-    (cond (not (single (take count names))) (Printed.Refused Crosstalk)
-    (Printed.Bytes (length (sheetText (sheetOf count names matrix))))))
+    cond (not (printFits count names matrix room)) (Printed.Refused WrongSize 0)
+    (printedBy
+    (columnsJudged [] (take count names))
+    (factorsJudged count 0 (take (count * count) matrix))
+    (length (sheetText (sheetOf count names matrix))))
+
+-- document 01's answer: "A refusal returns its number and a place: .. the sheet's line from 1 (0 for 13)"; printed, 0, as "elsewhere"
+abbrev pub printedAnswer : Printed → Answer
+printedAnswer (Printed.Bytes size) = Done 0
+printedAnswer (Printed.Refused r line) = Refused r line
 
 -- the bytes afterwards: the sheet's text, and the rest stays; as they came where printing is refused
 unfoldable pub bytesAfter : ℕ → List Name → List Float → Printed → List ℕ → List ℕ
 bytesAfter count names matrix (Printed.Bytes size) before = sheetText (sheetOf count names matrix) ++ drop size before
-bytesAfter count names matrix (Printed.Refused r) before = before
+bytesAfter count names matrix (Printed.Refused r line) before = before
 
 -- what `print` answers and leaves
 pub record Print (count : ℕ) (names : List Name) (matrix : List Float) (before : List ℕ) (r : Printed) (after : List ℕ) : Type 0 where

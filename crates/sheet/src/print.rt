@@ -1,20 +1,22 @@
 // A sheet printed, with its rows in column order.
+ghost use mathlib.Core.List.{[]};
 ghost use mathlib.Core.Path.{_≡_};
-ghost use Prim.Native.Nat.{_+_, _*_, _≤_};
-ghost use lib.ListN.{take};
-ghost use Rattle.sheet.specs.Sheet.{Print, goodNames, single, printFits};
+ghost use Prim.Native.Nat.{_+_, _*_, _<_, _≤_};
+ghost use lib.ListN.{length, take};
+ghost use Rattle.sheet.specs.Sheet.{Print, columnsJudged, factorAt, factorsJudged, printFits};
 ghost use Rattle.sheet.specs.Puts.{twoLines, namesSize};
 use super::names::stands_in;
 use super::put::put_sheet;
+use ieee::finite::is_finite;
 use naming::Name;
 use naming::is_name;
+use quant::refusal::Answer;
 use quant::refusal::Refusal;
-use rows::all_finite;
 
-// How many bytes were printed, or the refusal. Refused, the bytes stay as they came.
+// How many bytes were printed; or the refusal, and the line that would be bad, 0 for 13. Refused, the bytes stay as they came.
 pub enum Printed {
     Bytes(usize),
-    Refused(Refusal),
+    Refused(Refusal, usize),
 }
 
 // Prints the first `count` names and the first count * count numbers.
@@ -22,16 +24,15 @@ pub fn print(count: usize, names: [Name; 8], matrix: &[f64], out: &mut [u8]) -> 
     ensures { λ r. ⌜ Print count names (now (matrix .entry)) (now (out .entry)) r (now (out .exit)) ⌝ }
 {
     if !sizes_fit(count, names, matrix, out.len()) {
-        return Printed::Refused(Refusal::WrongSize);
+        return Printed::Refused(Refusal::WrongSize, 0);
     }
-    if !names_fit(names, count) {
-        return Printed::Refused(Refusal::Malformed);
+    let columns = columns_judged(names, count);
+    if let Answer::Refused(r, line) = columns {
+        return Printed::Refused(r, line);
     }
-    if !all_finite(&matrix[..count * count]) {
-        return Printed::Refused(Refusal::Malformed);
-    }
-    if !singles(names, count) {
-        return Printed::Refused(Refusal::Crosstalk);
+    let factors = factors_judged(count, &matrix[..count * count]);
+    if let Answer::Refused(r, line) = factors {
+        return Printed::Refused(r, line);
     }
     Printed::Bytes(put_sheet(count, names, matrix, out))
 }
@@ -74,31 +75,44 @@ fn two_lines(n: Name) -> usize
     13 + 2 * n.len
 }
 
-fn names_fit(names: [Name; 8], count: usize) -> bool
+// The first bad line among the columns'.
+fn columns_judged(names: [Name; 8], count: usize) -> Answer
     requires { ⌜ count ≤ 8 ⌝ }
-    ensures { λ r. ⌜ r ≡ goodNames (take count names) ⌝ }
+    ensures { λ r. ⌜ r ≡ columnsJudged [] (take count names) ⌝ }
 {
-    let mut i: usize = 0;
-    while i < count {
-        if !is_name(names[i]) {
-            return false;
+    let mut k: usize = 0;
+    while k < count {
+        let line = k + 2;
+        if !is_name(names[k]) {
+            return Answer::Refused(Refusal::Malformed, line);
         }
-        i += 1;
+        if stands_in(names[k], names, 0, k) {
+            return Answer::Refused(Refusal::Crosstalk, line);
+        }
+        k += 1;
     }
-    true
+    Answer::Done(0)
 }
 
-// Whether none of the names stands again behind itself.
-fn singles(names: [Name; 8], count: usize) -> bool
-    requires { ⌜ count ≤ 8 ⌝ }
-    ensures { λ r. ⌜ r ≡ single (take count names) ⌝ }
+// The first bad line among the factors'.
+fn factors_judged(count: usize, numbers: &[f64]) -> Answer
+    requires { ⌜ (1 ≤ count) × (count ≤ 8) × (length (now numbers) ≤ 64) ⌝ }
+    ensures { λ r. ⌜ r ≡ factorsJudged count 0 (now (numbers .entry)) ⌝ }
 {
     let mut i: usize = 0;
-    while i < count {
-        if stands_in(names[i], names, i + 1, count) {
-            return false;
+    while i < numbers.len() {
+        if !is_finite(numbers[i]) {
+            return Answer::Refused(Refusal::Malformed, factor_at(count, i));
         }
         i += 1;
     }
-    true
+    Answer::Done(0)
+}
+
+// The line of the factor at i, from 0.
+fn factor_at(count: usize, i: usize) -> usize
+    requires { ⌜ (1 ≤ count) × (count ≤ 8) × (i < 64) ⌝ }
+    ensures { λ r. ⌜ r ≡ factorAt count i ⌝ }
+{
+    1 + count + (i / count + 1) + (i + 1)
 }

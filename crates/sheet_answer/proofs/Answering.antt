@@ -13,41 +13,47 @@ use lib.ListN.{length, drop, length-append}
 use Rattle.naming.specs.declared.Name.{Name}
 use Rattle.quant.specs.declared.refusal.Answer.the-variants.{Done, Refused}
 use Rattle.quant.specs.declared.refusal.Refusal.{Refusal}
+use Rattle.quant.specs.declared.refusal.Refusal.the-variants.{WrongSize}
 use Rattle.sheet.specs.Sheet.{SoFar, Outcome, accepts, refuses, outcome, answerOf, namesOf, matrixOf, Read, sheetOf, sheetText, printedOf, bytesAfter, Print}
 use Rattle.sheet.specs.declared.print.Printed.{Printed}
 use Rattle.sheet.specs.declared.read.Reading.{Reading}
 use Rattle.sheet_laws.specs.Words.{countIn, textPrinted, printAnswers}
 use Rattle.sheet_laws.proofs.Laws.{printed-back}
 use Rattle.sheet.specs.Puts.{Put}
-use Rattle.sheet_answer.specs.Answer.{refusedText, zeros, textFor, answerText, answerSize, answerLeft, Answered}
+use Rattle.sheet_answer.specs.Answer.{refusedText, zeros, textFor, answerText, answerPrints, answerLeft, Answered}
 
 -- ---- with too little room
 
-pub no-room : (text before : List ℕ) → length before < 4096 → Answered text before 0 before
-unfolding answerSize answerLeft
-no-room text before h = record { count = rw (lt-ltb (length before) 4096 h); left = rw (lt-ltb (length before) 4096 h) }
+pub no-room : (text before : List ℕ) → length before < 4096 → Answered text before (Printed.Refused WrongSize 0) before
+unfolding answerPrints answerLeft
+no-room text before h = record { answer = rw (lt-ltb (length before) 4096 h); left = rw (lt-ltb (length before) 4096 h) }
 
 -- ---- with room
 
 pub answered : (text before bytes : List ℕ) (r : ℕ) (after : List ℕ) → 4096 ≤ length before → answerText text ≡ bytes → Put bytes before 0 r after
-    → Answered text before r after
-unfolding answerSize answerLeft
+    → Answered text before (Printed.Bytes r) after
+unfolding answerPrints answerLeft
 answered text before bytes r after room is put =
     record {
-      count = rw (le-ltb (length before) 4096 room, is) (put .next ∙ zero-add (length bytes));
+      answer = rw (le-ltb (length before) 4096 room, is) (ap Printed.Bytes (put .next ∙ zero-add (length bytes)));
       left = rw (le-ltb (length before) 4096 room, is) (put .left ∙ ap (λ (n : ℕ). bytes ++ drop n before) (zero-add (length bytes)));
     }
 
 -- the bytes answered are within the room, since the list keeps its length
-pub within : (text before : List ℕ) (r : ℕ) (after : List ℕ) → Answered text before r after → length after ≡ length before → r ≤ length after
-unfolding answerSize answerLeft
-within text before r after a same = by (ltb (length before) 4096) refl
+pub within : (text before : List ℕ) (r : Printed) (size : ℕ) (after : List ℕ) → Answered text before r after → r ≡ Printed.Bytes size
+    → length after ≡ length before → size ≤ length after
+unfolding answerPrints answerLeft
+within text before r size after a is same = by (ltb (length before) 4096) refl
   where
-    by : (t : Bool) → ltb (length before) 4096 ≡ t → r ≤ length after
-    by true e = let none : r ≡ 0 = a .count ∙ rw e in omega arith
+    by : (t : Bool) → ltb (length before) 4096 ≡ t → size ≤ length after
+    by true e =
+        let none : r ≡ Printed.Refused WrongSize 0 = a .answer ∙ rw e in
+        let z : _≡_ {A = ℕ} 0 1 = cc in
+        omega arith
     by false e =
         let bytes : List ℕ = answerText text in
-        let size : r ≡ length bytes = a .count ∙ rw e in
+        let all : r ≡ Printed.Bytes (length bytes) = a .answer ∙ rw e in
+        let sizes : size ≡ length bytes = cc in
         let left : after ≡ bytes ++ drop (length bytes) before = a .left ∙ rw e in
         let long : length after ≡ length bytes + length (drop (length bytes) before) = ap length left ∙ length-append bytes (drop (length bytes) before) in
         omega arith
@@ -111,9 +117,9 @@ module _ (count : ℕ) (names : List Name) (matrix : List Float) (before : List 
             ∙ ap (λ (n : ℕ). text ++ drop n before) (sym (zero-add (length text)));
       }
 
-  pub not-refused : (why : Refusal) → printedOf count names matrix (length before) ≡ Printed.Bytes (length text) → r ≡ Printed.Refused why
+  pub not-refused : (why : Refusal) (line : ℕ) → printedOf count names matrix (length before) ≡ Printed.Bytes (length text) → r ≡ Printed.Refused why line
       → Print count names matrix before r after → ⊥
-  not-refused why fits is p =
-      let same : Printed.Refused why ≡ Printed.Bytes (length text) = sym is ∙ p .answered ∙ fits in
+  not-refused why line fits is p =
+      let same : Printed.Refused why line ≡ Printed.Bytes (length text) = sym is ∙ p .answered ∙ fits in
       let z : _≡_ {A = ℕ} 0 1 = cc in
       omega arith

@@ -10,6 +10,8 @@ use lib.ListN.{length, drop, replicate}
 use Rattle.exact.specs.Doubles.{nought}
 use Rattle.quant.specs.Refusal.{numberOf}
 use Rattle.quant.specs.declared.refusal.Refusal.{Refusal}
+use Rattle.quant.specs.declared.refusal.Refusal.the-variants.{WrongSize}
+use Rattle.sheet.specs.declared.print.Printed.{Printed}
 use Rattle.sheet.specs.Sheet.{Outcome, accepts, refuses, outcome, namesOf, matrixOf, sheetOf, sheetText}
 
 -- ---- a number in decimal
@@ -51,14 +53,14 @@ answerText text = textFor (outcome text 64)
 
 -- ---- what `answer` answers and leaves
 
--- with less room than 4,096 bytes nothing, and the bytes stay as they came
-unfoldable pub answerSize : List ℕ → ℕ → ℕ
-answerSize text room = cond (ltb room 4096) 0 (length (answerText text))
+-- how many bytes are put; with less room than 4,096 bytes 13, at place 0, and the bytes stay as they came
+unfoldable pub answerPrints : List ℕ → ℕ → Printed
+answerPrints text room = cond (ltb room 4096) (Printed.Refused WrongSize 0) (Printed.Bytes (length (answerText text)))
 
 -- the bytes afterwards: what is printed, and the rest stays
 unfoldable pub answerLeft : List ℕ → List ℕ → List ℕ
 answerLeft text before = cond (ltb (length before) 4096) before (answerText text ++ drop (length (answerText text)) before)
 
-pub record Answered (text before : List ℕ) (r : ℕ) (after : List ℕ) : Type 0 where
-  pub count : r ≡ answerSize text (length before)
+pub record Answered (text before : List ℕ) (r : Printed) (after : List ℕ) : Type 0 where
+  pub answer : r ≡ answerPrints text (length before)
   pub left : after ≡ answerLeft text before

@@ -19,12 +19,12 @@ use sheet::read::read;
 
 pub mod put;
 
-// Puts what is printed at the start of `out`, and answers how many bytes it is. With less room than 4,096 bytes it puts nothing and answers 0.
-pub fn answer(text: &[u8], out: &mut [u8]) -> usize
+// Puts what is printed at the start of `out`, and answers how many bytes it is. With less room than 4,096 bytes: 13, and the bytes stay.
+pub fn answer(text: &[u8], out: &mut [u8]) -> Printed
     ensures { λ r. ⌜ Answered (now (text .entry)) (now (out .entry)) r (now (out .exit)) ⌝ }
 {
     if out.len() < 4096 {
-        return 0;
+        return Printed::Refused(Refusal::WrongSize, 0);
     }
     let mut matrix = [0.0f64; 64];
     let reading = read(text, &mut matrix);
@@ -32,9 +32,9 @@ pub fn answer(text: &[u8], out: &mut [u8]) -> usize
     match answer {
         Answer::Done(count) => {
             let names = reading.names;
-            sheet_back(count, names, &matrix, out)
+            Printed::Bytes(sheet_back(count, names, &matrix, out))
         }
-        Answer::Refused(r, line) => refused(r, line, out),
+        Answer::Refused(r, line) => Printed::Bytes(refused(r, line, out)),
     }
 }
 
@@ -45,7 +45,7 @@ fn sheet_back(count: usize, names: [Name; 8], matrix: &[f64], out: &mut [u8]) ->
 {
     match print(count, names, matrix, out) {
         Printed::Bytes(size) => size,
-        Printed::Refused(_) => 0,
+        Printed::Refused(_, _) => 0,
     }
 }
 

@@ -12,18 +12,22 @@ use lib.Ieee.{Float, binary64, ofBits}
 use lib.Ieee.Bits.{toBits-ofBits}
 use lib.Ieee.Scale.{finite}
 use lib.ListN.{length, take, drop, replicate, length-append}
-use lib.Seq.{take-at, drop-at}
+use lib.Seq.{append-snoc, take-at, drop-at}
 use Rattle.exact.proofs.Naturals.{below-or}
+use Rattle.naming.specs.Name.{isName}
 use Rattle.naming.specs.declared.Name.{Name}
+use Rattle.quant.specs.declared.refusal.Answer.the-variants.{Done}
 use Rattle.quant.specs.declared.refusal.Refusal.the-variants.{WrongSize}
 use Rattle.exact.proofs.Truth.{both, number-if-finite}
 use Rattle.sheet.specs.declared.print.Printed.{Printed}
-use Rattle.sheet.specs.Sheet.{cut, SoFar, nothing, Outcome, accepts, refuses, readFrom, outcome, answerOf, blank, eight, namesOf, doubles, under, rowsFor, matrixOf, Block, Sheet, finiteBits, WellFormed, sheetText, patterns, blocksOf, sheetOf, allFinite, printFits, printedOf, bytesAfter}
+use Rattle.sheet.specs.Sheet.{cut, SoFar, nothing, Outcome, accepts, refuses, readFrom, outcome, answerOf, blank, eight, namesOf, doubles, under, rowsFor, matrixOf, Block, Sheet, goodNames, single, finiteBits, WellFormed, sheetText, patterns, blocksOf, sheetOf, allFinite, printFits, columnsJudged, printedBy, printedOf, bytesAfter}
 use Rattle.sheet.proofs.Filling.{doubles-long, doubles-append}
+use Rattle.sheet.proofs.Printing.{no-bad-factor}
 use Rattle.sheet_laws.specs.Words.{In, here, there, contents, Reads, countIn, textPrinted, printAnswers, printLeaves, ReadAlike, PrintedBack}
 use Rattle.sheet_laws.proofs.Accepted.{accepted, sheet-long}
 use Rattle.sheet_laws.proofs.Arranged.{ordered, arranged, arranged-formed, arranged-matrix, fine, in-order}
 use Rattle.sheet_laws.proofs.Factors.{eight-are, rows-long, wide}
+use Rattle.sheet_laws.proofs.Names.{fresh}
 
 -- ---- doubles and their bits
 
@@ -69,6 +73,16 @@ module _ (t : SoFar) (count : ℕ) where
   rows-finite [] fine = refl
   rows-finite (n ∷ ns) fine = all-finite (under t n) (rowsFor t ns) (fine n here) (rows-finite ns (λ m h. fine m (there h)))
 
+-- ---- lines that are not bad
+
+-- names that follow the rule, none of them doubled
+no-bad-column : (before ns : List Name) → goodNames ns ≡ true → single (before ++ ns) ≡ true → columnsJudged before ns ≡ Done 0
+unfolding columnsJudged goodNames
+no-bad-column before [] good one = refl
+no-bad-column before (n ∷ ns) good one =
+    let goods = both (isName n) (goodNames ns) good in
+    rw (goods .0, fresh n before ns one) (no-bad-column (before ++ n ∷ []) ns (goods .1) (rw (append-snoc before n ns) one))
+
 -- ---- what is printed
 
 module _ (s : Sheet) (w : WellFormed s) where
@@ -90,7 +104,7 @@ module _ (s : Sheet) (w : WellFormed s) where
 
   pub prints : (before : List Float) (room : ℕ) → length (sheetText (arranged s)) ≤ room
       → printedOf N (namesOf (accepts (contents s))) (matrixOf (accepts (contents s)) before) room ≡ Printed.Bytes (length (sheetText (arranged s)))
-  unfolding printedOf printFits namesOf matrixOf contents
+  unfolding printedOf printedBy printFits namesOf matrixOf contents
   prints before room fits =
       let rows = doubles (rowsFor (contents s) (s .columns)) in
       let long : length rows ≡ N * N = doubles-long (rowsFor (contents s) (s .columns)) ∙ rows-long (contents s) N (s .columns) (wide s w) in
@@ -102,10 +116,9 @@ module _ (s : Sheet) (w : WellFormed s) where
         le-leb (N * N) (length (rows ++ drop (N * N) before)) enough,
         le-leb (length (sheetText (arranged s))) room fits,
         names-back,
-        w .names,
+        no-bad-column [] (s .columns) (w .names) (w .singleColumns),
         take-at rows (drop (N * N) before) (N * N) long,
-        rows-finite (contents s) N (s .columns) (fine s w),
-        w .singleColumns,
+        no-bad-factor N 0 rows (rows-finite (contents s) N (s .columns) (fine s w)),
       )
 
 -- ---- read, printed, read again

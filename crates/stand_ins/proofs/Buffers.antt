@@ -5,7 +5,7 @@ use mathlib.Core.Bool.{Bool}
 use mathlib.Core.List.{List, []}
 use lib.Dec.{eqb}
 use lib.Ieee.{Float, nan, add, sub, mul, div, rem, neg, lt, eq, le, sum, round, ofBits, ofInt}
-use lib.ListN.{length, getD, take}
+use lib.ListN.{length, getD}
 use Rattle.exact.specs.Doubles.{nought, one}
 use Rattle.ieee.specs.Ceiling.{ceiling}
 use Rattle.ieee.specs.Cut.{cutOf}
@@ -48,15 +48,13 @@ use Rattle.commands.specs.Command.{good, required}
 use Rattle.commands.specs.Run as run
 use Rattle.sampler.specs.Sampler.{sampled}
 use Rattle.sampler_laws.specs.Added.{countIn}
-use Rattle.system.specs.System.{Outcome, outcome}
 use Rattle.system.specs.System as system
-use Rattle.system.proofs.Promised as promised
-use Rattle.stand_ins.specs.Whole.{anything, answerOf, iq-numbers, offset-numbers, iir-numbers, fir-numbers, bin-alone, bin-pair, pulse-alone, pulse-pair, pulse-of-each}
+use Rattle.stand_ins.specs.Whole.{anything, iq-numbers, offset-numbers, iir-numbers, fir-numbers, bin-alone, bin-pair, pulse-alone, pulse-pair, pulse-of-each}
 use Rattle.stand_ins.specs.ByValue.{always, partsFor}
 use Rattle.stand_ins.specs.Buffers as lent
 use Rattle.stand_ins.specs.Inputs as given
 use Rattle.stand_ins.specs.Table.{itself, stepLeft, stepCame, bothLeft, mixedLeft, mixedCame, firstSummed, firstMixed, firstBinMixed, Buffers}
-use Rattle.stand_ins.proofs.StandIns.{Only, not-all-refused, not-always, not-fixed, isTwo, both-rows-move, varies}
+use Rattle.stand_ins.proofs.StandIns.{Only, not-all-refused, not-always, not-fixed, isTwo, both-rows-move, accepts, varies}
 
 -- ---- the one outcome that a promise of several equations allows
 
@@ -130,13 +128,6 @@ mixed x = record { out = lent.mixedFor x; work = x .work; marks = x .marks }
 only-mixed : (x : lent.Mixing) → Only lent.mix-lists x (mixed x)
 only-mixed x z p = λ j. record { out = p .0 j; work = p .1 .0 j; marks = p .1 .1 j }
 
--- of commands
-abbrev ranOwned : lent.Owning → Outcome
-ranOwned x = outcome (x .state) (system.execute (take (x .count) (x .commands)))
-
-only-owned : (x : lent.Owning) → Only lent.execute-owned x (ranOwned x)
-only-owned x o p = promised.only (x .state) (system.execute (take (x .count) (x .commands))) o p
-
 -- ---- the tests
 
 isOne : Answer → Bool
@@ -150,7 +141,7 @@ twoEnd : Gathered → Bool
 twoEnd g = eqb (getD (g .ends .ends) 0 0) 2
 
 pub buffers : Buffers
-unfolding isOne isOneRow twoEnd isTwo mixedDown endsFit runsForFrom pulsesIn pickedFrom passed over inOne endsFrom outcome add sub mul div rem neg lt eq le sum round ofBits ofInt ceiling cutOf exp2Of fma wrapped reduced horner cosineAt sineAt cosineOf sineOf allFinite nameByte every lowBytes bytesOfWord sixteen bytesOf pastEnd isName sameName mixedRow raisedRow ran sectionsFrom finiteSections given pipelined turns doubled tapAt sumTo filteredFrom points values indexAt partedOf shapeOf finitePoints hannOf sameRow placeOf envelopeOf phase0 dphase startPair rotationPair phaseNumbers judged foundFrom isIn settled settledShape keptFrom summedBy joined joinedTwo packed zipped allNames doubledFrom allKnown rowFrom partOf partsAt planned onPart carried shaped ofMark allRows firstsAfter good required run.acted run.ran ranPulses ranBins sampled
+unfolding isOne isOneRow twoEnd isTwo mixedDown endsFit runsForFrom pulsesIn pickedFrom passed over inOne endsFrom add sub mul div rem neg lt eq le sum round ofBits ofInt ceiling cutOf exp2Of fma wrapped reduced horner cosineAt sineAt cosineOf sineOf allFinite nameByte every lowBytes bytesOfWord sixteen bytesOf pastEnd isName sameName mixedRow raisedRow ran sectionsFrom finiteSections given pipelined turns doubled tapAt sumTo filteredFrom points values indexAt partedOf shapeOf finitePoints hannOf sameRow placeOf envelopeOf phase0 dphase startPair rotationPair phaseNumbers judged foundFrom isIn settled settledShape keptFrom summedBy joined joinedTwo packed zipped allNames doubledFrom allKnown rowFrom partOf partsAt planned onPart carried shaped ofMark allRows firstsAfter good required run.acted run.ran ranPulses ranBins sampled
 buffers =
     record {
       iq-c = not-all-refused lent.iq-c _ _ (only-iq (given.stepping iq-numbers 1)) refl;
@@ -159,7 +150,7 @@ buffers =
       fir-c = not-all-refused lent.fir-c _ _ (only-fir (given.stepping fir-numbers 1)) refl;
       envelope = not-all-refused lent.envelope _ _ (only-points given.laying) refl;
       mix-lists = not-all-refused lent.mix-lists _ _ (only-mixed (given.mixing 1 bin-alone pulse-alone)) refl;
-      execute-owned = not-all-refused lent.execute-owned _ _ (only-owned (given.owning 1)) refl;
+      execute-owned = accepts _ lent.isRun (given.owning 1) refl;
       iq-moves = both-rows-move lent.iq-c stepLeft stepCame _ _ _ _ (only-iq (given.stepping iq-numbers 1)) (only-iq (given.stepping iq-numbers 0)) refl refl refl refl refl refl refl refl refl refl;
       offset-moves = both-rows-move lent.offset-c stepLeft stepCame _ _ _ _ (only-offset (given.stepping offset-numbers 1)) (only-offset (given.stepping offset-numbers 0)) refl refl refl refl refl refl refl refl refl refl;
       iir-moves = both-rows-move lent.iir-c stepLeft stepCame _ _ _ _ (only-iir (given.stepping iir-numbers 1)) (only-iir (given.stepping iir-numbers 0)) refl refl refl refl refl refl refl refl refl refl;
@@ -173,6 +164,6 @@ buffers =
       first-summed = not-always lent.sum-lists itself firstSummed twoEnd (given.summing bin-alone pulse-pair) _ (λ z p. p) refl refl refl;
       first-mixed = not-always lent.mix-lists (λ (y : lent.Mixed). y .out .left) firstMixed (λ (r : Rowed). isTwo (r .i)) _ _ (only-mixed (given.mixing 0 bin-alone pulse-pair)) refl refl refl;
       first-bin-mixed = not-always lent.mix-lists (λ (y : lent.Mixed). y .out .left) firstBinMixed (λ (r : Rowed). isTwo (r .i)) _ _ (only-mixed (given.mixing 0 bin-pair pulse-of-each)) refl refl refl;
-      commands-counted = not-fixed lent.execute-owned answerOf anything isOne _ _ _ _ (only-owned (given.owning 1)) (only-owned (given.owning 0)) refl refl refl refl refl;
+      commands-counted = varies _ lent.isRun (λ (y : run.Ran). y .result .answer) anything isOne (given.owning 1) (given.owning 0) refl refl refl refl refl;
       pulses-counted = not-fixed lent.mix-lists (λ (y : lent.Mixed). y .out .answer) anything isOne _ _ _ _ (only-mixed (given.mixing 0 bin-alone pulse-alone)) (only-mixed (given.mixing 0 bin-alone pulse-pair)) refl refl refl refl refl;
     }

@@ -101,5 +101,5 @@ module _ {M : Type 1} (𝓤 : URA M) (H : Heap 𝓤) (A : Atoms 𝓤) (mem : Mem
   pub sheet-print-says : Says 𝓤 sheet-print.ended (sheet-print.clauses 𝓤 H A mem run) (λ κs a r e. call.sheet-print .Promise (record { count = a .0; names = a .1 .0; matrix = now (a .1 .1 .0); out = now (a .1 .1 .1 .0) }) (record { printed = r; out = now (e .1 .1 .1 .0) }))
   sheet-print-says κs a g r e = (refl, refl)
 
-  pub sheet-answer-says : Says 𝓤 sheet-answer.ended (sheet-answer.clauses 𝓤 H A mem run) (λ κs a r e. call.sheet-answer .Promise (record { text = now (a .0); out = now (a .1 .0) }) (record { count = r; out = now (e .1 .0) }))
+  pub sheet-answer-says : Says 𝓤 sheet-answer.ended (sheet-answer.clauses 𝓤 H A mem run) (λ κs a r e. call.sheet-answer .Promise (record { text = now (a .0); out = now (a .1 .0) }) (record { printed = r; out = now (e .1 .0) }))
   sheet-answer-says κs a g r e = (refl, refl)

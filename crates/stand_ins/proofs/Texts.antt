@@ -71,11 +71,11 @@ module _ (n : ℕ) where
   only-print : Only text.sheet-print (given.printing n) put
   only-print z p = λ j. record { printed = p .answered j; out = p .left j }
 
-  abbrev answered : text.Bytes
-  answered = record { count = answer.answerSize (given.sheet-text n) 4096; out = answer.answerLeft (given.sheet-text n) (replicate 4096 0) }
+  abbrev answered : text.Out
+  answered = record { printed = answer.answerPrints (given.sheet-text n) 4096; out = answer.answerLeft (given.sheet-text n) (replicate 4096 0) }
 
   only-answer : Only text.sheet-answer (given.answering n) answered
-  only-answer z p = λ j. record { count = p .count j; out = p .left j }
+  only-answer z p = λ j. record { printed = p .answer j; out = p .left j }
 
 -- something stands behind the key, so that the place is told
 isBehind : sheet.Behind → Bool
@@ -93,10 +93,10 @@ isOne n = eqb n 1
 
 isShort : Printed → Bool
 isShort (Bytes n) = eqb n 50
-isShort (Refused r) = false
+isShort (Refused r line) = false
 
 pub texts : Texts
-unfolding isOne isShort ofBits round toBits hex.digitValue hex.digitOf hex.allDigits hex.number hex.digits hex.room hex.field hex.wordAt hex.written numberAt name.nameByte name.every name.accepted name.wordOf name.lowBytes name.bytesOfWord name.sixteen name.bytesOf name.pastEnd name.named name.namingOf name.isName name.inPlace name.sameName name.writable name.written number.parted number.significandOf number.powerOf number.scaledBy number.sizeOf number.decimalOf number.numberOf digits.placeOf digits.isFigure digits.digitsFrom digits.digitsOf value.numberField value.wholeField value.pairField value.nameOf value.nameField value.shapeField value.flagOf value.flagField value.signed value.levelOf value.levelField wordsOf isWord line.tablesOf line.channelOf line.shapeOf line.rowsOf line.sampleOf line.actionOf line.settingOf line.lineOf turnOf numbersOf sheet.channelsKey sheet.columnKey sheet.rowKey sheet.factorKey sheet.onto sheet.cut sheet.behind sheet.isIn sheet.position sheet.nothing sheet.countStep sheet.columnNamed sheet.columnStep sheet.rowNamed sheet.rowStep sheet.factorBits sheet.factorStep sheet.step sheet.complete sheet.onward sheet.readFrom sheet.outcome sheet.answerOf sheet.blank sheet.eight sheet.namesOf sheet.doubles sheet.under sheet.rowsFor sheet.matrixOf sheet.rowNames sheet.goodNames sheet.single sheet.among sheet.finiteBits sheet.fullBlocks sheet.countText sheet.columnsText sheet.factorsText sheet.blocksText sheet.sheetText sheet.patterns sheet.blocksOf sheet.sheetOf sheet.allFinite sheet.printFits sheet.printedOf sheet.bytesAfter answer.decimalOf answer.decimal answer.refusedKey answer.lineKey answer.refusedText answer.zeros answer.textFor answer.answerText answer.answerSize answer.answerLeft
+unfolding isOne isShort ofBits round toBits hex.digitValue hex.digitOf hex.allDigits hex.number hex.digits hex.room hex.field hex.wordAt hex.written numberAt name.nameByte name.every name.accepted name.wordOf name.lowBytes name.bytesOfWord name.sixteen name.bytesOf name.pastEnd name.named name.namingOf name.isName name.inPlace name.sameName name.writable name.written number.parted number.significandOf number.powerOf number.scaledBy number.sizeOf number.decimalOf number.numberOf digits.placeOf digits.isFigure digits.digitsFrom digits.digitsOf value.numberField value.wholeField value.pairField value.nameOf value.nameField value.shapeField value.flagOf value.flagField value.signed value.levelOf value.levelField wordsOf isWord line.tablesOf line.channelOf line.shapeOf line.rowsOf line.sampleOf line.actionOf line.settingOf line.lineOf turnOf numbersOf sheet.channelsKey sheet.columnKey sheet.rowKey sheet.factorKey sheet.onto sheet.cut sheet.behind sheet.isIn sheet.position sheet.nothing sheet.countStep sheet.columnNamed sheet.columnStep sheet.rowNamed sheet.rowStep sheet.factorBits sheet.factorStep sheet.step sheet.complete sheet.onward sheet.readFrom sheet.outcome sheet.answerOf sheet.blank sheet.eight sheet.namesOf sheet.doubles sheet.under sheet.rowsFor sheet.matrixOf sheet.rowNames sheet.goodNames sheet.single sheet.among sheet.finiteBits sheet.fullBlocks sheet.countText sheet.columnsText sheet.factorsText sheet.blocksText sheet.sheetText sheet.patterns sheet.blocksOf sheet.sheetOf sheet.allFinite sheet.printFits sheet.columnsJudged sheet.factorAt sheet.factorsJudged sheet.printedBy sheet.printedOf sheet.bytesAfter answer.decimalOf answer.decimal answer.refusedKey answer.lineKey answer.refusedText answer.zeros answer.textFor answer.answerText answer.answerPrints answer.answerLeft
 texts =
     record {
       hex-read = accepts _ text.isWord (given.first given.sixteen-digits) refl;
@@ -124,5 +124,5 @@ texts =
       numbers-counted = not-fixed text.list-numbers (λ (y : text.Numbered). y .count) anything isOne _ _ _ _ (only-list given.one-text) (only-list given.two-ones) refl refl refl refl refl;
       columns-counted = not-fixed text.sheet-read (λ (y : text.Held). y .reading .answer) anything (λ (r : Answer). isOne (countIn r)) _ _ _ _ (only-read 1) (only-read 2) refl refl refl refl refl;
       bytes-counted = not-fixed text.sheet-print (λ (y : text.Out). y .printed) anything isShort _ _ _ _ (only-print 1) (only-print 2) refl refl refl refl refl;
-      answer-counted = not-fixed text.sheet-answer (λ (y : text.Bytes). y .count) anything (λ (n : ℕ). eqb n 50) _ _ _ _ (only-answer 1) (only-answer 2) refl refl refl refl refl;
+      answer-counted = not-fixed text.sheet-answer (λ (y : text.Out). y .printed) anything isShort _ _ _ _ (only-answer 1) (only-answer 2) refl refl refl refl refl;
     }

@@ -1,10 +1,11 @@
 -- The other calls on what is lent: what each promises, as its contract has it, and when it has accepted. Definitions only.
 use Prim.Native.Nat.{ℕ}
 use mathlib.Core.Path.{_≡_}
+use mathlib.Core.Bool.{Bool}
 use mathlib.Core.List.{List, map}
 use lib.Dec.{eqb}
 use lib.Ieee.{Float}
-use lib.ListN.{length, take}
+use lib.ListN.{length}
 use Rattle.quant.specs.declared.complex.Complex.{Complex}
 use Rattle.quant.specs.declared.refusal.Answer.{Answer}
 use Rattle.quant.specs.declared.settings.Settings.{Settings}
@@ -26,8 +27,10 @@ use Rattle.merge.specs.declared.work.Ends.{Ends}
 use Rattle.merge.specs.Taking.{partsIn}
 use Rattle.merge.specs.Work.{Gathered, gatheredOf}
 use Rattle.commands.specs.declared.command.Arranged.{Arranged}
+use Rattle.commands.specs.Run.{Ran}
+use Rattle.owned.specs.Owned.{executedOwned}
 use Rattle.mixdown.specs.Sampled.{Rowed, Out, mixedDown}
-use Rattle.system.specs.System.{State, Outcome, Promised, execute}
+use Rattle.system.specs.System.{State}
 use Rattle.stand_ins.specs.StandIns.{Call, equation}
 use Rattle.stand_ins.specs.Whole.{isDone}
 use Rattle.stand_ins.specs.ByValue.{always, Curve, partsFor, hasPoints}
@@ -222,6 +225,11 @@ pub record Owning : Type 0 where
   pub commands : List Arranged
   pub count : ℕ
 
+abbrev pub ranOwned : Owning → Ran
+ranOwned x = executedOwned (x .state .tables) (x .commands) (x .count) (x .state .bins) (x .state .pulses)
+
+abbrev pub isRun : Ran → Bool
+isRun r = isDone (r .result .answer)
+
 abbrev pub execute-owned : Call
-execute-owned =
-    record { Given = Owning; Left = Outcome; Promise = λ x o. Promised (x .state) (execute (take (x .count) (x .commands))) o; accepted = λ o. isDone (o .answer) }
+execute-owned = equation ranOwned isRun

@@ -6,6 +6,7 @@ use Rattle.exact.specs.Doubles.{nought, one}
 use Rattle.tables.specs.declared.Tables.{Tables}
 use Rattle.merge.specs.declared.work.Ends.{Ends}
 use Rattle.merge.specs.Work.{Gathered}
+use Rattle.commands.specs.Run.{Ran}
 use Rattle.mixdown.specs.Sampled.{Rowed, mixedDown}
 use Rattle.bench_table.specs.Numbers.{over}
 use Rattle.bench_table.specs.Call.{channel}
@@ -96,7 +97,7 @@ pub record Texts : Type 1 where
   pub numbers-counted : NotFixed text.list-numbers (λ (y : text.Numbered). y .count) anything (given.listing given.one-text) (given.listing given.two-ones)
   pub columns-counted : NotFixed text.sheet-read (λ (y : text.Held). y .reading .answer) anything (given.sheet 1) (given.sheet 2)
   pub bytes-counted : NotFixed text.sheet-print (λ (y : text.Out). y .printed) anything (given.printing 1) (given.printing 2)
-  pub answer-counted : NotFixed text.sheet-answer (λ (y : text.Bytes). y .count) anything (given.answering 1) (given.answering 2)
+  pub answer-counted : NotFixed text.sheet-answer (λ (y : text.Out). y .printed) anything (given.answering 1) (given.answering 2)
 
 -- ---- what is lent
 
@@ -159,5 +160,5 @@ pub record Buffers : Type 1 where
   pub first-mixed : NotAlways lent.mix-lists (λ (y : lent.Mixed). y .out .left) firstMixed (given.mixing 0 bin-alone pulse-pair)
   pub first-bin-mixed : NotAlways lent.mix-lists (λ (y : lent.Mixed). y .out .left) firstBinMixed (given.mixing 0 bin-pair pulse-of-each)
   -- "a count not tied to the list"
-  pub commands-counted : NotFixed lent.execute-owned answerOf anything (given.owning 1) (given.owning 0)
+  pub commands-counted : NotFixed lent.execute-owned (λ (y : Ran). y .result .answer) anything (given.owning 1) (given.owning 0)
   pub pulses-counted : NotFixed lent.mix-lists (λ (y : lent.Mixed). y .out .answer) anything (given.mixing 0 bin-alone pulse-alone) (given.mixing 0 bin-alone pulse-pair)

@@ -1,6 +1,6 @@
 -- The calls on texts: what each promises, as its contract has it, and when it has accepted. Definitions only.
 use Prim.Native.Nat.{ℕ}
-use mathlib.Core.Bool.{Bool, true, false, not, _&&_}
+use mathlib.Core.Bool.{Bool, true, false, _&&_}
 use mathlib.Core.List.{List}
 use lib.Dec.{eqb}
 use lib.Ieee.{Float, binary64, toBits}
@@ -236,7 +236,7 @@ pub record Out : Type 0 where
 
 abbrev pub isBytes : Printed → Bool
 isBytes (printed.Bytes n) = true
-isBytes (printed.Refused r) = false
+isBytes (printed.Refused r line) = false
 
 abbrev pub sheet-print : Call
 sheet-print =
@@ -251,16 +251,12 @@ pub record Answering : Type 0 where
   pub text : List ℕ
   pub out : List ℕ
 
-pub record Bytes : Type 0 where
-  pub count : ℕ
-  pub out : List ℕ
-
 -- something is put, and it begins with the `c` (99) of `channels=`, not with the `r` of `refused=`
 abbrev pub sheet-answer : Call
 sheet-answer =
     record {
       Given = Answering;
-      Left = Bytes;
-      Promise = λ x y. Answered (x .text) (x .out) (y .count) (y .out);
-      accepted = λ y. not (eqb (y .count) 0) && eqb (getD (y .out) 0 0) 99;
+      Left = Out;
+      Promise = λ x y. Answered (x .text) (x .out) (y .printed) (y .out);
+      accepted = λ y. isBytes (y .printed) && eqb (getD (y .out) 0 0) 99;
     }

@@ -70,15 +70,15 @@ use Rattle.commands.proofs.execute.execute.Symbol as ex-def
 use Rattle.commands.proofs.execute.execute.Symbol.{name as #execute}
 use Rattle.commands.proofs.execute.execute.Met as ex-thm
 use Rattle.owned.specs.declared.Executed.{Executed}
-use Rattle.owned.specs.Owned.{atMost1024, executedWith}
-use Rattle.owned.proofs.First.{within, first-ones}
+use Rattle.owned.specs.Owned.{toRun, executedWith, executedOwned}
+use Rattle.owned.proofs.First.{within, as-counted}
 use Rattle.owned.proofs.Local.{First, Lender, Others, opened, filled, emptied, lends-mut, mut-back, lends-first, first-back, big-lit}
 use Rattle.owned.proofs.Executed as E
 use Rattle.owned.proofs.Executed.Laws as E′
-use Rattle.owned.proofs.at_most_1024 as most
-use Rattle.owned.proofs.at_most_1024.Symbol as most-def
-use Rattle.owned.proofs.at_most_1024.Symbol.{name as #most}
-use Rattle.owned.proofs.at_most_1024.Met as most-thm
+use Rattle.owned.proofs.to_run as to-run
+use Rattle.owned.proofs.to_run.Symbol as to-run-def
+use Rattle.owned.proofs.to_run.Symbol.{name as #to-run}
+use Rattle.owned.proofs.to_run.Met as to-run-thm
 use Rattle.owned.proofs.with_pulses as with
 use Rattle.owned.proofs.with_pulses.Symbol as with-def
 use Rattle.owned.proofs.with_pulses.Symbol.{name as #with}
@@ -114,8 +114,8 @@ room-p = (lit< tt, lit< tt)
 
 -- ---- the contracts that the proof cites
 module _ {M : Type 1} (𝓤 : URA M) (H : Heap 𝓤) (A : Atoms 𝓤) (mem : Memory → SProp 𝓤) (run : Routine → Fun 𝓤) where
-  abbrev Most : Contract 𝓤
-  Most = tripleOf 𝓤 H A most.signature (most.spec 𝓤 H A mem run)
+  abbrev Counts : Contract 𝓤
+  Counts = tripleOf 𝓤 H A to-run.signature (to-run.spec 𝓤 H A mem run)
 
   abbrev Executes : Contract 𝓤
   Executes = tripleOf 𝓤 H A ex.signature (ex.spec 𝓤 H A mem run)
@@ -123,11 +123,11 @@ module _ {M : Type 1} (𝓤 : URA M) (H : Heap 𝓤) (A : Atoms 𝓤) (mem : Mem
   abbrev With : Contract 𝓤
   With = tripleOf 𝓤 H A with.signature (with.spec 𝓤 H A mem run)
 
-  most-of : (c r : ℕ) → ent 𝓤 (ensured 𝓤 H A most.ended (most.clauses 𝓤 H A mem run) tt (c, tt) tt r) (fact 𝓤 (r ≡ atMost1024 c))
-  most-of c r = exE 𝓤 _ (λ ws. snd∗ 𝓤 (sem 𝓤 H A (lasts most.ended tt (c, tt) ws)) (fact 𝓤 (r ≡ atMost1024 c)))
+  counts-of : (c r : ℕ) → ent 𝓤 (ensured 𝓤 H A to-run.ended (to-run.clauses 𝓤 H A mem run) tt (c, tt) tt r) (fact 𝓤 (r ≡ toRun c))
+  counts-of c r = exE 𝓤 _ (λ ws. snd∗ 𝓤 (sem 𝓤 H A (lasts to-run.ended tt (c, tt) ws)) (fact 𝓤 (r ≡ toRun c)))
 
-  with-of : (r : Tabled) (ps : List Pulse) (w : Executed) → ent 𝓤 (ensured 𝓤 H A with.ended (with.clauses 𝓤 H A mem run) tt (r, (ps, tt)) tt w) (fact 𝓤 (w ≡ executedWith r ps))
-  with-of r ps w = exE 𝓤 _ (λ ws. snd∗ 𝓤 (sem 𝓤 H A (lasts with.ended tt (r, (ps, tt)) ws)) (fact 𝓤 (w ≡ executedWith r ps)))
+  with-of : (c : ℕ) (r : Tabled) (ps : List Pulse) (w : Executed) → ent 𝓤 (ensured 𝓤 H A with.ended (with.clauses 𝓤 H A mem run) tt (c, (r, (ps, tt))) tt w) (fact 𝓤 (w ≡ executedWith c r ps))
+  with-of c r ps w = exE 𝓤 _ (λ ws. snd∗ 𝓤 (sem 𝓤 H A (lasts with.ended tt (c, (r, (ps, tt))) ws)) (fact 𝓤 (w ≡ executedWith c r ps)))
 
   module _ (W : Given 𝓤 H A) where
     typedC : (cs : List Arranged) (x : Val) → Is Commands cs (x ∷ []) → T (hasTy (tyArray N′.mir 1024) x) × WT x
@@ -139,18 +139,18 @@ module _ {M : Type 1} (𝓤 : URA M) (H : Heap 𝓤) (A : Atoms 𝓤) (mem : Mem
     typedE : (w : Executed) → IsExecuted w → T (hasTy E′.mir (valE w)) × WT (valE w)
     typedE w g = LL.lawful E.the-type E′.the-laws 𝓤 H A W .typed w (valE w ∷ []) g .0
 
-    abbrev to-most : ℕ → Most .Ghost
-    to-most c = ((tt, tt, tt, (c, tt), (vint w64 c ∷ [], tt)), tt)
+    abbrev to-counts : ℕ → Counts .Ghost
+    to-counts c = ((tt, tt, tt, (c, tt), (vint w64 c ∷ [], tt)), tt)
 
-    goes-most : (c : ℕ) → c < 2 ^ 64 → ent 𝓤 (emp 𝓤) (Most .pre (to-most c))
-    goes-most c g = qed W [] ∵ nothing ! $ has-word ! c g $ fjoin ! $ nothing ! $ join ! $ frame ! $ done !
+    goes-counts : (c : ℕ) → c < 2 ^ 64 → ent 𝓤 (emp 𝓤) (Counts .pre (to-counts c))
+    goes-counts c g = qed W [] ∵ nothing ! $ has-word ! c g $ fjoin ! $ nothing ! $ join ! $ frame ! $ done !
 
-    abbrev to-with : Tabled → List Pulse → Val → With .Ghost
-    to-with r ps y = ((tt, tt, tt, (r, (ps, tt)), (valX r ∷ [], (y ∷ [], tt))), tt)
+    abbrev to-with : ℕ → Tabled → List Pulse → Val → With .Ghost
+    to-with c r ps y = ((tt, tt, tt, (c, (r, (ps, tt))), (vint w64 c ∷ [], (valX r ∷ [], (y ∷ [], tt)))), tt)
 
-    goes-with : (r : Tabled) (ps : List Pulse) (y : Val) → IsTabled r → Is Pulses ps (y ∷ []) → ent 𝓤 (emp 𝓤) (With .pre (to-with r ps y))
-    goes-with r ps y gr gy =
-        qed W [] ∵ nothing ! $ owned ! Pulses (Is Pulses) (array-makes 𝓤 H A W P.the-row (LL.makes P.the-type P′.the-plain 𝓤 H A) 8192) ps (y ∷ []) gy $ fjoin ! $ has-tabled ! r gr $ fjoin ! $ nothing ! $ join ! $ frame ! $ done !
+    goes-with : (c : ℕ) (r : Tabled) (ps : List Pulse) (y : Val) → c < 2 ^ 64 → IsTabled r → Is Pulses ps (y ∷ []) → ent 𝓤 (emp 𝓤) (With .pre (to-with c r ps y))
+    goes-with c r ps y gc gr gy =
+        qed W [] ∵ nothing ! $ owned ! Pulses (Is Pulses) (array-makes 𝓤 H A W P.the-row (LL.makes P.the-type P′.the-plain 𝓤 H A) 8192) ps (y ∷ []) gy $ fjoin ! $ has-tabled ! r gr $ fjoin ! $ has-word ! c gc $ fjoin ! $ nothing ! $ join ! $ frame ! $ done !
 
 module _ {M : Type 1} (𝓤 : URA M) (H : Heap 𝓤) (A : Atoms 𝓤) (W : Given 𝓤 H A) (mem : Memory → SProp 𝓤) (run : Routine → Fun 𝓤) (κ : Lft) (q : Share) (t : Tables) (cs : List Arranged) (x : Val) (count : ℕ) (b o : ℕ) (γ : GName) (bs : Bins) (ps : List Pulse) (y : Val)
     (gt : IsTables t) (gc : Is Commands cs (x ∷ [])) (gn : count < 2 ^ 64) (gb : Room Row (length bs)) (gp : Is Pulses ps (y ∷ [])) where
@@ -175,7 +175,7 @@ module _ {M : Type 1} (𝓤 : URA M) (H : Heap 𝓤) (A : Atoms 𝓤) (W : Given
   abbrev Post : Val → SProp 𝓤
   Post = walkOf 𝓤 H A f.ended stayed (f.clauses 𝓤 H A mem run) .post (((κ, tt), (q, tt), tt, args, vals), tt)
 
-  exits : (w : Executed) (bs′ : Bins) → IsExecuted w → length bs′ ≡ length bs → ranTo (w .tabled) bs′ (w .pulses) ≡ executed t (take count cs) bs ps → ent 𝓤 (⋆ 𝓤 H A (‵ (flft κ q) ∷ ‵ (finally Row γ bs′) ∷ [])) (Post (valE w))
+  exits : (w : Executed) (bs′ : Bins) → IsExecuted w → length bs′ ≡ length bs → ranTo (w .tabled) bs′ (w .pulses) ≡ executedOwned t cs count bs ps → ent 𝓤 (⋆ 𝓤 H A (‵ (flft κ q) ∷ ‵ (finally Row γ bs′) ∷ [])) (Post (valE w))
   exits w bs′ g lb is =
       qed W (‵ (flft κ q) ∷ ‵ (finally Row γ bs′) ∷ []) ∵
       suffices ! _ (ends-at 𝓤 H A f.ended stayed (f.clauses 𝓤 H A mem run) W (((κ, tt), (q, tt), tt, args, vals), tt) (valE w) w (tt, (tt, (tt, (bs′, (tt, tt))))) (tt, (tt, (tt, (lb, (tt, tt)))))) $ says ! is $
@@ -184,15 +184,15 @@ module _ {M : Type 1} (𝓤 : URA M) (H : Heap 𝓤) (A : Atoms 𝓤) (W : Given
       owned ! Commands (Is Commands) (array-makes 𝓤 H A W N.the-row (LL.makes N.the-type N′.the-plain 𝓤 H A) 1024) cs (x ∷ []) gc $ fjoin ! $ has-tables ! t gt $ fjoin ! $ frame ! $
       owned ! E.the-row (Is E.the-row) (LL.makes E.the-type E′.the-plain 𝓤 H A) w (valE w ∷ []) g $ done !
 
-  module _ (n : ℕ) (en : n ≡ atMost1024 count) where
+  module _ (n : ℕ) (en : n ≡ toRun count) where
     n-long : length (take n cs) ≡ n
     n-long = length-take-le n cs (rw (long-c, en) (within count))
 
     n-fits : n < 2 ^ 64
     n-fits = rw en (lt-of-le-of-lt (within count) (lit< tt))
 
-    same : (w : Executed) (r : Tabled) (bs′ : Bins) (zs : List Pulse) → w ≡ executedWith r zs → ranTo r bs′ zs ≡ executed t (take n cs) bs ps → ranTo (w .tabled) bs′ (w .pulses) ≡ executed t (take count cs) bs ps
-    same w r bs′ zs ew e = rw ew (rw (en, first-ones count cs long-c) at e)
+    same : (w : Executed) (r : Tabled) (bs′ : Bins) (zs : List Pulse) → w ≡ executedWith count r zs → ranTo r bs′ zs ≡ executed t (take n cs) bs ps → ranTo (w .tabled) bs′ (w .pulses) ≡ executedOwned t cs count bs ps
+    same w r bs′ zs ew e = rw ew (as-counted t cs count bs ps r bs′ zs (rw en at e))
 
   -- the call of `execute`, with the first n commands lent from lc for ν₁ and the pulses from lp for ν₂
   module _ (lc lp n ν₁ ν₂ : ℕ) (δ₁ δ₂ : GName) where
@@ -215,7 +215,7 @@ module _ {M : Type 1} (𝓤 : URA M) (H : Heap 𝓤) (A : Atoms 𝓤) (W : Given
     goes-execute =
         qed W asked ∵ move ! (2 ∷ []) $ split ! $ nothing ! $ move ! (2 ∷ 0 ∷ []) $ fjoin ! $ move ! (1 ∷ 0 ∷ []) $ fjoin ! $ move ! (2 ∷ 0 ∷ []) $ fjoin ! $ has-tables ! t gt $ fjoin ! $ move ! (1 ∷ 0 ∷ []) $ join ! $ frame ! $ done !
 
-  module _ (C : Calls 𝓤 H) (Λ : Loops 𝓤 H) (fm : FmC 𝓤 H (W .laws) C) (most-known : Triple 𝓤 (C #most) (Most 𝓤 H A mem run)) (execute-known : Triple 𝓤 (C #execute) (Executes 𝓤 H A mem run)) (with-known : Triple 𝓤 (C #with) (With 𝓤 H A mem run)) where
+  module _ (C : Calls 𝓤 H) (Λ : Loops 𝓤 H) (fm : FmC 𝓤 H (W .laws) C) (counts-known : Triple 𝓤 (C #to-run) (Counts 𝓤 H A mem run)) (execute-known : Triple 𝓤 (C #execute) (Executes 𝓤 H A mem run)) (with-known : Triple 𝓤 (C #with) (With 𝓤 H A mem run)) where
     walk : ent 𝓤 (onEntry 𝓤 H A f.signature (κ, tt) (q, tt) args vals) (WpFn 𝓤 H C Λ code.function (valU t ∷ x ∷ vint w64 count ∷ sliceVal (b, o) (length bs) ∷ y ∷ []) Post)
     walk =
         qed W ((‵ (flft κ q) ⊛ ‵ ftrue) ∷ ‵ (owns (U.the-row ∷ Commands ∷ usize ∷ MutSlice (named 0) κ Row ∷ Pulses ∷ []) args vals) ∷ []) ∵
@@ -228,7 +228,7 @@ module _ {M : Type 1} (𝓤 : URA M) (H : Heap 𝓤) (A : Atoms 𝓤) (W : Given
         move ! (40 ∷ []) $ split ! $ move ! (6 ∷ 2 ∷ 4 ∷ 0 ∷ []) $ move ! (4 ∷ []) $ drop ! $ move ! (4 ∷ []) $ drop ! $ move ! (4 ∷ []) $ drop ! $ move ! (4 ∷ []) $ drop ! $
         -- [commands'; pulses'; bins'; κ; _16; …]
         into ! 4 (of-opd ! (cell ! 4 refl)) refl (typedC 𝓤 H A mem run W cs x gc) $ into ! 4 (of-opd ! (cell ! 4 refl)) refl (typedP 𝓤 H A mem run W ps y gp) $
-        calls-plain ! 4 fm (Most 𝓤 H A mem run) most-known (to-most 𝓤 H A mem run W count) (goes-most 𝓤 H A mem run W count gn) (and-then ! (cell ! 5 refl) (no-more !)) usize (vint w64) (uint-tells w64) (λ r g. (tt, record { fits = g .1 })) (most-of 𝓤 H A mem run count) (λ _. id⊢ 𝓤 _) refl (λ n en _.
+        calls-plain ! 4 fm (Counts 𝓤 H A mem run) counts-known (to-counts 𝓤 H A mem run W count) (goes-counts 𝓤 H A mem run W count gn) (and-then ! (cell ! 5 refl) (no-more !)) usize (vint w64) (uint-tells w64) (λ r g. (tt, record { fits = g .1 })) (counts-of 𝓤 H A mem run count) (λ _. id⊢ 𝓤 _) refl (λ n en _.
         into ! 4 (addr ! (from ! (stop !))) refl (tt, tt) $
         into ! 4 (agg ! (and-then ! (cell ! 4 refl) (and-then ! (cell ! 4 refl) (no-more !)))) refl (tt, (tt, (record { fits = n-fits n en }, tt))) $
         into ! 4 (addr ! (from ! (fld ! refl (hop ! (look-in ! 28 (sub ! 0 refl (whole !))) (stop !))))) refl (tt, tt) $
@@ -267,14 +267,14 @@ module _ {M : Type 1} (𝓤 : URA M) (H : Heap 𝓤) (A : Atoms 𝓤) (W : Given
         -- [_7; _6; true; κ; true; the last bins; _16; …; _8; …; the ends of _7 and _6; _5; …]
         keep ! (3 ∷ 5 ∷ 6 ∷ 7 ∷ 8 ∷ 9 ∷ 10 ∷ 11 ∷ 12 ∷ 13 ∷ 14 ∷ 15 ∷ 16 ∷ 17 ∷ 18 ∷ 19 ∷ 20 ∷ 21 ∷ 22 ∷ 23 ∷ 0 ∷ 24 ∷ 1 ∷ 25 ∷ 26 ∷ 27 ∷ 28 ∷ 29 ∷ 30 ∷ 31 ∷ 32 ∷ 33 ∷ 34 ∷ 35 ∷ 36 ∷ 37 ∷ []) $
         into ! 2 (of-opd ! (cell ! 2 refl)) refl (typedP 𝓤 H A mem run W (zs .1 .1 .1 .0) u gu) $
-        calls-plain ! 2 fm (With 𝓤 H A mem run) with-known (to-with 𝓤 H A mem run W r (zs .1 .1 .1 .0) u) (goes-with 𝓤 H A mem run W r (zs .1 .1 .1 .0) u (subst (Is X.the-row r) (LL.tells X.the-type X′.the-laws r (v ∷ []) gr) gr) gu) (and-then ! (cell ! 3 refl) (and-then ! (cell ! 3 refl) (no-more !)))
-        E.the-row valE (LL.tells E.the-type E′.the-laws) (typedE 𝓤 H A mem run W) (with-of 𝓤 H A mem run r (zs .1 .1 .1 .0)) (λ _. id⊢ 𝓤 _) refl (λ w ew gw.
+        calls-plain ! 2 fm (With 𝓤 H A mem run) with-known (to-with 𝓤 H A mem run W count r (zs .1 .1 .1 .0) u) (goes-with 𝓤 H A mem run W count r (zs .1 .1 .1 .0) u gn (subst (Is X.the-row r) (LL.tells X.the-type X′.the-laws r (v ∷ []) gr) gr) gu) (and-then ! (cell ! 3 refl) (and-then ! (cell ! 3 refl) (and-then ! (cell ! 3 refl) (no-more !))))
+        E.the-row valE (LL.tells E.the-type E′.the-laws) (typedE 𝓤 H A mem run W) (with-of 𝓤 H A mem run count r (zs .1 .1 .1 .0)) (λ _. id⊢ 𝓤 _) refl (λ w ew gw.
         returns ! (look ! 34 refl) $ forget ! 2 refl $ forget ! 4 refl $ forget ! 6 refl $ forget ! 8 refl $ forget ! 10 refl $ forget ! 12 refl $ forget ! 14 refl $ forget ! 16 refl $ forget ! 18 refl $ forget ! 20 refl $ forget ! 24 refl $ forget ! 26 refl $ forget ! 28 refl $ forget ! 30 refl $ forget ! 32 refl $ forget ! 34 refl $
         move ! (34 ∷ 35 ∷ []) $ free1 ! $ move ! (32 ∷ 33 ∷ []) $ free1 ! $ move ! (30 ∷ 31 ∷ []) $ free1 ! $ move ! (28 ∷ 29 ∷ []) $ free1 ! $ move ! (26 ∷ 27 ∷ []) $ free1 ! $ move ! (24 ∷ 25 ∷ []) $ free1 ! $ move ! (22 ∷ 23 ∷ []) $ free1 ! $ move ! (20 ∷ 21 ∷ []) $ free1 ! $ move ! (18 ∷ 19 ∷ []) $ free1 ! $
         move ! (16 ∷ 17 ∷ []) $ free1 ! $ move ! (14 ∷ 15 ∷ []) $ free1 ! $ move ! (12 ∷ 13 ∷ []) $ free1 ! $ move ! (10 ∷ 11 ∷ []) $ free1 ! $ move ! (8 ∷ 9 ∷ []) $ free1 ! $ move ! (6 ∷ 7 ∷ []) $ free1 ! $ move ! (4 ∷ 5 ∷ []) $ free1 ! $ move ! (2 ∷ 3 ∷ []) $ free1 ! $ free0 ! $
         by ! (exits w (zs .1 .1 .0) gw lb (same n en w r (zs .1 .1 .0) (zs .1 .1 .1 .0) ew e))))))))))))))))))))))))))))))))))
 
-module _ {M : Type 1} (𝓤 : URA M) (H : Heap 𝓤) (A : Atoms 𝓤) (W : Given 𝓤 H A) (mem : Memory → SProp 𝓤) (run : Routine → Fun 𝓤) (𝓣 : Routines 𝓤 H) (k₁ : Triple 𝓤 (𝓣 .C #most) (Most 𝓤 H A mem run)) (k₂ : Triple 𝓤 (𝓣 .C #execute) (Executes 𝓤 H A mem run)) (k₃ : Triple 𝓤 (𝓣 .C #with) (With 𝓤 H A mem run)) where
+module _ {M : Type 1} (𝓤 : URA M) (H : Heap 𝓤) (A : Atoms 𝓤) (W : Given 𝓤 H A) (mem : Memory → SProp 𝓤) (run : Routine → Fun 𝓤) (𝓣 : Routines 𝓤 H) (k₁ : Triple 𝓤 (𝓣 .C #to-run) (Counts 𝓤 H A mem run)) (k₂ : Triple 𝓤 (𝓣 .C #execute) (Executes 𝓤 H A mem run)) (k₃ : Triple 𝓤 (𝓣 .C #with) (With 𝓤 H A mem run)) where
   owned-walks : Walks 𝓤 H A f.ended stayed (WpFn 𝓤 H (𝓣 .C) (𝓣 .Λ) code.function) (f.clauses 𝓤 H A mem run)
   owned-walks =
       walked 𝓤 H A f.ended stayed (f.clauses 𝓤 H A mem run) (WpFn 𝓤 H (𝓣 .C) (𝓣 .Λ) code.function)
@@ -296,6 +296,6 @@ execute-owned-spec 𝓤 H 𝓜 𝓖 𝓡 =
     entered 𝓤 H (tripleOf 𝓤 H (𝓖 .A) f.signature (f.spec 𝓤 H (𝓖 .A) (𝓜 .mem) (𝓡 .run)))
     (tables 𝓤 H 𝓜 𝓡 code.env .C) (tables 𝓤 H 𝓜 𝓡 code.env .Λ) #execute-owned code.function (code.unfolded 𝓤 H 𝓜 𝓡)
     (owned-meets 𝓤 H (𝓖 .A) (givenOf 𝓤 H 𝓜 𝓖) (𝓜 .mem) (𝓡 .run) (tablesOf 𝓤 H 𝓜 (tables 𝓤 H 𝓜 𝓡 code.env))
-    (cited 𝓤 H (Most 𝓤 H (𝓖 .A) (𝓜 .mem) (𝓡 .run)) 𝓜 𝓡 code.env #most most-def.routine code.calls-owned·at-most-1024 (most-thm.met 𝓤 H 𝓜 𝓖 𝓡))
+    (cited 𝓤 H (Counts 𝓤 H (𝓖 .A) (𝓜 .mem) (𝓡 .run)) 𝓜 𝓡 code.env #to-run to-run-def.routine code.calls-owned·to-run (to-run-thm.met 𝓤 H 𝓜 𝓖 𝓡))
     (cited 𝓤 H (Executes 𝓤 H (𝓖 .A) (𝓜 .mem) (𝓡 .run)) 𝓜 𝓡 code.env #execute ex-def.routine code.calls-commands·execute·execute (ex-thm.met 𝓤 H 𝓜 𝓖 𝓡))
     (cited 𝓤 H (With 𝓤 H (𝓖 .A) (𝓜 .mem) (𝓡 .run)) 𝓜 𝓡 code.env #with with-def.routine code.calls-owned·with-pulses (with-thm.met 𝓤 H 𝓜 𝓖 𝓡)))

@@ -12,16 +12,26 @@ slice-aggregate-answer c = search needs
 answer-requires : tie.Need-answer-requires
 answer-requires c κs = search needs
 
+enum-known-answer : tie.Need-enum-known-answer
+enum-known-answer c = search needs
+
 array-share-prefix-out : tie.Need-array-share-prefix-out
-array-share-prefix-out c = within _ _ _ _ (c .before .answer .ensures) (c .before .answer .kept .1 .0)
+array-share-prefix-out c =
+    let known = c .before in
+    let at-answer = known .before .before .before in
+    within _ _ _ _ _ (at-answer .answer .ensures) (known .answer2 .given .1) (at-answer .answer .kept .1 .0)
 
 slice-aggregate-write-all : tie.Need-slice-aggregate-write-all
 slice-aggregate-write-all c =
-    let at-answer = c .before .before in
-    sym (length-take-le _ _ (within _ _ _ _ (at-answer .answer .ensures) (at-answer .answer .kept .1 .0)))
+    let known = c .before .before in
+    let at-answer = known .before .before .before in
+    sym (length-take-le _ _ (within _ _ _ _ _ (at-answer .answer .ensures) (known .answer2 .given .1) (at-answer .answer .kept .1 .0)))
 
 write-all-requires : tie.Need-write-all-requires
 write-all-requires c κs = search needs
+
+enum-told : tie.Need-enum-told
+enum-told c = search needs
 
 slice-aggregate-write-all-2 : tie.Need-slice-aggregate-write-all-2
 slice-aggregate-write-all-2 c = search needs
@@ -38,9 +48,11 @@ show-spec =
     (tie.spec
     slice-aggregate-answer
     answer-requires
+    enum-known-answer
     array-share-prefix-out
     slice-aggregate-write-all
     write-all-requires
+    enum-told
     slice-aggregate-write-all-2
     write-all-requires-2
     returns)

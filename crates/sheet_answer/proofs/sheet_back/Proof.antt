@@ -27,7 +27,7 @@ same-length-2 c = search needs
 returns-2 : tie.Need-returns-2
 returns-2 c =
     let at-print = c .before .before .before .before in
-    absurd (not-refused _ _ _ _ _ _ _ (at-print .before .before .before .before .pre) (c .enum-told .given .1) (at-print .print .ensures))
+    absurd (not-refused _ _ _ _ _ _ _ _ (at-print .before .before .before .before .pre) (c .enum-told .given .1) (at-print .print .ensures))
 
 pub sheet-back-spec : {M : Type 1} → statement M
 sheet-back-spec =

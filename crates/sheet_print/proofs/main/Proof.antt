@@ -24,19 +24,32 @@ slice-aggregate-answer-2 c = search needs
 answer-requires : tie.Need-answer-requires
 answer-requires c κs = search needs
 
+enum-known-answer : tie.Need-enum-known-answer
+enum-known-answer c = search needs
+
 array-share-prefix-out : tie.Need-array-share-prefix-out
-array-share-prefix-out c = within _ _ _ _ (c .before .answer .ensures) (c .before .answer .kept .1 .0)
+array-share-prefix-out c =
+    let known = c .before in
+    let at-answer = known .before .before .before in
+    within _ _ _ _ _ (at-answer .answer .ensures) (known .answer2 .given .1) (at-answer .answer .kept .1 .0)
 
 slice-aggregate-write-all : tie.Need-slice-aggregate-write-all
 slice-aggregate-write-all c =
-    let at-answer = c .before .before in
-    sym (length-take-le _ _ (within _ _ _ _ (at-answer .answer .ensures) (at-answer .answer .kept .1 .0)))
+    let known = c .before .before in
+    let at-answer = known .before .before .before in
+    sym (length-take-le _ _ (within _ _ _ _ _ (at-answer .answer .ensures) (known .answer2 .given .1) (at-answer .answer .kept .1 .0)))
 
 write-all-requires : tie.Need-write-all-requires
 write-all-requires c κs = search needs
 
+enum-told : tie.Need-enum-told
+enum-told c = search needs
+
 returns : tie.Need-returns
 returns c = search needs
+
+returns-2 : tie.Need-returns-2
+returns-2 c = search needs
 
 pub main-spec : {M : Type 1} → statement M
 main-spec =
@@ -48,7 +61,10 @@ main-spec =
     slice-aggregate-answer
     slice-aggregate-answer-2
     answer-requires
+    enum-known-answer
     array-share-prefix-out
     slice-aggregate-write-all
     write-all-requires
-    returns)
+    enum-told
+    returns
+    returns-2)
