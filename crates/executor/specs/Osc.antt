@@ -1,7 +1,10 @@
 -- Document 01, "Oscillators": what each command does to a channel's three numbers at the time t. Each operation rounds once; each number worked out is judged. Definitions only.
-use mathlib.Core.Bool.{Bool, true, false, _&&_}
+use mathlib.Core.Bool.{Bool, true, false, _&&_, cond}
 use lib.Ieee.{Float, binary64, add, sub, mul, neg}
 use lib.Ieee.Scale.{finite}
+use Rattle.quant.specs.declared.refusal.Answer.{Answer}
+use Rattle.quant.specs.declared.refusal.Answer.the-variants.{Done, Refused}
+use Rattle.quant.specs.declared.refusal.Refusal.the-variants.{NotFinite}
 use Rattle.executor.specs.declared.osc.OscState.{OscState}
 use Rattle.executor.specs.declared.osc.Moved.{Moved}
 use Rattle.executor.specs.declared.osc.Swapped.{Swapped}
@@ -70,3 +73,10 @@ swappedBy s o fine x =
 abbrev pub swappedPhases : OscState → OscState → Float → Swapped
 swappedPhases s o t =
     swappedBy s o (finite (totalOf s) && finite (totalOf o) && finite (ahead s o) && finite (mul binary64 (ahead s o) t)) (mul binary64 (ahead s o) t)
+
+-- ---- what both answer: refused, 8
+abbrev pub movedAnswer : Moved → Answer
+movedAnswer m = cond (m .refused) (Refused NotFinite 0) (Done 0)
+
+abbrev pub swappedAnswer : Swapped → Answer
+swappedAnswer w = cond (w .refused) (Refused NotFinite 0) (Done 0)

@@ -17,7 +17,8 @@ pub struct OscState {
     pub phase: Phase,
 }
 
-// The state after a command. Where a number worked out on the way is not finite the command is refused, by 8, and the state is the one that came.
+// The state after a command. Where a number worked out on the way is not finite the command is refused, and the state is the one that came.
+// `movedAnswer` and `swappedAnswer` say by which number.
 #[repr(C)]
 pub struct Moved {
     pub refused: bool,

@@ -2,10 +2,10 @@
 use mathlib.Core.Path.{_≡_}
 use Prim.Native.Nat.{ℕ}
 use Rattle.quant.specs.declared.refusal.Answer.{Answer}
-use Rattle.quant.specs.Refusal.{codeOf}
+use Rattle.quant.specs.Refusal.{replyOf}
 
 -- n stands for an answer of which P holds
 pub record Coded (P : Answer → Type 0) (n : ℕ) : Type 0 where
   pub answer : Answer
-  pub coded : n ≡ codeOf answer
+  pub coded : n ≡ replyOf answer .number
   pub does : P answer

@@ -45,9 +45,26 @@ pub one-fir : (rows : ℕ) (i q taps : List Float) (r s : Answer) (i' q' i'' q''
     → (r ≡ s) × (i' ≡ i'') × (q' ≡ q'')
 one-fir rows i q taps r s i' q' i'' q'' a b = (one (a .answer) (b .answer), one (a .first) (b .first), one (a .second) (b .second))
 
--- over the C border: of any call whose answer is the only one
-pub one-code : (P Q : Answer → Type 0) → ((r s : Answer) → P r → Q s → r ≡ s) → (m n : ℕ) → Coded P m → Coded Q n → m ≡ n
-one-code P Q only m n a b = a .coded ∙ ap codeOf (only (a .answer) (b .answer) (a .does) (b .does)) ∙ sym (b .coded)
+-- Over the C border: the number and both rows, of any call P on rows whose answer and rows are the only ones.
+module _ (P : Answer → List Float → List Float → Type 0) (only : (r s : Answer) (i q i' q' : List Float) → P r i q → P s i' q' → (r ≡ s) × (i ≡ i') × (q ≡ q')) where
+  pub one-code : (m n : ℕ) (i q i' q' : List Float) → Coded (λ (r : Answer). P r i q) m → Coded (λ (r : Answer). P r i' q') n → (m ≡ n) × (i ≡ i') × (q ≡ q')
+  one-code m n i q i' q' a b =
+      let same = only (a .answer) (b .answer) i q i' q' (a .does) (b .does) in
+      (a .coded ∙ ap codeOf (same .0) ∙ sym (b .coded), same .1, same .2)
+
+module _ (rows : ℕ) (i q numbers : List Float) (m n : ℕ) (i' q' i'' q'' : List Float) where
+  pub one-iq-code : Coded (λ (r : Answer). Iq rows i q numbers r i' q') m → Coded (λ (r : Answer). Iq rows i q numbers r i'' q'') n → (m ≡ n) × (i' ≡ i'') × (q' ≡ q'')
+  one-iq-code = one-code (Iq rows i q numbers) (one-iq rows i q numbers) m n i' q' i'' q''
+
+  pub one-offset-code : Coded (λ (r : Answer). Offset rows i q numbers r i' q') m → Coded (λ (r : Answer). Offset rows i q numbers r i'' q'') n
+      → (m ≡ n) × (i' ≡ i'') × (q' ≡ q'')
+  one-offset-code = one-code (Offset rows i q numbers) (one-offset rows i q numbers) m n i' q' i'' q''
+
+  pub one-iir-code : Coded (λ (r : Answer). Iir rows i q numbers r i' q') m → Coded (λ (r : Answer). Iir rows i q numbers r i'' q'') n → (m ≡ n) × (i' ≡ i'') × (q' ≡ q'')
+  one-iir-code = one-code (Iir rows i q numbers) (one-iir rows i q numbers) m n i' q' i'' q''
+
+  pub one-fir-code : Coded (λ (r : Answer). Fir rows i q numbers r i' q') m → Coded (λ (r : Answer). Fir rows i q numbers r i'' q'') n → (m ≡ n) × (i' ≡ i'') × (q' ≡ q'')
+  one-fir-code = one-code (Fir rows i q numbers) (one-fir rows i q numbers) m n i' q' i'' q''
 
 -- ---- cosine and sine together
 

@@ -3,3 +3,4 @@ pub mod Ways
 pub mod Accepted
 pub mod Numbers
 pub mod Twelve
+pub mod Handed

@@ -9,6 +9,8 @@ use lib.Ieee.{Float, binary64, add}
 use Rattle.quant.specs.declared.aligned.Placed.{Placed}
 use Rattle.quant.specs.declared.aligned.Placed.the-variants as placed
 use Rattle.quant.specs.declared.complex.Complex.{Complex}
+use Rattle.quant.specs.declared.refusal.Answer.{Answer}
+use Rattle.quant.specs.declared.refusal.Answer.the-variants as answer
 use Rattle.quant.specs.declared.refusal.Refusal.the-variants.{NotFinite, BeforeRow, StartPastRow, EndPastRow}
 use Rattle.quant.specs.declared.settings.Settings.{Settings}
 use Rattle.quant.specs.Aligned.{alignedOf, placedOf}
@@ -117,3 +119,9 @@ judgedAt s b p len placed.Beyond = Refused StartPastRow
 -- ---- a pulse of bin b
 unfoldable pub judged : Settings → Bin → Pulse → ℕ → Judged
 judged s b p len = judgedAt s b p len (placedAt s p)
+
+-- what the cases answer
+abbrev pub judgedAnswer : Judged → Answer
+judgedAnswer (Plateau f) = answer.Done 0
+judgedAnswer (Shaped c) = answer.Done 0
+judgedAnswer (Refused r) = answer.Refused r 0

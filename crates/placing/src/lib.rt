@@ -43,7 +43,7 @@ pub struct Curved {
 pub enum Judged {
     Plateau(Flat),
     Shaped(Curved),
-    // 8 to 12
+    // `judgedAnswer` says what it answers.
     Refused(Refusal),
 }
 

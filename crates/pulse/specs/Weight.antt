@@ -7,6 +7,9 @@ use Rattle.exact.specs.Doubles.{nought}
 use Rattle.quant.specs.declared.complex.Complex.{Complex}
 use Rattle.quant.specs.declared.phaser.Phased.{Phased}
 use Rattle.quant.specs.declared.phaser.Phased.the-variants.{Pair, NotFinite}
+use Rattle.quant.specs.declared.refusal.Answer.{Answer}
+use Rattle.quant.specs.declared.refusal.Answer.the-variants.{Done, Refused}
+use Rattle.quant.specs.declared.refusal.Refusal.the-variants as refusal
 use Rattle.quant.specs.Complex.{scaledC, turnedC}
 use Rattle.quant.specs.Phaser.{phasedOf}
 use Rattle.pulse.specs.declared.weight.Weight.{Weight}
@@ -31,3 +34,8 @@ weighed a (Pair u) k =
 
 abbrev pub weighedOf : Float → Float → Float → Weighed
 weighedOf a phase k = weighed a (phasedOf phase) k
+
+-- what the cases answer
+abbrev pub weighedAnswer : Weighed → Answer
+weighedAnswer (Fine w) = Done 0
+weighedAnswer Overflow = Refused refusal.NotFinite 0

@@ -16,9 +16,10 @@ pub struct Weight {
     pub drag: Complex,
 }
 
+// `weighedAnswer` says which refusal.
 pub enum Weighed {
     Fine(Weight),
-    // A number worked out is not finite: refusal 8.
+    // A number worked out is not finite.
     Overflow,
 }
 

@@ -16,6 +16,9 @@ use Rattle.quant.specs.declared.aligned.Aligned.{Aligned}
 use Rattle.quant.specs.declared.aligned.Aligned.the-variants as aligned
 use Rattle.quant.specs.declared.aligned.Placed.{Placed}
 use Rattle.quant.specs.declared.aligned.Placed.the-variants as placed
+use Rattle.quant.specs.declared.refusal.Answer.{Answer}
+use Rattle.quant.specs.declared.refusal.Answer.the-variants.{Done, Refused}
+use Rattle.quant.specs.declared.refusal.Refusal.the-variants as refusal
 
 -- rate*2^-level; time times that; its ceiling i, times 2^level. Each operation rounds once.
 abbrev pub scaledRate : Float → ℤ → Float
@@ -49,6 +52,17 @@ startOf a = cond (lt a nought) placed.Before (cutTo a (cutOf a))
 abbrev pub placedOf : Aligned → Placed
 placedOf (aligned.Index a) = startOf a
 placedOf aligned.NotFinite = placed.NotFinite
+
+-- ---- what the cases answer
+abbrev pub alignedAnswer : Aligned → Answer
+alignedAnswer (aligned.Index a) = Done 0
+alignedAnswer aligned.NotFinite = Refused refusal.NotFinite 0
+
+abbrev pub placedAnswer : Placed → Answer
+placedAnswer (placed.Start start offset) = Done 0
+placedAnswer placed.NotFinite = Refused refusal.NotFinite 0
+placedAnswer placed.Before = Refused refusal.BeforeRow 0
+placedAnswer placed.Beyond = Refused refusal.StartPastRow 0
 
 -- ---- what is proved of the offset (proofs/Offset.antt)
 

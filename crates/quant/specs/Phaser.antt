@@ -7,6 +7,9 @@ use Rattle.trig.specs.Trig.{cosineOf, sineOf}
 use Rattle.quant.specs.declared.complex.Complex.{Complex}
 use Rattle.quant.specs.declared.phaser.Phased.{Phased}
 use Rattle.quant.specs.declared.phaser.Phased.the-variants.{Pair, NotFinite}
+use Rattle.quant.specs.declared.refusal.Answer.{Answer}
+use Rattle.quant.specs.declared.refusal.Answer.the-variants.{Done, Refused}
+use Rattle.quant.specs.declared.refusal.Refusal.the-variants as refusal
 
 abbrev pub radiansOf : Float → Float
 radiansOf p = mul binary64 p TAU
@@ -21,3 +24,8 @@ phased false x = NotFinite
 
 abbrev pub phasedOf : Float → Phased
 phasedOf p = phased (finite (radiansOf p)) (radiansOf p)
+
+-- what the cases answer
+abbrev pub phasedAnswer : Phased → Answer
+phasedAnswer (Pair z) = Done 0
+phasedAnswer NotFinite = Refused refusal.NotFinite 0

@@ -1,4 +1,4 @@
--- Document 01, "What each number means": the number of each refusal. Definitions only.
+-- Document 01, "What each number means": the number of each refusal, and number, place and count of each answer. Definitions only.
 use Prim.Native.Nat.{ℕ}
 use Rattle.quant.specs.declared.refusal.Answer.{Answer}
 use Rattle.quant.specs.declared.refusal.Answer.the-variants.{Done, Refused}
@@ -23,7 +23,16 @@ numberOf WrongSize = 13
 numberOf Crosstalk = 14
 numberOf Layout = 15
 
--- 0 where the call is done
+-- "A refusal returns its number and a place"; "Acceptance returns the count": its number is 0. What an answer does not return is 0.
+pub record Reply : Type 0 where
+  pub number : ℕ
+  pub place : ℕ
+  pub count : ℕ
+
+abbrev pub replyOf : Answer → Reply
+replyOf (Done count) = record { number = 0; place = 0; count = count }
+replyOf (Refused r place) = record { number = numberOf r; place = place; count = 0 }
+
+-- the number alone
 abbrev pub codeOf : Answer → ℕ
-codeOf (Done count) = 0
-codeOf (Refused r place) = numberOf r
+codeOf a = replyOf a .number

@@ -7,6 +7,9 @@ use lib.Ieee.Scale.{finite}
 use Rattle.exact.specs.Doubles.{nought, one}
 use Rattle.quant.specs.declared.quantity.Frequency.{Frequency}
 use Rattle.quant.specs.declared.quantity.Time.{Time}
+use Rattle.quant.specs.declared.refusal.Answer.{Answer}
+use Rattle.quant.specs.declared.refusal.Answer.the-variants.{Done, Refused}
+use Rattle.quant.specs.declared.refusal.Refusal.the-variants as refusal
 use Rattle.quant.specs.declared.settings.Fitting.{Fitting}
 use Rattle.quant.specs.declared.settings.Fitting.the-variants.{Fit, Unfit}
 
@@ -27,3 +30,8 @@ fitting false rate delay level = Unfit
 abbrev pub fittingOf : Frequency → Time → ℤ → Fitting
 fittingOf rate delay level =
     fitting (isRate (rate .0) && finite (div binary64 one (rate .0)) && finite (delay .0) && isLevel level) rate delay level
+
+-- what the cases answer
+abbrev pub fittingAnswer : Fitting → Answer
+fittingAnswer (Fit s) = Done 0
+fittingAnswer Unfit = Refused refusal.Unfit 0

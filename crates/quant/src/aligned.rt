@@ -11,21 +11,20 @@ use ieee::cut::cut_off;
 use ieee::exp2::exp2;
 use ieee::finite::is_finite;
 
-// An index that is a multiple of 2^level, in samples.
+// An index that is a multiple of 2^level, in samples. `alignedAnswer` and `placedAnswer` say which case is which refusal.
 pub enum Aligned {
     Index(f64),
-    // A number worked out on the way is not finite: refusal 8.
+    // A number worked out on the way.
     NotFinite,
 }
 
 // The sample that a pulse starts at, and how far that lies behind the aligned index, from 0 up to 1.
 pub enum Placed {
     Start(usize, f64),
-    // Refusal 8.
     NotFinite,
-    // Below 0: refusal 9.
+    // Below 0.
     Before,
-    // From 2^64 on, and so past every row: refusal 10.
+    // From 2^64 on, and so past every row.
     Beyond,
 }
 

@@ -5,9 +5,10 @@ use super::complex::Complex;
 use super::quantity::Phase;
 use ieee::finite::is_finite;
 
+// `phasedAnswer` says which refusal.
 pub enum Phased {
     Pair(Complex),
-    // phase*TAU is not finite: refusal 8.
+    // phase*TAU is not finite.
     NotFinite,
 }
 

@@ -2,7 +2,7 @@
 ghost use mathlib.Core.Path.{_≡_};
 ghost use Rattle.quant.specs.Refusal.{numberOf, codeOf};
 
-// One case for each number of document 01's table, in its order.
+// One case for each number of document 01's table, in its order: `numberOf` gives the number.
 pub enum Refusal {
     // 1: sample rate, 1/rate, delay, tolerance or align level unfit
     Unfit,
@@ -36,7 +36,7 @@ pub enum Refusal {
     Layout,
 }
 
-// The count of commands run or pulses added; or the refusal and its place.
+// The count of commands run or pulses added; or the refusal and its place. `replyOf` gives number, place and count.
 pub enum Answer {
     Done(usize),
     Refused(Refusal, usize),

@@ -13,9 +13,9 @@ pub struct Settings {
     pub level: i32,
 }
 
+// `fittingAnswer` says which refusal.
 pub enum Fitting {
     Fit(Settings),
-    // Refusal 1.
     Unfit,
 }
 

@@ -10,7 +10,7 @@ use Rattle.quant.specs.declared.refusal.Refusal.the-variants as why
 use Rattle.quant.specs.declared.settings.Fitting.{Fitting}
 use Rattle.quant.specs.declared.settings.Fitting.the-variants.{Fit, Unfit}
 use Rattle.quant.specs.declared.settings.Settings.{Settings}
-use Rattle.quant.specs.Settings.{fittingOf}
+use Rattle.quant.specs.Settings.{fittingOf, fittingAnswer}
 use Rattle.pulse.specs.declared.list.Pulse.{Pulse}
 use Rattle.tables.specs.declared.Tables.{Tables}
 use Rattle.merge.specs.declared.taking.Taking.{Taking}
@@ -50,7 +50,7 @@ module _ (t : Tables) (r : Request) (bins : List (List Float)) (pulses : List Pu
 
   -- 1, then 13 of what is lent
   abbrev pub byClock : Crosstalk → List Float → Fitting → Left
-  byClock c factors Unfit = left (Refused why.Unfit 0) st work marks
+  byClock c factors Unfit = left (fittingAnswer Unfit) st work marks
   byClock c factors (Fit s) =
       cond (sizesFit (r .rows) (length (st .i)) (length (st .q)) (length (st .scratch)) (length bins) (length pulses) (length work) (length marks))
       (byPlan s (planned t (r .channel) c factors))

@@ -7,6 +7,8 @@ use lib.Dec.{leb}
 use lib.ListN.{drop, replicate}
 use lib.Ieee.{Float}
 use Rattle.exact.specs.Doubles.{one}
+use Rattle.quant.specs.declared.refusal.Answer.{Answer}
+use Rattle.quant.specs.declared.refusal.Answer.the-variants as answer
 use Rattle.quant.specs.declared.refusal.Refusal.the-variants.{NotFinite}
 use Rattle.rows.specs.Rows.{allFinite}
 use Rattle.shape.specs.declared.parts.Parts.{Parts}
@@ -48,6 +50,11 @@ envelopedOf (parted.Refused r) = Refused r
 abbrev pub scratchAfter : Parted → List Float → List Float
 scratchAfter (parted.Within p) old = scratchFilled p old
 scratchAfter (parted.Refused r) old = old
+
+-- what the cases answer
+abbrev pub envelopedAnswer : Enveloped → Answer
+envelopedAnswer (Points n) = answer.Done 0
+envelopedAnswer (Refused r) = answer.Refused r 0
 
 -- parts in order, within a scratch of n samples
 pub record Fitting (p : Parts) (n : ℕ) : Type 0 where

@@ -11,6 +11,8 @@ use Rattle.ieee.specs.Cut.{cutOf}
 use Rattle.fma.specs.Fused.{fma}
 use Rattle.ieee.specs.declared.cut.Cut.{Cut}
 use Rattle.ieee.specs.declared.cut.Cut.the-variants as cut
+use Rattle.quant.specs.declared.refusal.Answer.{Answer}
+use Rattle.quant.specs.declared.refusal.Answer.the-variants as answer
 use Rattle.quant.specs.declared.refusal.Refusal.the-variants.{ShapeTooShort, EndPastRow}
 use Rattle.shape.specs.declared.parts.Parts.{Parts}
 use Rattle.shape.specs.declared.parts.Parted.{Parted}
@@ -70,3 +72,8 @@ partedOf width plateau offset rate dt room =
     cond (lt (t1 width plateau offset rate dt) nought) (Refused ShapeTooShort)
     (cond (ltb room n) (Refused EndPastRow)
     (cond (eq plateau nought) (Within (unbroken width plateau offset rate dt n)) (ordered (broken width plateau offset rate dt n))))
+
+-- what the cases answer
+abbrev pub partedAnswer : Parted → Answer
+partedAnswer (Within p) = answer.Done 0
+partedAnswer (Refused r) = answer.Refused r 0

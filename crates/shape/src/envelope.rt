@@ -17,7 +17,7 @@ use quant::refusal::Refusal;
 pub enum Enveloped {
     // How many points the scratch holds.
     Points(usize),
-    // 11, 12 or 8, in this order
+    // ShapeTooShort, EndPastRow or NotFinite, in this order. `envelopedAnswer` says what it answers.
     Refused(Refusal),
 }
 

@@ -23,7 +23,7 @@ pub struct Parts {
 
 pub enum Parted {
     Within(Parts),
-    // 11 or 12
+    // ShapeTooShort or EndPastRow, in this order. `partedAnswer` says what it answers.
     Refused(Refusal),
 }
 

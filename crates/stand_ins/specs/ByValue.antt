@@ -9,46 +9,37 @@ use Rattle.trig.specs.Reduce.{wrapped}
 use Rattle.trig.specs.Trig.{cosineAt, cosineOf, sineOf, Both}
 use Rattle.naming.specs.declared.Name.{Name}
 use Rattle.quant.specs.declared.aligned.Aligned.{Aligned}
-use Rattle.quant.specs.declared.aligned.Aligned.the-variants as aligned
 use Rattle.quant.specs.declared.aligned.Placed.{Placed}
-use Rattle.quant.specs.declared.aligned.Placed.the-variants as placed
 use Rattle.quant.specs.declared.phaser.Phased.{Phased}
-use Rattle.quant.specs.declared.phaser.Phased.the-variants as phased
 use Rattle.quant.specs.declared.quantity.Frequency.{Frequency}
 use Rattle.quant.specs.declared.quantity.Time.{Time}
 use Rattle.quant.specs.declared.settings.Fitting.{Fitting}
-use Rattle.quant.specs.declared.settings.Fitting.the-variants as fitting
 use Rattle.quant.specs.declared.settings.Settings.{Settings}
-use Rattle.quant.specs.Aligned.{alignedOf, placedOf}
-use Rattle.quant.specs.Phaser.{phasedOf}
-use Rattle.quant.specs.Settings.{fittingOf}
+use Rattle.quant.specs.Aligned.{alignedOf, placedOf, alignedAnswer, placedAnswer}
+use Rattle.quant.specs.Phaser.{phasedOf, phasedAnswer}
+use Rattle.quant.specs.Settings.{fittingOf, fittingAnswer}
 use Rattle.rows.specs.Rows as rows
 use Rattle.executor.specs.declared.osc.OscState.{OscState}
 use Rattle.executor.specs.declared.osc.Moved.{Moved}
 use Rattle.executor.specs.declared.osc.Swapped.{Swapped}
-use Rattle.executor.specs.Osc.{shiftedPhase, setPhaseTo, shiftedFreq, setFreqTo, swappedPhases}
+use Rattle.executor.specs.Osc.{shiftedPhase, setPhaseTo, shiftedFreq, setFreqTo, swappedPhases, movedAnswer, swappedAnswer}
 use Rattle.pulse.specs.declared.bin.Bin.{Bin}
 use Rattle.pulse.specs.declared.list.Pulse.{Pulse}
 use Rattle.pulse.specs.declared.weight.Weighed.{Weighed}
-use Rattle.pulse.specs.declared.weight.Weighed.the-variants as weighed
-use Rattle.pulse.specs.Weight.{weighedOf}
+use Rattle.pulse.specs.Weight.{weighedOf, weighedAnswer}
 use Rattle.tables.specs.declared.Tables.{Tables}
 use Rattle.tables.specs.declared.Found.{Found}
 use Rattle.tables.specs.declared.Found.the-variants as found
 use Rattle.tables.specs.declared.Told.{Told}
-use Rattle.tables.specs.declared.Told.the-variants as told
 use Rattle.tables.specs.Tables as tables
 use Rattle.points.specs.Points.{pointAt}
 use Rattle.shape.specs.declared.parts.Parted.{Parted}
-use Rattle.shape.specs.declared.parts.Parted.the-variants as parted
 use Rattle.shape.specs.declared.envelope.Enveloped.{Enveloped}
-use Rattle.shape.specs.declared.envelope.Enveloped.the-variants as enveloped
 use Rattle.shape.specs.Hann.{hannOf}
-use Rattle.shape.specs.Parts.{partedOf}
-use Rattle.shape.specs.Envelope.{least, envelopedOf}
+use Rattle.shape.specs.Parts.{partedOf, partedAnswer}
+use Rattle.shape.specs.Envelope.{least, envelopedOf, envelopedAnswer}
 use Rattle.placing.specs.declared.Judged.{Judged}
-use Rattle.placing.specs.declared.Judged.the-variants as judgement
-use Rattle.placing.specs.Judged.{judged}
+use Rattle.placing.specs.Judged.{judged, judgedAnswer}
 use Rattle.crosstalk.specs.declared.names.Crosstalk.{Crosstalk}
 use Rattle.crosstalk.specs.declared.parts.Plan.{Plan}
 use Rattle.crosstalk.specs.Crosstalk.{planned}
@@ -96,17 +87,13 @@ pub record Timed : Type 0 where
   pub level : ℤ
 
 abbrev pub isIndex : Aligned → Bool
-isIndex (aligned.Index a) = true
-isIndex aligned.NotFinite = false
+isIndex y = isDone (alignedAnswer y)
 
 abbrev pub align : Call
 align = equation (λ (x : Timed). alignedOf (x .time) (x .rate) (x .level)) isIndex
 
 abbrev pub isStart : Placed → Bool
-isStart (placed.Start start offset) = true
-isStart placed.NotFinite = false
-isStart placed.Before = false
-isStart placed.Beyond = false
+isStart y = isDone (placedAnswer y)
 
 abbrev pub place : Call
 place = equation (λ (x : Timed). placedOf (alignedOf (x .time) (x .rate) (x .level))) isStart
@@ -119,8 +106,7 @@ abbrev pub place-c : Call
 place-c = equation (λ (x : Timed). placeOf (placedOf (alignedOf (x .time) (x .rate) (x .level)))) (λ (y : Place). eqb (y .code) 0)
 
 abbrev pub isPair : Phased → Bool
-isPair (phased.Pair z) = true
-isPair phased.NotFinite = false
+isPair y = isDone (phasedAnswer y)
 
 abbrev pub phaser : Call
 phaser = equation phasedOf isPair
@@ -131,8 +117,7 @@ pub record Clocked : Type 0 where
   pub level : ℤ
 
 abbrev pub isFit : Fitting → Bool
-isFit (fitting.Fit s) = true
-isFit fitting.Unfit = false
+isFit y = isDone (fittingAnswer y)
 
 abbrev pub set-up : Call
 set-up = equation (λ (x : Clocked). fittingOf (x .rate) (x .delay) (x .level)) isFit
@@ -145,7 +130,7 @@ pub record Turning : Type 0 where
   pub time : Float
 
 abbrev pub hasMoved : Moved → Bool
-hasMoved y = not (y .refused)
+hasMoved y = isDone (movedAnswer y)
 
 abbrev pub shift-phase : Call
 shift-phase = equation (λ (x : Turning). shiftedPhase (x .osc) (x .number)) hasMoved
@@ -165,7 +150,7 @@ pub record Swapping : Type 0 where
   pub time : Float
 
 abbrev pub swap-phase : Call
-swap-phase = equation (λ (x : Swapping). swappedPhases (x .one) (x .two) (x .time)) (λ (y : Swapped). not (y .refused))
+swap-phase = equation (λ (x : Swapping). swappedPhases (x .one) (x .two) (x .time)) (λ (y : Swapped). isDone (swappedAnswer y))
 
 -- ---- a pulse: its weight, its envelope's parts, its place
 
@@ -175,8 +160,7 @@ pub record Weighing : Type 0 where
   pub drag : Float
 
 abbrev pub isFine : Weighed → Bool
-isFine (weighed.Fine w) = true
-isFine weighed.Overflow = false
+isFine y = isDone (weighedAnswer y)
 
 abbrev pub weigh : Call
 weigh = equation (λ (x : Weighing). weighedOf (x .amplitude) (x .phase) (x .drag)) isFine
@@ -193,15 +177,13 @@ abbrev pub partsFor : Curve → ℕ → Parted
 partsFor x room = partedOf (x .width) (x .plateau) (x .offset) (x .rate) (x .dt) room
 
 abbrev pub isWithin : Parted → Bool
-isWithin (parted.Within p) = true
-isWithin (parted.Refused r) = false
+isWithin y = isDone (partedAnswer y)
 
 abbrev pub lay-out : Call
 lay-out = equation (λ (x : Curve). partsFor x (x .room)) isWithin
 
 abbrev pub hasPoints : Enveloped → Bool
-hasPoints (enveloped.Points n) = true
-hasPoints (enveloped.Refused r) = false
+hasPoints y = isDone (envelopedAnswer y)
 
 abbrev pub measure : Call
 measure = equation (λ (x : Curve). envelopedOf (partsFor x (least (x .room) 65536))) hasPoints
@@ -213,9 +195,7 @@ pub record Pulsed : Type 0 where
   pub len : ℕ
 
 abbrev pub isPlaced : Judged → Bool
-isPlaced (judgement.Plateau f) = true
-isPlaced (judgement.Shaped c) = true
-isPlaced (judgement.Refused r) = false
+isPlaced y = isDone (judgedAnswer y)
 
 abbrev pub judge : Call
 judge = equation (λ (x : Pulsed). judged (x .settings) (x .bin) (x .pulse) (x .len)) isPlaced
@@ -227,8 +207,7 @@ pub record Looking : Type 0 where
   pub name : Name
 
 abbrev pub isKnown : Told → Bool
-isKnown (told.Of osc) = true
-isKnown told.Unknown = false
+isKnown y = isDone (tables.toldAnswer y)
 
 abbrev pub state : Call
 state = equation (λ (x : Looking). tables.stateOf (x .tables) (x .name)) isKnown

@@ -11,8 +11,8 @@ use Rattle.hex.specs.Hex as hex
 use Rattle.lines.specs.Field.{numberAt}
 use Rattle.naming.specs.declared.Name.{Name}
 use Rattle.naming.specs.declared.Naming.{Naming}
-use Rattle.naming.specs.declared.Naming.the-variants as naming
 use Rattle.naming.specs.Name as name
+use Rattle.tables.specs.Tables.{namingAnswer}
 use Rattle.decimal.specs.declared.digits.Digits.{Digits}
 use Rattle.decimal.specs.declared.digits.Digits.the-variants as digits
 use Rattle.decimal.specs.declared.number.Number.{Number}
@@ -66,8 +66,7 @@ abbrev pub number-at : Call
 number-at = equation (λ (x : Place). numberAt (x .text) (x .at)) isWord
 
 abbrev pub isNamed : Naming → Bool
-isNamed (naming.Named n) = true
-isNamed naming.Bad = false
+isNamed y = isDone (namingAnswer y)
 
 abbrev pub name-read : Call
 name-read = equation name.namingOf isNamed

@@ -1,4 +1,4 @@
--- A SAMPLING CALL IS REFUSED BY 12 EXACTLY WHEN the first pulse that is refused starts within the row, has no shape or a t1 that is not below 0, and its
+-- A sampling call is refused by 12 exactly when the first pulse that is refused starts within the row, has no shape or a t1 that is not below 0, and its
 -- end index is over the row length: from made tables, after any run of calls. For then every bin is as plays leave it (`Sound`), and so is the bin of
 -- every pulse that the call judges. Of doubles, as every f64 of the code is. Assumes nothing.
 use Prim.Native.Nat.{ℕ, _+_, _*_, _≤_, _<_}

@@ -23,7 +23,7 @@ use Rattle.shape.specs.Envelope.{least}
 use Rattle.shape.proofs.Envelopes.{refused-by}
 use Rattle.placing.specs.declared.Judged.{Judged}
 use Rattle.placing.specs.declared.Judged.the-variants as judgement
-use Rattle.placing.specs.Judged.{judged}
+use Rattle.placing.specs.Judged.{judged, judgedAnswer}
 use Rattle.placing.proofs.Ways.{Way, no-index, before, beyond, past, unshaped, over, plain-rest, curved-rest, flat, curved, way}
 use Rattle.mixdown.specs.Sampled.{Rowed, Out, out, addedTo, unlessRefused, ranPulses, andThen, ranBins}
 use Rattle.mixdown.proofs.Lengths.{i-length}
@@ -79,7 +79,7 @@ module _ (s : Settings) (len : ℕ) where
       one-more f = record { place = let h = f .place in omega (arith, h); number = f .number }
 
       go : (j : Judged) → judged s (d .bin) (d .pulse) len ≡ j → (verdict s len ds (suc k) ≡ Refused why n → Fewer ds (suc k) why n)
-          → unless j k (verdict s len ds (suc k)) ≡ Refused why n → Fewer (d ∷ ds) k why n
+          → unless (judgedAnswer j) k (verdict s len ds (suc k)) ≡ Refused why n → Fewer (d ∷ ds) k why n
       go (judgement.Refused r) h later f =
           let is : r ≡ why = cc in
           let at : k ≡ n = cc in
@@ -99,7 +99,7 @@ module _ (s : Settings) (len : ℕ) where
   verdict-append (d ∷ ds) es k = go (judged s (d .bin) (d .pulse) len) (verdict-append ds es (suc k))
     where
       go : (j : Judged) → verdict s len (ds ++ es) (suc k) ≡ onward (verdict s len ds (suc k)) (verdict s len es)
-          → unless j k (verdict s len (ds ++ es) (suc k)) ≡ onward (unless j k (verdict s len ds (suc k))) (verdict s len es)
+          → unless (judgedAnswer j) k (verdict s len (ds ++ es) (suc k)) ≡ onward (unless (judgedAnswer j) k (verdict s len ds (suc k))) (verdict s len es)
       go (judgement.Refused r) h = refl
       go (judgement.Plateau f) h = h
       go (judgement.Shaped f) h = h
@@ -141,13 +141,13 @@ module _ (s : Settings) (len : ℕ) (why : Refusal) where
             refused = f .refused;
           }
 
-      go : (x : Judged) → judged s (d .bin) (d .pulse) len ≡ x → (verdict s len ds (suc j) ≡ Refused why k → FirstRefused ds (suc j) k) → unless x j (verdict s len ds (suc j)) ≡ Refused why k → FirstRefused (d ∷ ds) j k
+      go : (x : Judged) → judged s (d .bin) (d .pulse) len ≡ x → (verdict s len ds (suc j) ≡ Refused why k → FirstRefused ds (suc j) k) → unless (judgedAnswer x) j (verdict s len ds (suc j)) ≡ Refused why k → FirstRefused (d ∷ ds) j k
       go (judgement.Refused r) h more f =
           let is : r ≡ why = cc in
           let at : j ≡ k = cc in
           record { pulse = record { before = []; this = d; behind = ds; are = refl; place = omega (arith, at); accepted = ap Done at }; refused = h ∙ ap judgement.Refused is }
-      go (judgement.Plateau x) h more f = later (λ ys. ap (λ (y : Judged). unless y j (verdict s len ys (suc j))) h) (more f)
-      go (judgement.Shaped x) h more f = later (λ ys. ap (λ (y : Judged). unless y j (verdict s len ys (suc j))) h) (more f)
+      go (judgement.Plateau x) h more f = later (λ ys. ap (λ (y : Judged). unless (judgedAnswer y) j (verdict s len ys (suc j))) h) (more f)
+      go (judgement.Shaped x) h more f = later (λ ys. ap (λ (y : Judged). unless (judgedAnswer y) j (verdict s len ys (suc j))) h) (more f)
 
   pub first-told : (ds : List Due) (j k : ℕ) → FirstRefused ds j k → verdict s len ds j ≡ Refused why k
   unfolding verdict
@@ -156,7 +156,7 @@ module _ (s : Settings) (len : ℕ) (why : Refusal) where
       ap (λ (l : List Due). verdict s len l j) (p .are)
       ∙ verdict-append s len (p .before) (p .this ∷ p .behind) j
       ∙ ap (λ (a : Answer). onward s len a (verdict s len (p .this ∷ p .behind))) (p .accepted)
-      ∙ ap (λ (y : Judged). unless y k (verdict s len (p .behind) (suc k))) (f .refused)
+      ∙ ap (λ (y : Judged). unless (judgedAnswer y) k (verdict s len (p .behind) (suc k))) (f .refused)
 
 -- ---- the pulses of a bin
 module _ (s : Settings) (rows : ℕ) where
@@ -181,7 +181,7 @@ module _ (s : Settings) (rows : ℕ) where
   pulses-verdict b (p ∷ ps) k st = let j = judged s b p (length (st .i)) in go j (i-length s b rows st j) (pulses-verdict b ps (suc k) (addedTo s b rows j st))
     where
       go : (j : Judged) → length (addedTo s b rows j st .i) ≡ length (st .i) → later b ps k st j .answer ≡ verdict s (length (addedTo s b rows j st .i)) (duesOf b ps) (suc k)
-          → unlessRefused j k st (later b ps k st j) .answer ≡ unless j k (verdict s (length (st .i)) (duesOf b ps) (suc k))
+          → unlessRefused j k st (later b ps k st j) .answer ≡ unless (judgedAnswer j) k (verdict s (length (st .i)) (duesOf b ps) (suc k))
       go (judgement.Refused r) e h = refl
       go (judgement.Plateau f) e h = h ∙ ap (λ (n : ℕ). verdict s n (duesOf b ps) (suc k)) e
       go (judgement.Shaped f) e h = h ∙ ap (λ (n : ℕ). verdict s n (duesOf b ps) (suc k)) e

@@ -22,9 +22,7 @@ use Rattle.merge.specs.Taking.{Part, partsIn}
 use Rattle.merge.specs.Work.{gatheredOf}
 use Rattle.crosstalk.specs.declared.names.Crosstalk.{Crosstalk}
 use Rattle.crosstalk.specs.Crosstalk.{namesIn, doubledAt, planned}
-use Rattle.placing.specs.declared.Judged.{Judged}
-use Rattle.placing.specs.declared.Judged.the-variants as judgement
-use Rattle.placing.specs.Judged.{judged}
+use Rattle.placing.specs.Judged.{judged, judgedAnswer}
 use Rattle.mixdown.specs.Bins.{binsBy, mergedOf}
 use Rattle.sampler.specs.declared.Request.{Request}
 use Rattle.sampler.specs.Prepared.{settingsOf}
@@ -96,14 +94,13 @@ withPulses s r c factors k =
     withLent s (withAll (settingsOf r) (r .rows) (take k (pulsesOf s r c factors)) (s .rows)) (g .rows) (g .marks)
 
 -- what is answered of pulses judged one after another, in a row of so many samples, where k are added already
-abbrev pub unless : Judged → ℕ → Answer → Answer
-unless (judgement.Refused why) k next = Refused why k
-unless (judgement.Plateau f) k next = next
-unless (judgement.Shaped f) k next = next
+abbrev pub unless : Answer → ℕ → Answer → Answer
+unless (Refused why place) k next = Refused why k
+unless (Done count) k next = next
 
 unfoldable pub verdict : Settings → ℕ → List Due → ℕ → Answer
 verdict s len [] k = Done k
-verdict s len (d ∷ ds) k = unless (judged s (d .bin) (d .pulse) len) k (verdict s len ds (suc k))
+verdict s len (d ∷ ds) k = unless (judgedAnswer (judged s (d .bin) (d .pulse) len)) k (verdict s len ds (suc k))
 
 -- no pulse is refused, and each is added and counted
 pub record AllAdded (s : State) (r : Request) (c : Crosstalk) (factors : List Float) (k : ℕ) (u : State) : Type 0 where

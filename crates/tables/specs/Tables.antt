@@ -9,9 +9,12 @@ use lib.Ieee.Scale.{finite}
 use lib.ListN.{take, getD, set, replicate}
 use Rattle.exact.specs.Doubles.{nought}
 use Rattle.naming.specs.declared.Name.{Name}
+use Rattle.naming.specs.declared.Naming.{Naming}
+use Rattle.naming.specs.declared.Naming.the-variants.{Named, Bad}
+use Rattle.quant.specs.declared.refusal.Answer.{Answer}
 use Rattle.quant.specs.declared.refusal.Answer.the-variants.{Done, Refused}
 use Rattle.quant.specs.declared.refusal.Refusal.{Refusal}
-use Rattle.quant.specs.declared.refusal.Refusal.the-variants.{Unfit, Malformed, Full}
+use Rattle.quant.specs.declared.refusal.Refusal.the-variants.{Unfit, Malformed, Full, UnknownChannel}
 use Rattle.naming.specs.Name.{isName, sameName}
 use Rattle.quant.specs.Settings.{isTolerance}
 use Rattle.executor.specs.declared.osc.OscState.{OscState}
@@ -21,7 +24,7 @@ use Rattle.tables.specs.declared.Tabled.{Tabled}
 use Rattle.tables.specs.declared.Found.{Found}
 use Rattle.tables.specs.declared.Found.the-variants.{At, Nowhere}
 use Rattle.tables.specs.declared.Told.{Told}
-use Rattle.tables.specs.declared.Told.the-variants.{Of, Unknown}
+use Rattle.tables.specs.declared.Told.the-variants as told
 
 -- ---- what stands in the tables
 
@@ -140,8 +143,20 @@ abbrev pub channelAt : Tables → ℕ → Channel
 channelAt t i = getD (t .channels) i noChannel
 
 unfoldable pub toldAt : Tables → Found → Told
-toldAt t (At i) = Of (channelAt t i .osc)
-toldAt t Nowhere = Unknown
+toldAt t (At i) = told.Of (channelAt t i .osc)
+toldAt t Nowhere = told.Unknown
 
+-- 2, then 7
 abbrev pub stateOf : Tables → Name → Told
-stateOf t n = toldAt t (found t n)
+stateOf t n = cond (isName n) (toldAt t (found t n)) told.Malformed
+
+-- ---- what the cases answer
+abbrev pub toldAnswer : Told → Answer
+toldAnswer (told.Of o) = Done 0
+toldAnswer told.Malformed = Refused Malformed 0
+toldAnswer told.Unknown = Refused UnknownChannel 0
+
+-- of a text taken for a name, in `naming`, which knows no refusal
+abbrev pub namingAnswer : Naming → Answer
+namingAnswer (Named n) = Done 0
+namingAnswer Bad = Refused Malformed 0

@@ -45,9 +45,12 @@ pub enum Found {
     Nowhere,
 }
 
+// `toldAnswer` says which case is which refusal.
 pub enum Told {
     Of(OscState),
-    // Refusal 7.
+    // The name breaks the rule.
+    Malformed,
+    // No channel of that name.
     Unknown,
 }
 
@@ -81,10 +84,13 @@ pub fn add_shape(t: Tables, name: Name) -> Tabled
     refused(Refusal::Malformed, t)
 }
 
-// A channel's oscillator.
+// A channel's oscillator, or refusal 2 or 7, in this order.
 pub fn state(t: Tables, name: Name) -> Told
     ensures { λ r. ⌜ r ≡ stateOf t name ⌝ }
 {
+    if !is_name(name) {
+        return Told::Malformed;
+    }
     match find(t, name) {
         Found::At(i) => {
             let c = t.channels[i];
