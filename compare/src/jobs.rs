@@ -234,7 +234,42 @@ impl Text {
         if rng.below(8) == 0 {
             self.ask("crosstalk 1 q0 2", "ok 0");
         }
+        if sheet_can_say(job) && rng.below(2) == 0 {
+            self.sheet(rng, job);
+            return;
+        }
         self.ask(&format!("crosstalk {n}{names}{factors}"), "ok 0");
+    }
+
+    /// The same as a sheet, its rows in any order; before it, now and then, one that is refused, and one of more lines than there are.
+    fn sheet(&mut self, rng: &mut Rng, job: &Job) {
+        let n = job.names.len();
+        self.count("sheets", 1);
+        if rng.below(4) == 0 {
+            self.ask("sheet 2\nchannels=1\ncolumn=q0", "refused 15 3");
+            self.lines += 2;
+        }
+        if rng.below(4) == 0 {
+            let told = format!("syntax {}", self.lines + 1);
+            self.ask("sheet 100000000", &told);
+        }
+        let mut rows: Vec<usize> = (0..n).collect();
+        for k in (1..n).rev() {
+            rows.swap(k, rng.below(k as u64 + 1) as usize);
+        }
+        let mut sheet = format!("sheet {}\nchannels={n}", 1 + n + n * (n + 1));
+        for name in &job.names {
+            sheet += &format!("\ncolumn={name}");
+        }
+        for row in rows {
+            sheet += &format!("\nrow={}", job.names[row]);
+            for factor in &job.factors[row * n..][..n] {
+                sheet += &format!("\nfactor={}", hex(*factor));
+            }
+        }
+        let lines = sheet.lines().count();
+        self.ask(&sheet, &format!("ok {n}"));
+        self.lines += lines - 1;
     }
 
     /// The rows after a sampling onto zeros, I before Q.
@@ -345,6 +380,19 @@ fn other(rng: &mut Rng, channels: usize, rate: f64) -> Command<'static> {
         4 => Command::SwapPhase(a, b),
         _ => Command::Barrier,
     }
+}
+
+/// One to eight good names, none doubled, and finite factors.
+fn sheet_can_say(job: &Job) -> bool {
+    let n = job.names.len();
+    let single = (1..n).all(|k| !job.names[..k].contains(&job.names[k]));
+    let good = |name: &&str| {
+        name.len() <= 16 && name.bytes().all(|b| b != b'=' && (0x21..=0x7e).contains(&b))
+    };
+    (1..=8).contains(&n)
+        && single
+        && job.names.iter().all(good)
+        && job.factors[..n * n].iter().all(|x| x.is_finite())
 }
 
 fn hex(x: f64) -> String {

@@ -4,6 +4,7 @@ ghost use lib.ListN.{length};
 use super::state::least;
 use decimal::print::pattern;
 use decimal::print::put_double;
+use job_sheet::Inset;
 use naming::Name;
 use quant::refusal::Answer;
 use quant::refusal::number;
@@ -56,6 +57,14 @@ pub(crate) fn wrong_size() {
 pub(crate) fn show_syntax(line: usize) {
     io::write_all(1, b"syntax ");
     end_with(line);
+}
+
+// A sheet's answer; with fewer lines behind it than it says, the line is no line of a job.
+pub(crate) fn show_inset(inset: Inset, line: usize) {
+    match inset {
+        Inset::Sheet(answer) => show_answer(answer),
+        Inset::Fewer => show_syntax(line),
+    }
 }
 
 fn end_with(n: usize) {

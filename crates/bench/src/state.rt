@@ -122,6 +122,14 @@ fn with_names(s: State, n: u64, line: &[u8]) -> State {
     }
 }
 
+pub(crate) fn with_crosstalk(s: State, c: Crosstalk) -> State
+    ensures { λ r. ⌜ r .crosstalk ≡ c ⌝ }
+{
+    let mut u = s;
+    u.crosstalk = c;
+    u
+}
+
 fn names_in(line: &[u8], count: usize) -> [Name; 8]
     requires { ⌜ count ≤ 8 ⌝ }
 {

@@ -1,28 +1,97 @@
-// What lines do to the rows, but for sampling: zeros, the mixer's correction, filters, and printing.
+// What lines do, but for runs and samplings: to the state, to the crosstalk's factors, and to the rows, which are cleared, corrected, filtered and
+// printed.
+ghost use Prim.Native.Nat.{_≤_};
+ghost use lib.ListN.{length};
+ghost use Rattle.bench.specs.Sheet.{TookBy, GoesOn};
 use super::show::show_answer;
+use super::show::show_inset;
 use super::show::show_row;
 use super::state::State;
+use super::state::after;
 use super::state::at_most_511;
 use super::state::least;
 use super::state::second;
 use super::state::size_fits;
+use super::state::with_crosstalk;
+use crosstalk::names::Crosstalk;
 use fir::fir;
 use iir::iir;
 use job::line::Line;
+use job_sheet::Taken;
+use job_sheet::fewer;
+use job_sheet::take_sheet;
 use mixer::iq;
 use mixer::offset;
 use numbers::numbers;
 use quant::refusal::Answer;
 
+// The state after a line; and the job goes on at `next`, behind the line and so many lines more.
+pub struct Told {
+    pub state: State,
+    pub lines: usize,
+    pub next: usize,
+}
+
+// The line from `at` to `end`, the number-th.
+pub(crate) fn tell(
+    said: Line,
+    s: State,
+    text: &[u8],
+    at: usize,
+    end: usize,
+    number: usize,
+    factors: &mut [f64],
+    i: &mut [f64],
+    q: &mut [f64],
+) -> Told
+    requires { ⌜ (at ≤ end) × (end ≤ length (now text)) ⌝ }
+    ensures { λ r. ⌜ GoesOn (length (now (text .entry))) end (r .lines) (r .next) ⌝ }
+{
+    let u = after(s, said, &text[at..end], number);
+    take_factors(said, &text[at..end], factors);
+    let behind = least(end + 1, text.len());
+    let c = u.crosstalk;
+    let taken = sheet_behind(said, c, &text[behind..], factors, number);
+    let crossed = taken.crosstalk;
+    let state = with_crosstalk(u, crossed);
+    on_rows(said, state, &text[at..end], i, q);
+    Told {
+        state,
+        lines: taken.lines as usize,
+        next: end + 1 + taken.bytes,
+    }
+}
+
 // The factors of a crosstalk line, as many as eight names have.
-pub(crate) fn take_factors(said: Line, line: &[u8], factors: &mut [f64]) {
+fn take_factors(said: Line, line: &[u8], factors: &mut [f64]) {
     if let Line::Crosstalk(n) = said {
         numbers(line, at_most_511(n) + 2, factors);
     }
 }
 
+// The sheet behind a line of a sheet: read, answered, and its lines and bytes told; behind any other line none.
+fn sheet_behind(
+    said: Line,
+    c: Crosstalk,
+    behind: &[u8],
+    factors: &mut [f64],
+    number: usize,
+) -> Taken
+    ensures { λ r. ⌜ TookBy said (now (behind .entry)) c (now (factors .entry)) r (now (factors .exit)) ⌝ }
+{
+    match said {
+        Line::Sheet(n) => {
+            let taken = take_sheet(behind, n, c, factors);
+            let inset = taken.inset;
+            show_inset(inset, number);
+            taken
+        }
+        _ => fewer(c),
+    }
+}
+
 // The state is that after the line: a line of rows has set their sizes.
-pub(crate) fn on_rows(said: Line, s: State, line: &[u8], i: &mut [f64], q: &mut [f64]) {
+fn on_rows(said: Line, s: State, line: &[u8], i: &mut [f64], q: &mut [f64]) {
     let n = least(s.length, i.len());
     let m = least(second(s), q.len());
     on_parts(said, s.rows, line, &mut i[..n], &mut q[..m]);

@@ -2,7 +2,6 @@
 ghost use Prim.Native.Nat.{_<_, _≤_};
 ghost use lib.ListN.{length};
 use super::show::show_answer;
-use super::state::after;
 use super::state::is_run;
 use super::state::is_sample;
 use super::state::kept;
@@ -11,8 +10,7 @@ use super::state::ran;
 use super::state::request;
 use super::state::second;
 use super::state::start;
-use super::steps::on_rows;
-use super::steps::take_factors;
+use super::steps::tell;
 use commands::command::Arranged;
 use commands::command::Command;
 use crosstalk::names::Crosstalk;
@@ -41,15 +39,15 @@ pub(crate) fn each(text: &[u8]) {
     let mut at: usize = 0;
     while at < text.len() {
         let end = end_of(text, at);
-        let next = end + 1;
         let said = read(&text[at..end]);
         number += 1;
         let slot = least(s.gathered, 1023);
         commands[slot] = kept(said, commands[slot]);
         let runs = is_run(said, s);
-        s = after(s, said, &text[at..end], number);
-        take_factors(said, &text[at..end], &mut factors);
-        on_rows(said, s, &text[at..end], &mut i, &mut q);
+        let told = tell(said, s, text, at, end, number, &mut factors, &mut i, &mut q);
+        s = told.state;
+        number += told.lines;
+        at = told.next;
         if runs {
             let t = s.tables;
             let e = execute_owned(t, commands, s.gathered, &mut bins, pulses);
@@ -75,7 +73,6 @@ pub(crate) fn each(text: &[u8]) {
                 &mut marks,
             );
         }
-        at = next;
     }
 }
 

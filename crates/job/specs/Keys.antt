@@ -60,6 +60,10 @@ statesWord = 115 ∷ 116 ∷ 97 ∷ 116 ∷ 101 ∷ 115 ∷ []
 abbrev pub crosstalkWord : List ℕ
 crosstalkWord = 99 ∷ 114 ∷ 111 ∷ 115 ∷ 115 ∷ 116 ∷ 97 ∷ 108 ∷ 107 ∷ []
 
+-- `sheet`
+abbrev pub sheetWord : List ℕ
+sheetWord = 115 ∷ 104 ∷ 101 ∷ 101 ∷ 116 ∷ []
+
 -- `rows`
 abbrev pub rowsWord : List ℕ
 rowsWord = 114 ∷ 111 ∷ 119 ∷ 115 ∷ []

@@ -1,4 +1,4 @@
--- The lines that are lists of names and numbers: "numbers as many as the count says". Definitions only.
+-- The lines that are lists: names, numbers, or lines behind the line, as many as a count says. Definitions only.
 use Prim.Native.Nat.{ℕ, _+_, _-_, _*_}
 use mathlib.Core.Bool.{Bool, true, false, _&&_, not, cond}
 use mathlib.Core.List.{List, [], _∷_}
@@ -12,10 +12,10 @@ use Rattle.decimal.specs.declared.number.Number.the-variants as number
 use Rattle.fields.specs.Value.{wholeField}
 use Rattle.fields.specs.Words.{isWord}
 use Rattle.job.specs.declared.line.Line.{Line}
-use Rattle.job.specs.declared.line.Line.the-variants.{Syntax, Crosstalk, Iq, Offset, Iir, Fir}
+use Rattle.job.specs.declared.line.Line.the-variants.{Syntax, Crosstalk, Sheet, Iq, Offset, Iir, Fir}
 use Rattle.job.specs.Given as given
 use Rattle.job.specs.Given.{word}
-use Rattle.job.specs.Keys.{crosstalkWord, iqWord, offsetWord, iirWord, firWord}
+use Rattle.job.specs.Keys.{crosstalkWord, sheetWord, iqWord, offsetWord, iirWord, firWord}
 
 -- ---- words that are numbers
 
@@ -70,6 +70,10 @@ crosstalkOf words =
     cond (ltb 511 n) Syntax
     (cond (eqb (length words) (n * n + n + 2)) (cond (numbersFrom (n + 2) words) (Crosstalk n) Syntax) Syntax))
 
+-- `sheet COUNT`
+unfoldable pub sheetOf : List (List ℕ) → Line
+sheetOf words = cond (eqb (length words) 2) (given.whole Syntax (wholeField [] (word words 1)) Sheet) Syntax
+
 unfoldable pub listOf : List (List ℕ) → Line
 listOf words =
     cond (isWord iqWord (word words 0)) (iqOf words)
@@ -77,4 +81,5 @@ listOf words =
     (cond (isWord iirWord (word words 0)) (iirBy (countedOf words))
     (cond (isWord firWord (word words 0)) (firBy (countedOf words))
     (cond (isWord crosstalkWord (word words 0)) (crosstalkOf words)
-    Syntax))))
+    (cond (isWord sheetWord (word words 0)) (sheetOf words)
+    Syntax)))))

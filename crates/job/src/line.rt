@@ -44,6 +44,8 @@ pub enum Line {
     Run,
     States,
     Crosstalk(u64),
+    // So many lines behind it are a sheet.
+    Sheet(u64),
     Rows(u64, u64),
     Sample(Sampling),
     Iq,

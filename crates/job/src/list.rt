@@ -1,7 +1,8 @@
-// The lines that are lists: names and numbers as many as a count says. A caller takes the names by `fields` and the numbers by `numbers`.
+// The lines that are lists: names, numbers or lines as many as a count says. A caller takes the names by `fields`, the numbers by `numbers`, and the
+// lines behind the line by `job_sheet`.
 ghost use mathlib.Core.Path.{_≡_};
 ghost use Rattle.fields.specs.Words.{wordsOf};
-ghost use Rattle.job.specs.List.{listOf, iqOf, offsetOf, countedOf, iirBy, firBy, crosstalkOf, numbersFrom, stopsAt, lessOf};
+ghost use Rattle.job.specs.List.{listOf, iqOf, offsetOf, countedOf, iirBy, firBy, crosstalkOf, sheetOf, numbersFrom, stopsAt, lessOf};
 use super::line::Line;
 use decimal::digits::Digits;
 use decimal::digits::place;
@@ -27,6 +28,9 @@ pub(crate) fn list_line(line: &[u8]) -> Line
     }
     if is_word(line, 0, b"crosstalk") {
         return crosstalk(line);
+    }
+    if is_word(line, 0, b"sheet") {
+        return sheet(line);
     }
     Line::Syntax
 }
@@ -111,6 +115,20 @@ fn crosstalk(line: &[u8]) -> Line
         return Line::Syntax;
     }
     Line::Crosstalk(n)
+}
+
+// `sheet COUNT`.
+fn sheet(line: &[u8]) -> Line
+    ensures { λ r. ⌜ r ≡ sheetOf (wordsOf (now (line .entry))) ⌝ }
+{
+    if count(line) != 2 {
+        return Line::Syntax;
+    }
+    let said = whole_in(line, 1, b"");
+    match said {
+        Digits::Value(n) => Line::Sheet(n),
+        Digits::Bad => Line::Syntax,
+    }
 }
 
 // Whether every word from word k on is a number.

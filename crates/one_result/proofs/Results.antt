@@ -21,6 +21,9 @@ use Rattle.sheet.specs.declared.print.Printed.{Printed}
 use Rattle.sheet.specs.Sheet.{Behind, value, other, Read, Print}
 use Rattle.sheet.specs.Reader.{Starts, parted}
 use Rattle.sheet_answer.specs.Answer.{Answered}
+use Rattle.crosstalk.specs.declared.names.Crosstalk.{Crosstalk}
+use Rattle.job_sheet.specs.declared.Taken.{Taken}
+use Rattle.job_sheet.specs.Inset.{Took}
 use Rattle.fields.specs.declared.words.Span.{Span}
 use Rattle.fields.specs.Words.{Found, spanned}
 use Rattle.numbers.specs.Numbers.{Stored, listed}
@@ -91,6 +94,12 @@ one-print count names matrix before r s t u a b = (one (a .answered) (b .answere
 
 pub one-sheet-answer : (text before : List ℕ) (r s : Printed) (t u : List ℕ) → Answered text before r t → Answered text before s u → (r ≡ s) × (t ≡ u)
 one-sheet-answer text before r s t u a b = (one (a .answer) (b .answer), one (a .left) (b .left))
+
+-- the sheet behind a job's line
+
+pub one-taken : (behind : List ℕ) (count : ℕ) (c : Crosstalk) (before : List Float) (r s : Taken) (m n : List Float) → Took behind count c before r m → Took behind count c before s n
+    → (r ≡ s) × (m ≡ n)
+one-taken behind count c before r s m n a b = (one (a .taken) (b .taken), one (a .left) (b .left))
 
 -- whether there is anything behind the key
 abbrev told : Behind → Bool

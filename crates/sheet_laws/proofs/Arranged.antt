@@ -15,7 +15,7 @@ use Rattle.sheet_laws.specs.Words.{In, here, there, Permuted, nil, keep,
 use Rattle.sheet_laws.proofs.Factors.{wide}
 use Rattle.sheet_laws.proofs.Names.{in-is, single-first, single-rest}
 use Rattle.sheet_laws.proofs.Once.{rows-are}
-use Rattle.sheet_laws.proofs.Rows.{block-for, matrix-same, row-of, under-own}
+use Rattle.sheet_laws.proofs.Rows.{block-for, matrix-same, row-of, self, under-own}
 
 -- a block for each of some names
 unfoldable pub ordered : SoFar → List Name → List Block
@@ -90,10 +90,6 @@ module _ (s : Sheet) (w : WellFormed s) where
   arranged-matrix before = matrix-same (contents (arranged s)) (contents s) before refl refl arranged-under
 
 -- ---- the same blocks
-
-self : (l : List Block) → Permuted l l
-self [] = nil
-self (b ∷ bs) = keep (self bs)
 
 -- a list with one block taken out
 record Without (b : Block) (l : List Block) : Type 0 where

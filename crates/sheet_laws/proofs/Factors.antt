@@ -10,7 +10,7 @@ use borrow.Author.Tests.{leb-true}
 use lib.Arith.{digits-lt}
 use lib.Ieee.{Float, binary64, ofBits}
 use lib.ListN.{length, take, drop, getD, replicate, length-append, List·getD-append}
-use lib.Seq.{take-append-add, getD-append-add}
+use lib.Seq.{take-append-add, take-at, drop-append-add, getD-take, getD-drop}
 use Rattle.naming.specs.Name.{sameName}
 use Rattle.naming.specs.declared.Name.{Name}
 use Rattle.naming.proofs.Named.{same-exactly}
@@ -49,7 +49,7 @@ place-back n ns short h = rw (eight-are ns short) (place-front n ns (take (8 - l
 
 -- ---- a number's place
 
-column-in : (c : Name) (bits : ℕ) (cs : List Name) (fs : List ℕ) → AtColumn c bits cs fs → In c cs
+pub column-in : (c : Name) (bits : ℕ) (cs : List Name) (fs : List ℕ) → AtColumn c bits cs fs → In c cs
 column-in c bits (d ∷ cs) (f ∷ fs) first = here
 column-in c bits (d ∷ cs) (f ∷ fs) (later h) = there (column-in c bits cs fs h)
 
@@ -77,23 +77,25 @@ module _ (t : SoFar) (count : ℕ) where
   rows-long (n ∷ ns) wide =
       rw (length-append, wide n here, rows-long ns (λ m h. wide m (there h))) (omega (arith, suc-mul (length ns) count))
 
+  -- a row's numbers, by its name
+  pub under-at : (r : Name) (ns : List Name) → ((n : Name) → In n ns → length (under t n) ≡ count) → In r ns
+      → take count (drop (position r ns * count) (rowsFor t ns)) ≡ under t r
+  unfolding rowsFor position
+  under-at r (n ∷ ns) wide here = rw (same-self r, zero-mul count) (take-at (under t r) (rowsFor t ns) count (wide r here))
+  under-at r (n ∷ ns) wide (there h) = by (under-at r ns (λ m k. wide m (there k)) h) (sameName n r) refl
+    where
+      by : take count (drop (position r ns * count) (rowsFor t ns)) ≡ under t r → (b : Bool) → sameName n r ≡ b
+          → take count (drop (cond b 0 (suc (position r ns)) * count) (under t n ++ rowsFor t ns)) ≡ under t r
+      by rest true same = rw (zero-mul count) (take-at (under t n) (rowsFor t ns) count (wide n here) ∙ ap (under t) (same-exactly n r .0 same))
+      by rest false other =
+          let past : suc (position r ns) * count ≡ length (under t n) + position r ns * count = rw (wide n here) (omega (arith, suc-mul (position r ns) count)) in
+          rw (past, drop-append-add (under t n) (rowsFor t ns) (position r ns * count)) rest
+
   row-at : (r : Name) (ns : List Name) (j : ℕ) → ((n : Name) → In n ns → length (under t n) ≡ count) → In r ns → j < count
       → getD (rowsFor t ns) (position r ns * count + j) 0 ≡ getD (under t r) j 0
-  unfolding rowsFor position
-  row-at r (n ∷ ns) j wide here below =
-      let start : 0 * count + j ≡ j = omega arith in
-      rw (same-self r, start) (List·getD-append (under t r) (rowsFor t ns) 0 j (rw (wide r here) below))
-  row-at r (n ∷ ns) j wide (there h) below = by (row-at r ns j (λ m k. wide m (there k)) h below) (sameName n r) refl
-    where
-      by : getD (rowsFor t ns) (position r ns * count + j) 0 ≡ getD (under t r) j 0 → (b : Bool) → sameName n r ≡ b
-          → getD (under t n ++ rowsFor t ns) (cond b 0 (suc (position r ns)) * count + j) 0 ≡ getD (under t r) j 0
-      by rest true same =
-          let start : 0 * count + j ≡ j = omega arith in
-          rw start (List·getD-append (under t n) (rowsFor t ns) 0 j (rw (wide n here) below) ∙ ap (λ (x : Name). getD (under t x) j 0) (same-exactly n r .0 same))
-      by rest false other =
-          let past : suc (position r ns) * count + j ≡ length (under t n) + (position r ns * count + j) =
-          rw (wide n here) (omega (arith, suc-mul (position r ns) count)) in
-          rw past (getD-append-add (under t n) (rowsFor t ns) (position r ns * count + j) 0 ∙ rest)
+  row-at r ns j wide h below =
+      let from = position r ns * count in
+      sym (getD-take count (drop from (rowsFor t ns)) j 0 below ∙ getD-drop from (rowsFor t ns) j 0) ∙ ap (λ (l : List ℕ). getD l j 0) (under-at r ns wide h)
 
 -- ---- what is found
 
@@ -147,12 +149,12 @@ factor-stands text before s r c bits read st =
 
 -- ---- two orders of one sheet
 
-at-entry : (c : Name) (bits : ℕ) (cs : List Name) (fs : List ℕ) → AtColumn c bits cs fs → In (record { column = c; bits = bits }) (entries cs fs)
+pub at-entry : (c : Name) (bits : ℕ) (cs : List Name) (fs : List ℕ) → AtColumn c bits cs fs → In (record { column = c; bits = bits }) (entries cs fs)
 unfolding entries
 at-entry c bits (d ∷ cs) (f ∷ fs) first = here
 at-entry c bits (d ∷ cs) (f ∷ fs) (later h) = there (at-entry c bits cs fs h)
 
-entry-at : (e : Entry) (cs : List Name) (fs : List ℕ) → In e (entries cs fs) → AtColumn (e .column) (e .bits) cs fs
+pub entry-at : (e : Entry) (cs : List Name) (fs : List ℕ) → In e (entries cs fs) → AtColumn (e .column) (e .bits) cs fs
 unfolding entries
 entry-at e (c ∷ cs) (f ∷ fs) here = first
 entry-at e (c ∷ cs) (f ∷ fs) (there h) = later (entry-at e cs fs h)

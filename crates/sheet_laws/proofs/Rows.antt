@@ -77,12 +77,17 @@ module _ (s : Sheet) (w : WellFormed s) where
   pub block-for : (n : Name) → In n (s .columns) → BlockOf n (s .blocks)
   block-for n h = block-of n (s .blocks) (rows-are s w n .1 h)
 
--- ---- the matrix
+-- ---- any order
 
-pub rows-same : (t u : SoFar) (ns : List Name) → ((n : Name) → In n ns → under t n ≡ under u n) → rowsFor t ns ≡ rowsFor u ns
-unfolding rowsFor
-rows-same t u [] same = refl
-rows-same t u (n ∷ ns) same = rw (same n here, rows-same t u ns (λ m h. same m (there h)))
+pub self : {A : Type 0} (l : List A) → Permuted l l
+self [] = nil
+self (a ∷ l) = keep (self l)
+
+pub back : {A : Type 0} {l m : List A} → Permuted l m → Permuted m l
+back nil = nil
+back (keep p) = keep (back p)
+back swap = swap
+back (then p q) = then (back q) (back p)
 
 pub still-in : {A : Type 0} {l m : List A} → Permuted l m → (a : A) → In a l → In a m
 still-in nil a h = h
@@ -92,6 +97,13 @@ still-in swap a here = there here
 still-in swap a (there here) = here
 still-in swap a (there (there h)) = there (there h)
 still-in (then p q) a h = still-in q a (still-in p a h)
+
+-- ---- the matrix
+
+pub rows-same : (t u : SoFar) (ns : List Name) → ((n : Name) → In n ns → under t n ≡ under u n) → rowsFor t ns ≡ rowsFor u ns
+unfolding rowsFor
+rows-same t u [] same = refl
+rows-same t u (n ∷ ns) same = rw (same n here, rows-same t u ns (λ m h. same m (there h)))
 
 pub matrix-same : (t u : SoFar) (before : List Float) → t .count ≡ u .count → t .columns ≡ u .columns → ((n : Name) → In n (t .columns) → under t n ≡ under u n)
     → matrixOf (accepts t) before ≡ matrixOf (accepts u) before

@@ -31,6 +31,7 @@ use Rattle.numbers.proofs.numbers as numbers
 use Rattle.sheet.proofs.read.read as sheet-read
 use Rattle.sheet.proofs.print.print as sheet-print
 use Rattle.sheet_answer.proofs.answer as sheet-answer
+use Rattle.job_sheet.proofs.take_sheet as take-sheet
 use Rattle.stand_ins.specs.Texts as call
 use Rattle.stand_ins.proofs.Says.{Says}
 
@@ -103,3 +104,6 @@ module _ {M : Type 1} (𝓤 : URA M) (H : Heap 𝓤) (A : Atoms 𝓤) (mem : Mem
 
   pub sheet-answer-says : Says 𝓤 sheet-answer.ended (sheet-answer.clauses 𝓤 H A mem run) (λ κs a r e. call.sheet-answer .Promise (record { text = now (a .0); out = now (a .1 .0) }) (record { printed = r; out = now (e .1 .0) }))
   sheet-answer-says κs a g r e = (refl, refl)
+
+  pub take-sheet-says : Says 𝓤 take-sheet.ended (take-sheet.clauses 𝓤 H A mem run) (λ κs a r e. call.take-sheet .Promise (record { text = now (a .0); count = a .1 .0; cross = a .1 .1 .0; factors = now (a .1 .1 .1 .0) }) (record { taken = r; factors = now (e .1 .1 .1 .0) }))
+  take-sheet-says κs a g r e = (refl, refl)

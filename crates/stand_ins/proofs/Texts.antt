@@ -25,6 +25,9 @@ use Rattle.sheet.specs.declared.print.Printed.{Printed}
 use Rattle.sheet.specs.declared.print.Printed.the-variants.{Bytes, Refused}
 use Rattle.sheet.specs.Sheet as sheet
 use Rattle.sheet_answer.specs.Answer as answer
+use Rattle.lines.specs.Text.{linesOf}
+use Rattle.job_sheet.specs.First as first
+use Rattle.job_sheet.specs.Inset as inset
 use Rattle.sampler_laws.specs.Added.{countIn}
 use Rattle.bench_table.specs.Call.{channel}
 use Rattle.stand_ins.specs.Whole.{anything}
@@ -77,6 +80,15 @@ module _ (n : ℕ) where
   only-answer : Only text.sheet-answer (given.answering n) answered
   only-answer z p = λ j. record { printed = p .answer j; out = p .left j }
 
+abbrev taken : text.Left
+taken =
+    let x = given.sheet-behind in
+    let f = first.firstOf (x .count) (x .text) in
+    record { taken = inset.takenOf (x .text) (x .count) (x .cross) 64 f; factors = inset.factorsAfter (x .text) (x .factors) f }
+
+only-taken : Only text.take-sheet given.sheet-behind taken
+only-taken z p = λ j. record { taken = p .taken j; factors = p .left j }
+
 -- something stands behind the key, so that the place is told
 isBehind : sheet.Behind → Bool
 isBehind (sheet.value bytes) = true
@@ -96,7 +108,7 @@ isShort (Bytes n) = eqb n 50
 isShort (Refused r line) = false
 
 pub texts : Texts
-unfolding isOne isShort ofBits round toBits hex.digitValue hex.digitOf hex.allDigits hex.number hex.digits hex.room hex.field hex.wordAt hex.written numberAt name.nameByte name.every name.accepted name.wordOf name.lowBytes name.bytesOfWord name.sixteen name.bytesOf name.pastEnd name.named name.namingOf name.isName name.inPlace name.sameName name.writable name.written number.parted number.significandOf number.powerOf number.scaledBy number.sizeOf number.decimalOf number.numberOf digits.placeOf digits.isFigure digits.digitsFrom digits.digitsOf value.numberField value.wholeField value.pairField value.nameOf value.nameField value.shapeField value.flagOf value.flagField value.signed value.levelOf value.levelField wordsOf isWord line.tablesOf line.channelOf line.shapeOf line.rowsOf line.sampleOf line.actionOf line.settingOf line.lineOf turnOf numbersOf sheet.channelsKey sheet.columnKey sheet.rowKey sheet.factorKey sheet.onto sheet.cut sheet.behind sheet.isIn sheet.position sheet.nothing sheet.countStep sheet.columnNamed sheet.columnStep sheet.rowNamed sheet.rowStep sheet.factorBits sheet.factorStep sheet.step sheet.complete sheet.onward sheet.readFrom sheet.outcome sheet.answerOf sheet.blank sheet.eight sheet.namesOf sheet.doubles sheet.under sheet.rowsFor sheet.matrixOf sheet.rowNames sheet.goodNames sheet.single sheet.among sheet.finiteBits sheet.fullBlocks sheet.countText sheet.columnsText sheet.factorsText sheet.blocksText sheet.sheetText sheet.patterns sheet.blocksOf sheet.sheetOf sheet.allFinite sheet.printFits sheet.columnsJudged sheet.factorAt sheet.factorsJudged sheet.printedBy sheet.printedOf sheet.bytesAfter answer.decimalOf answer.decimal answer.refusedKey answer.lineKey answer.refusedText answer.zeros answer.textFor answer.answerText answer.answerPrints answer.answerLeft
+unfolding isOne isShort ofBits round toBits hex.digitValue hex.digitOf hex.allDigits hex.number hex.digits hex.room hex.field hex.wordAt hex.written numberAt name.nameByte name.every name.accepted name.wordOf name.lowBytes name.bytesOfWord name.sixteen name.bytesOf name.pastEnd name.named name.namingOf name.isName name.inPlace name.sameName name.writable name.written number.parted number.significandOf number.powerOf number.scaledBy number.sizeOf number.decimalOf number.numberOf digits.placeOf digits.isFigure digits.digitsFrom digits.digitsOf value.numberField value.wholeField value.pairField value.nameOf value.nameField value.shapeField value.flagOf value.flagField value.signed value.levelOf value.levelField wordsOf isWord line.tablesOf line.channelOf line.shapeOf line.rowsOf line.sampleOf line.actionOf line.settingOf line.lineOf turnOf numbersOf sheet.channelsKey sheet.columnKey sheet.rowKey sheet.factorKey sheet.onto sheet.cut sheet.behind sheet.isIn sheet.position sheet.nothing sheet.countStep sheet.columnNamed sheet.columnStep sheet.rowNamed sheet.rowStep sheet.factorBits sheet.factorStep sheet.step sheet.complete sheet.onward sheet.readFrom sheet.outcome sheet.answerOf sheet.blank sheet.eight sheet.namesOf sheet.doubles sheet.under sheet.rowsFor sheet.matrixOf sheet.rowNames sheet.goodNames sheet.single sheet.among sheet.finiteBits sheet.fullBlocks sheet.countText sheet.columnsText sheet.factorsText sheet.blocksText sheet.sheetText sheet.patterns sheet.blocksOf sheet.sheetOf sheet.allFinite sheet.printFits sheet.columnsJudged sheet.factorAt sheet.factorsJudged sheet.printedBy sheet.printedOf sheet.bytesAfter answer.decimalOf answer.decimal answer.refusedKey answer.lineKey answer.refusedText answer.zeros answer.textFor answer.answerText answer.answerPrints answer.answerLeft linesOf first.linesBytes first.firstOf inset.takenOf inset.factorsAfter
 texts =
     record {
       hex-read = accepts _ text.isWord (given.first given.sixteen-digits) refl;
@@ -120,6 +132,7 @@ texts =
       sheet-read = not-all-refused text.sheet-read _ _ (only-read 1) refl;
       sheet-print = not-all-refused text.sheet-print _ _ (only-print 1) refl;
       sheet-answer = not-all-refused text.sheet-answer _ _ (only-answer 1) refl;
+      take-sheet = not-all-refused text.take-sheet _ _ only-taken refl;
       words-counted = varies _ always itself anything isOne given.one-text given.two-ones refl refl refl refl refl;
       numbers-counted = not-fixed text.list-numbers (λ (y : text.Numbered). y .count) anything isOne _ _ _ _ (only-list given.one-text) (only-list given.two-ones) refl refl refl refl refl;
       columns-counted = not-fixed text.sheet-read (λ (y : text.Held). y .reading .answer) anything (λ (r : Answer). isOne (countIn r)) _ _ _ _ (only-read 1) (only-read 2) refl refl refl refl refl;

@@ -19,7 +19,7 @@ use Rattle.bench_table.specs.Call.{channel, clock, binWith, pulseAt, noCrosstal
 use Rattle.stand_ins.specs.Whole.{tablesOf, holding, barrier}
 use Rattle.stand_ins.specs.ByValue.{Pointing, Timed, Clocked, Turning, Swapping, Weighing, Curve, Pulsed, Looking, Planning, Verdict}
 use Rattle.stand_ins.specs.Buffers.{Step, Plateau, Envelope, Part, Laying, Summing, gatheredFor, Mixing, Owning}
-use Rattle.stand_ins.specs.Texts.{Place, Field, Fields, Sheet, Printing, Answering}
+use Rattle.stand_ins.specs.Texts.{Place, Field, Fields, Sheet, Printing, Answering, Behind}
 
 -- ---- by value: time 0 at rate 1 and level 0, an oscillator at rest, amplitude 1, a width of 1 at an offset of 0.5
 
@@ -118,6 +118,10 @@ printing n = record { count = n; names = channel ∷ record { first = 0x72; seco
 
 abbrev pub answering : ℕ → Answering
 answering n = record { text = sheet-text n; out = replicate 4096 0 }
+
+-- four lines behind a job's line
+abbrev pub sheet-behind : Behind
+sheet-behind = record { text = sheet-text 1; count = 4; cross = record { count = 0; names = replicate 8 noName }; factors = replicate 64 nought }
 
 -- ---- rows of one sample each, which holds x: the steps over the C border give twice the sample, or one more
 

@@ -92,6 +92,7 @@ pub record Texts : Type 1 where
   pub sheet-read : NotAllRefused text.sheet-read (given.sheet 1)
   pub sheet-print : NotAllRefused text.sheet-print (given.printing 1)
   pub sheet-answer : NotAllRefused text.sheet-answer (given.answering 1)
+  pub take-sheet : NotAllRefused text.take-sheet given.sheet-behind
   -- "a count not tied to the list"
   pub words-counted : NotFixed text.words-count itself anything given.one-text given.two-ones
   pub numbers-counted : NotFixed text.list-numbers (λ (y : text.Numbered). y .count) anything (given.listing given.one-text) (given.listing given.two-ones)

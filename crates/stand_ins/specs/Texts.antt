@@ -45,6 +45,11 @@ use Rattle.sheet.specs.declared.print.Printed.{Printed}
 use Rattle.sheet.specs.declared.print.Printed.the-variants as printed
 use Rattle.sheet.specs.Sheet.{Read, Print}
 use Rattle.sheet_answer.specs.Answer.{Answered}
+use Rattle.crosstalk.specs.declared.names.Crosstalk.{Crosstalk}
+use Rattle.job_sheet.specs.declared.Inset.{Inset}
+use Rattle.job_sheet.specs.declared.Inset.the-variants as inset
+use Rattle.job_sheet.specs.declared.Taken.{Taken}
+use Rattle.job_sheet.specs.Inset.{Took}
 use Rattle.stand_ins.specs.StandIns.{Call, equation}
 use Rattle.stand_ins.specs.Whole.{isDone}
 use Rattle.stand_ins.specs.ByValue.{always}
@@ -183,6 +188,7 @@ isLine (line.Command c) = true
 isLine line.Run = true
 isLine line.States = true
 isLine (line.Crosstalk n) = true
+isLine (line.Sheet n) = true
 isLine (line.Rows n len) = true
 isLine (line.Sample s) = true
 isLine line.Iq = true
@@ -258,4 +264,29 @@ sheet-answer =
       Left = Out;
       Promise = λ x y. Answered (x .text) (x .out) (y .printed) (y .out);
       accepted = λ y. isBytes (y .printed) && eqb (getD (y .out) 0 0) 99;
+    }
+
+-- ---- a sheet behind a job's line
+
+pub record Behind : Type 0 where
+  pub text : List ℕ
+  pub count : ℕ
+  pub cross : Crosstalk
+  pub factors : List Float
+
+pub record Left : Type 0 where
+  pub taken : Taken
+  pub factors : List Float
+
+abbrev pub isSheet : Inset → Bool
+isSheet (inset.Sheet answer) = isDone answer
+isSheet inset.Fewer = false
+
+abbrev pub take-sheet : Call
+take-sheet =
+    record {
+      Given = Behind;
+      Left = Left;
+      Promise = λ x y. Took (x .text) (x .count) (x .cross) (x .factors) (y .taken) (y .factors);
+      accepted = λ y. isSheet (y .taken .inset);
     }

@@ -1,11 +1,14 @@
 -- `bench::walk::each` is safe and ends: each turn goes past a line. Assumes nothing.
-use Prim.Native.Nat.{ℕ, _+_, _-_, _≤_, _<_}
+use Prim.Native.Nat.{ℕ, _+_, _-_, _*_, _^_, _≤_, _<_}
 use mathlib.Core.Path.{_≡_, sym, _∙_}
 use mathlib.Core.List.{List}
 use native.Mathlib.Omega.{arith}
 use borrow.Author.Needs.{needs}
+use mir.Syntax.{w64}
+use mir.Val.{Fits}
 use lib.Ieee.{Float}
 use lib.ListN.{length}
+use Rattle.bench.specs.Sheet.{GoesOn}
 use Rattle.bench.proofs.walk.each.Statement.{statement}
 use Rattle.bench.proofs.walk.each.Tie as tie
 
@@ -21,22 +24,20 @@ record Inv (text : List ℕ) (bins : List (List Float)) (i q scratch : List Floa
   marks-long : length marks ≡ 8192
   factors-long : length factors ≡ 64
 
-less : (n at end next : ℕ) → at < n → at ≤ end → end < next → n - next < n - at
-less n at end next p q r = omega arith
+less : (n at end lines next : ℕ) → at < n → at ≤ end → GoesOn n end lines next → n - next < n - at
+less n at end lines next p q g = omega (arith, g .lines-passed)
 
-on : (n end : ℕ) → end ≤ n → end + 1 ≤ n + 1
-on n end p = omega arith
+passed : (n number at end lines next : ℕ) → number ≤ at → at ≤ end → GoesOn n end lines next → number + 1 + lines ≤ next
+passed n number at end lines next p q g = omega (arith, g .lines-passed)
 
-counted : (number at end : ℕ) → number ≤ at → at ≤ end → number + 1 ≤ end + 1
-counted number at end p q = omega arith
+counts : (n number at end lines next : ℕ) → number ≤ at → at ≤ end → GoesOn n end lines next → n * 1 < 2 ^ 63 → Fits w64 (number + 1 + lines)
+counts n number at end lines next p q g h = omega (arith, g .lines-passed, g .near)
 
 abbrev Inv-loop : tie.InvT-loop
-Inv-loop text commands₀ pulses₀ bins₀ i₀ q₀ scratch₀ work₀ marks₀ factors₀ s₀ number₀ at₀ commands pulses bins i q scratch work marks factors s number at =
-    Inv text bins i q scratch work marks factors number at
+Inv-loop text commands₀ pulses₀ bins₀ i₀ q₀ scratch₀ work₀ marks₀ factors₀ s₀ number₀ at₀ commands pulses bins i q scratch work marks factors s number at = Inv text bins i q scratch work marks factors number at
 
 abbrev μ-loop : tie.MeasureT-loop
-μ-loop text commands₀ pulses₀ bins₀ i₀ q₀ scratch₀ work₀ marks₀ factors₀ s₀ number₀ at₀ commands pulses bins i q scratch work marks factors s number at =
-    length text - at
+μ-loop text commands₀ pulses₀ bins₀ i₀ q₀ scratch₀ work₀ marks₀ factors₀ s₀ number₀ at₀ commands pulses bins i q scratch work marks factors s number at = length text - at
 
 idle-requires : tie.Need-idle-requires Inv-loop μ-loop
 idle-requires c κs = search needs
@@ -52,9 +53,6 @@ loop-holds c = search needs
 
 end-of-requires : tie.Need-end-of-requires Inv-loop μ-loop
 end-of-requires c κs = search needs
-
-add-next : tie.Need-add-next Inv-loop μ-loop
-add-next c = search needs
 
 sub-read : tie.Need-sub-read Inv-loop μ-loop
 sub-read c = search needs
@@ -92,66 +90,56 @@ array-set-from-commands c = search needs
 is-run-requires : tie.Need-is-run-requires Inv-loop μ-loop
 is-run-requires c κs = search needs
 
-sub-after : tie.Need-sub-after Inv-loop μ-loop
-sub-after c = search needs
+slice-aggregate-tell : tie.Need-slice-aggregate-tell Inv-loop μ-loop
+slice-aggregate-tell c = search needs
 
-part-after-start : tie.Need-part-after-start Inv-loop μ-loop
-part-after-start c = search needs
+slice-aggregate-tell-2 : tie.Need-slice-aggregate-tell-2 Inv-loop μ-loop
+slice-aggregate-tell-2 c = search needs
 
-part-after-end : tie.Need-part-after-end Inv-loop μ-loop
-part-after-end c = search needs
+slice-aggregate-tell-3 : tie.Need-slice-aggregate-tell-3 Inv-loop μ-loop
+slice-aggregate-tell-3 c = search needs
 
-after-requires : tie.Need-after-requires Inv-loop μ-loop
-after-requires c κs = search needs
+tell-requires : tie.Need-tell-requires Inv-loop μ-loop
+tell-requires c κs = search needs
 
-sub-take-factors : tie.Need-sub-take-factors Inv-loop μ-loop
-sub-take-factors c = search needs
-
-part-take-factors-start : tie.Need-part-take-factors-start Inv-loop μ-loop
-part-take-factors-start c = search needs
-
-part-take-factors-end : tie.Need-part-take-factors-end Inv-loop μ-loop
-part-take-factors-end c = search needs
-
-slice-aggregate-take-factors : tie.Need-slice-aggregate-take-factors Inv-loop μ-loop
-slice-aggregate-take-factors c =
-    sym (c .before .before .before .before .before .before .before .before .before .before .before .before .loop .inv .factors-long)
-
-take-factors-requires : tie.Need-take-factors-requires Inv-loop μ-loop
-take-factors-requires c κs = search needs
-
-sub-on-rows : tie.Need-sub-on-rows Inv-loop μ-loop
-sub-on-rows c = search needs
-
-part-on-rows-start : tie.Need-part-on-rows-start Inv-loop μ-loop
-part-on-rows-start c = search needs
-
-part-on-rows-end : tie.Need-part-on-rows-end Inv-loop μ-loop
-part-on-rows-end c = search needs
-
-slice-aggregate-on-rows : tie.Need-slice-aggregate-on-rows Inv-loop μ-loop
-slice-aggregate-on-rows c =
-    let first = c .before .before .before .before .before .before .before .before .before .before .before .before .before .before in
-    sym (first .before .before .loop .inv .i-long)
-
-slice-aggregate-on-rows-2 : tie.Need-slice-aggregate-on-rows-2 Inv-loop μ-loop
-slice-aggregate-on-rows-2 c =
-    let first = c .before .before .before .before .before .before .before .before .before .before .before .before .before .before in
-    sym (first .before .before .before .loop .inv .q-long)
-
-on-rows-requires : tie.Need-on-rows-requires Inv-loop μ-loop
-on-rows-requires c κs = search needs
+add-number-2 : tie.Need-add-number-2 Inv-loop μ-loop
+add-number-2 c =
+    let told = c .before .before .before .before .before in
+    let start = told .before .before .before .before .before .before .before .before .before .before .before .before .before .before .before .before .before in
+    let was = told .before .before .before .before .before .before .before .before .before .before .before .before .loop .inv in
+    counts (length (start .args .text .now)) _ _ _ _ _ (was .few) (told .before .before .before .before .before .before .before .before .before .before .end-of .ensures .0) (told .tell .ensures) (start .good .0 .1)
 
 slice-aggregate-execute-owned : tie.Need-slice-aggregate-execute-owned Inv-loop μ-loop
-slice-aggregate-execute-owned c =
-    let first = c .before .before .before .before .before .before .before .before .before .before .before .before .before .before in
-    sym (first .before .before .before .before .before .before .before .before .before .loop .inv .bins-long)
+slice-aggregate-execute-owned c = sym (c .before .before .before .before .before .before .before .before .before .before .before .before .before .before .before .before .before .before .before .before .loop .inv .bins-long)
 
 execute-owned-requires : tie.Need-execute-owned-requires Inv-loop μ-loop
 execute-owned-requires c κs = search needs
 
 ran-requires : tie.Need-ran-requires Inv-loop μ-loop
 ran-requires c κs = search needs
+
+loop-less : tie.Need-loop-less Inv-loop μ-loop
+loop-less c =
+    let told = c .before .before .before .before .before .before .before .before .before .before .before .before .before in
+    let ends = told .before .before .before .before .before .before .before .before .before .before in
+    less _ _ _ _ _ (ends .before .loop-test .taken) (ends .end-of .ensures .0) (told .tell .ensures)
+
+loop-again : tie.Need-loop-again Inv-loop μ-loop
+loop-again c =
+    let told = c .before .before .before .before .before .before .before .before .before .before .before .before .before in
+    let ends = told .before .before .before .before .before .before .before .before .before .before in
+    let was = ends .before .before .loop .inv in
+    record {
+      within = told .tell .ensures .near;
+      few = passed _ _ _ _ _ _ (was .few) (ends .end-of .ensures .0) (told .tell .ensures);
+      bins-long = c .before .before .before .before .execute-owned .kept .1 .1 .1 .0 ∙ was .bins-long;
+      i-long = told .tell .kept .1 .1 .1 .1 .1 .1 .1 .0 ∙ was .i-long;
+      q-long = told .tell .kept .1 .1 .1 .1 .1 .1 .1 .1 .0 ∙ was .q-long;
+      scratch-long = was .scratch-long;
+      work-long = was .work-long;
+      marks-long = was .marks-long;
+      factors-long = told .tell .kept .1 .1 .1 .1 .1 .1 .0 ∙ was .factors-long;
+    }
 
 is-sample-requires : tie.Need-is-sample-requires Inv-loop μ-loop
 is-sample-requires c κs = search needs
@@ -166,10 +154,7 @@ slice-aggregate-sample-line : tie.Need-slice-aggregate-sample-line Inv-loop μ-l
 slice-aggregate-sample-line c = search needs
 
 slice-aggregate-sample-line-2 : tie.Need-slice-aggregate-sample-line-2 Inv-loop μ-loop
-slice-aggregate-sample-line-2 c =
-    let first = c .before .before .before .before .before .before .before .before .before .before .before .before .before .before in
-    let next = first .before .before .before .before .before .before .before .before .before .before .before .before .before .before in
-    sym (next .before .loop .inv .bins-long)
+slice-aggregate-sample-line-2 c = sym (c .before .before .before .before .before .before .before .before .before .before .before .before .before .before .before .before .before .before .before .before .before .before .before .before .before .before .loop .inv .bins-long)
 
 slice-aggregate-sample-line-3 : tie.Need-slice-aggregate-sample-line-3 Inv-loop μ-loop
 slice-aggregate-sample-line-3 c = search needs
@@ -178,98 +163,61 @@ slice-aggregate-sample-line-4 : tie.Need-slice-aggregate-sample-line-4 Inv-loop 
 slice-aggregate-sample-line-4 c = search needs
 
 slice-aggregate-sample-line-5 : tie.Need-slice-aggregate-sample-line-5 Inv-loop μ-loop
-slice-aggregate-sample-line-5 c =
-    let first = c .before .before .before .before .before .before .before .before .before .before .before .before .before .before in
-    let next = first .before .before .before .before .before .before .before .before .before .before .before .before .before .before in
-    sym (next .before .before .before .before .loop .inv .scratch-long)
+slice-aggregate-sample-line-5 c = sym (c .before .before .before .before .before .before .before .before .before .before .before .before .before .before .before .before .before .before .before .before .before .before .before .before .before .before .before .before .before .loop .inv .scratch-long)
 
 slice-aggregate-sample-line-6 : tie.Need-slice-aggregate-sample-line-6 Inv-loop μ-loop
-slice-aggregate-sample-line-6 c =
-    let first = c .before .before .before .before .before .before .before .before .before .before .before .before .before .before in
-    let next = first .before .before .before .before .before .before .before .before .before .before .before .before .before .before in
-    sym (next .before .before .before .before .before .loop .inv .work-long)
+slice-aggregate-sample-line-6 c = sym (c .before .before .before .before .before .before .before .before .before .before .before .before .before .before .before .before .before .before .before .before .before .before .before .before .before .before .before .before .before .before .loop .inv .work-long)
 
 slice-aggregate-sample-line-7 : tie.Need-slice-aggregate-sample-line-7 Inv-loop μ-loop
-slice-aggregate-sample-line-7 c =
-    let first = c .before .before .before .before .before .before .before .before .before .before .before .before .before .before in
-    let next = first .before .before .before .before .before .before .before .before .before .before .before .before .before .before in
-    sym (next .before .before .before .before .before .before .loop .inv .marks-long)
+slice-aggregate-sample-line-7 c = sym (c .before .before .before .before .before .before .before .before .before .before .before .before .before .before .before .before .before .before .before .before .before .before .before .before .before .before .before .before .before .before .before .loop .inv .marks-long)
 
 sample-line-requires : tie.Need-sample-line-requires Inv-loop μ-loop
 sample-line-requires c κs = search needs
 
-loop-less : tie.Need-loop-less Inv-loop μ-loop
-loop-less c =
-    let first = c .before .before .before .before .before .before .before .before .before .before .before .before .before .before in
-    let ends = first .before .before .before .before .before .before .before .before .before .before .before .before in
-    less _ _ _ _ (ends .before .loop-test .taken) (ends .end-of .ensures .0) (search needs)
-
-loop-again : tie.Need-loop-again Inv-loop μ-loop
-loop-again c =
-    let onto = c .before .before .before .before .before .before .before .before .before .before in
-    let took = onto .before .before .before .before .before in
-    let ends = took .before .before .before .before .before .before .before .before .before .before .before in
-    let was = ends .before .before .loop .inv in
-    record {
-      within = on _ _ (ends .end-of .ensures .1);
-      few = counted _ _ _ (was .few) (ends .end-of .ensures .0);
-      bins-long = c .before .before .before .before .execute-owned .kept .1 .1 .1 .0 ∙ was .bins-long;
-      i-long = onto .on-rows .kept .1 .1 .1 .0 ∙ was .i-long;
-      q-long = onto .on-rows .kept .1 .1 .1 .1 .0 ∙ was .q-long;
-      scratch-long = was .scratch-long;
-      work-long = was .work-long;
-      marks-long = was .marks-long;
-      factors-long = took .take-factors .kept .1 .1 .0 ∙ was .factors-long;
-    }
-
 loop-less-2 : tie.Need-loop-less-2 Inv-loop μ-loop
 loop-less-2 c =
-    let first = c .before .before .before .before .before .before .before .before .before .before .before .before .before .before in
-    let next = first .before .before .before .before .before .before .before .before .before .before .before .before .before .before in
-    let ends = next .before .before .before .before .before .before .before .before .before .before in
-    less _ _ _ _ (ends .before .loop-test .taken) (ends .end-of .ensures .0) (search needs)
+    let told = c .before .before .before .before .before .before .before .before .before .before .before .before .before .before .before .before .before .before .before .before .before .before .before .before .before in
+    let ends = told .before .before .before .before .before .before .before .before .before .before in
+    less _ _ _ _ _ (ends .before .loop-test .taken) (ends .end-of .ensures .0) (told .tell .ensures)
 
 loop-again-2 : tie.Need-loop-again-2 Inv-loop μ-loop
 loop-again-2 c =
-    let first = c .before .before .before .before .before .before .before .before .before .before .before in
-    let onto = first .before .before .before .before .before .before .before .before .before .before .before in
-    let took = onto .before .before .before .before .before in
-    let ends = took .before .before .before .before .before .before .before .before .before .before .before in
+    let told = c .before .before .before .before .before .before .before .before .before .before .before .before .before .before .before .before .before .before .before .before .before .before .before .before .before in
+    let ends = told .before .before .before .before .before .before .before .before .before .before in
     let was = ends .before .before .loop .inv in
     record {
-      within = on _ _ (ends .end-of .ensures .1);
-      few = counted _ _ _ (was .few) (ends .end-of .ensures .0);
+      within = told .tell .ensures .near;
+      few = passed _ _ _ _ _ _ (was .few) (ends .end-of .ensures .0) (told .tell .ensures);
       bins-long = was .bins-long;
-      i-long = c .before .before .before .before .before .sample-line .kept .1 .1 .1 .1 .1 .1 .1 .1 .0 ∙ onto .on-rows .kept .1 .1 .1 .0 ∙ was .i-long;
-      q-long = c .before .before .before .before .before .sample-line .kept .1 .1 .1 .1 .1 .1 .1 .1 .1 .0 ∙ onto .on-rows .kept .1 .1 .1 .1 .0 ∙ was .q-long;
+      i-long = c .before .before .before .before .before .sample-line .kept .1 .1 .1 .1 .1 .1 .1 .1 .0 ∙ told .tell .kept .1 .1 .1 .1 .1 .1 .1 .0 ∙ was .i-long;
+      q-long = c .before .before .before .before .before .sample-line .kept .1 .1 .1 .1 .1 .1 .1 .1 .1 .0 ∙ told .tell .kept .1 .1 .1 .1 .1 .1 .1 .1 .0 ∙ was .q-long;
       scratch-long = c .before .before .before .before .before .sample-line .kept .1 .1 .1 .1 .1 .1 .1 .1 .1 .1 .0 ∙ was .scratch-long;
       work-long = c .before .before .before .before .before .sample-line .kept .1 .1 .1 .1 .1 .1 .1 .1 .1 .1 .1 .0 ∙ was .work-long;
       marks-long = c .before .before .before .before .before .sample-line .kept .1 .1 .1 .1 .1 .1 .1 .1 .1 .1 .1 .1 .0 ∙ was .marks-long;
-      factors-long = took .take-factors .kept .1 .1 .0 ∙ was .factors-long;
+      factors-long = told .tell .kept .1 .1 .1 .1 .1 .1 .0 ∙ was .factors-long;
     }
 
 loop-less-3 : tie.Need-loop-less-3 Inv-loop μ-loop
 loop-less-3 c =
-    let first = c .before .before .before .before .before .before .before .before .before .before .before .before .before .before in
-    let ends = first .before .before .before .before .before .before .before in
-    less _ _ _ _ (ends .before .loop-test .taken) (ends .end-of .ensures .0) (search needs)
+    let told = c .before .before .before .before .before .before .before .before in
+    let ends = told .before .before .before .before .before .before .before .before .before .before in
+    less _ _ _ _ _ (ends .before .loop-test .taken) (ends .end-of .ensures .0) (told .tell .ensures)
 
 loop-again-3 : tie.Need-loop-again-3 Inv-loop μ-loop
 loop-again-3 c =
-    let onto = c .before .before .before .before .before in
-    let took = onto .before .before .before .before .before in
-    let ends = took .before .before .before .before .before .before .before .before .before .before .before in
+    let told = c .before .before .before .before .before .before .before .before in
+    let ends = told .before .before .before .before .before .before .before .before .before .before in
     let was = ends .before .before .loop .inv in
     record {
-      within = on _ _ (ends .end-of .ensures .1);
-      few = counted _ _ _ (was .few) (ends .end-of .ensures .0);
+      within = told .tell .ensures .near;
+      few = passed _ _ _ _ _ _ (was .few) (ends .end-of .ensures .0) (told .tell .ensures);
       bins-long = was .bins-long;
-      i-long = onto .on-rows .kept .1 .1 .1 .0 ∙ was .i-long;
-      q-long = onto .on-rows .kept .1 .1 .1 .1 .0 ∙ was .q-long;
+      i-long = told .tell .kept .1 .1 .1 .1 .1 .1 .1 .0 ∙ was .i-long;
+      q-long = told .tell .kept .1 .1 .1 .1 .1 .1 .1 .1 .0 ∙ was .q-long;
       scratch-long = was .scratch-long;
       work-long = was .work-long;
       marks-long = was .marks-long;
-      factors-long = took .take-factors .kept .1 .1 .0 ∙ was .factors-long;
+      factors-long = told .tell .kept .1 .1 .1 .1 .1 .1 .0 ∙ was .factors-long;
     }
 
 returns : tie.Need-returns Inv-loop μ-loop
@@ -286,7 +234,6 @@ each-spec =
     start-requires
     loop-holds
     end-of-requires
-    add-next
     sub-read
     part-read-start
     part-read-end
@@ -299,24 +246,16 @@ each-spec =
     mul-commands
     array-set-from-commands
     is-run-requires
-    sub-after
-    part-after-start
-    part-after-end
-    after-requires
-    sub-take-factors
-    part-take-factors-start
-    part-take-factors-end
-    slice-aggregate-take-factors
-    take-factors-requires
-    sub-on-rows
-    part-on-rows-start
-    part-on-rows-end
-    slice-aggregate-on-rows
-    slice-aggregate-on-rows-2
-    on-rows-requires
+    slice-aggregate-tell
+    slice-aggregate-tell-2
+    slice-aggregate-tell-3
+    tell-requires
+    add-number-2
     slice-aggregate-execute-owned
     execute-owned-requires
     ran-requires
+    loop-less
+    loop-again
     is-sample-requires
     request-requires
     second-requires
@@ -328,8 +267,6 @@ each-spec =
     slice-aggregate-sample-line-6
     slice-aggregate-sample-line-7
     sample-line-requires
-    loop-less
-    loop-again
     loop-less-2
     loop-again-2
     loop-less-3

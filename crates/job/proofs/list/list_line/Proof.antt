@@ -116,9 +116,41 @@ returns-5 c =
       sym (c2 .is-word5 .ensures) ∙ c .before .if5 .taken,
     ) (c .crosstalk .ensures)
 
+slice-aggregate-is-word-6 : tie.Need-slice-aggregate-is-word-6
+slice-aggregate-is-word-6 c = search needs
+
+is-word-requires-6 : tie.Need-is-word-requires-6
+is-word-requires-6 c κs = search needs
+
+sheet-requires : tie.Need-sheet-requires
+sheet-requires c κs = search needs
+
 returns-6 : tie.Need-returns-6
 unfolding listOf
 returns-6 c =
+    let c2 = c .before .before in
+    let c4 = c2 .before .before in
+    let c5 = c4 .before in
+    let c7 = c5 .before .before in
+    let c8 = c7 .before in
+    let c10 = c8 .before .before in
+    let c11 = c10 .before in
+    let c13 = c11 .before .before in
+    let c14 = c13 .before in
+    let c16 = c14 .before .before in
+    let c17 = c16 .before in
+    rw (
+      sym (c17 .is-word .ensures) ∙ c16 .if1 .left,
+      sym (c14 .is-word2 .ensures) ∙ c13 .if2 .left,
+      sym (c11 .is-word3 .ensures) ∙ c10 .if3 .left,
+      sym (c8 .is-word4 .ensures) ∙ c7 .if4 .left,
+      sym (c5 .is-word5 .ensures) ∙ c4 .if5 .left,
+      sym (c2 .is-word6 .ensures) ∙ c .before .if6 .taken,
+    ) (c .sheet .ensures)
+
+returns-7 : tie.Need-returns-7
+unfolding listOf
+returns-7 c =
     let c3 = c .before .before .before in
     let c4 = c3 .before in
     let c6 = c4 .before .before in
@@ -127,12 +159,15 @@ returns-6 c =
     let c10 = c9 .before in
     let c12 = c10 .before .before in
     let c13 = c12 .before in
+    let c15 = c13 .before .before in
+    let c16 = c15 .before in
     rw (
-      sym (c13 .is-word .ensures) ∙ c12 .if1 .left,
-      sym (c10 .is-word2 .ensures) ∙ c9 .if2 .left,
-      sym (c7 .is-word3 .ensures) ∙ c6 .if3 .left,
-      sym (c4 .is-word4 .ensures) ∙ c3 .if4 .left,
-      sym (c .before .is-word5 .ensures) ∙ c .if5 .left,
+      sym (c16 .is-word .ensures) ∙ c15 .if1 .left,
+      sym (c13 .is-word2 .ensures) ∙ c12 .if2 .left,
+      sym (c10 .is-word3 .ensures) ∙ c9 .if3 .left,
+      sym (c7 .is-word4 .ensures) ∙ c6 .if4 .left,
+      sym (c4 .is-word5 .ensures) ∙ c3 .if5 .left,
+      sym (c .before .is-word6 .ensures) ∙ c .if6 .left,
     )
 
 pub list-line-spec : {M : Type 1} → statement M
@@ -161,4 +196,8 @@ list-line-spec =
     is-word-requires-5
     crosstalk-requires
     returns-5
-    returns-6)
+    slice-aggregate-is-word-6
+    is-word-requires-6
+    sheet-requires
+    returns-6
+    returns-7)

@@ -1,0 +1,9 @@
+pub mod Finding
+pub mod Orders
+pub mod Row
+pub mod Parts
+pub mod Accepting
+pub mod Taking
+pub mod Laws
+pub mod Example
+pub mod Job
