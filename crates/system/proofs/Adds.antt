@@ -1,4 +1,4 @@
--- Making tables and adding to them: accepted, the count is 0; refused, with 1, or with 2 or 3, the place is 0 and an add leaves all as it came. By
+-- Making tables and adding to them: accepted, the count is 0; refused, with 1, or with 2 or 3, the place is 0 and all is as it came. By
 -- the tests of each call. Assumes nothing.
 use Prim.Native.Nat.{_+_}
 use mathlib.Core.Path.{refl}
@@ -18,15 +18,15 @@ use Rattle.tables.specs.declared.Tabled.{Tabled}
 use Rattle.tables.specs.declared.Found.{Found}
 use Rattle.tables.specs.declared.Found.the-variants.{At, Nowhere}
 use Rattle.tables.specs.Tables.{found, isIn, shapesIn, empty, done, refused, fresh, made, finiteOsc, withChannels, settled, withAdded, withShape, settledShape, withAddedShape}
-use Rattle.system.specs.System.{State, tabled}
+use Rattle.system.specs.System.{State, tabled, remade}
 use Rattle.system.specs.Said.{MakeSaid, AddSaid}
 
 module _ (s : State) where
-  pub make-said : (amp time : Float) (oversize : Bool) → let o = tabled s (made amp time oversize) in MakeSaid s (o .answer) (o .after)
+  pub make-said : (amp time : Float) (oversize : Bool) → let o = remade s (made amp time oversize) in MakeSaid s (o .answer) (o .after)
   unfolding among
   make-said amp time oversize = go (isTolerance amp && isTolerance time)
     where
-      go : (b : Bool) → let o = tabled s (cond b (done (empty amp time oversize)) (refused Unfit (empty nought nought false))) in MakeSaid s (o .answer) (o .after)
+      go : (b : Bool) → let o = remade s (cond b (done (empty amp time oversize)) (refused Unfit (empty nought nought false))) in MakeSaid s (o .answer) (o .after)
       go true = refl
       go false = record { number = refl; place = refl; left = refl }
 

@@ -1,15 +1,18 @@
 -- The law of the whole system. From made tables, beside whatever is lent, through any run of adds, command calls, sampling calls and steps: every
 -- call has one answer that its promise allows, and what it leaves, refused or not, is as document 01 says. Call by call. Assumes nothing.
-use mathlib.Core.Path.{_≡_}
+use mathlib.Core.Path.{_≡_, sym, subst}
 use mathlib.Core.Bool.{Bool}
 use mathlib.Core.List.{List, [], _∷_}
 use lib.Ieee.{Float}
 use lib.ListN.{length}
+use Rattle.quant.specs.declared.refusal.Answer.{Answer}
+use Rattle.quant.specs.declared.refusal.Answer.the-variants.{Done, Refused}
+use Rattle.tables.specs.declared.Tabled.{Tabled}
 use Rattle.tables.specs.Tables.{made}
 use Rattle.commands_laws.specs.Sound.{Reached}
 use Rattle.commands_laws.specs.Sound as reached
 use Rattle.commands_laws.proofs.Sound.{sound}
-use Rattle.system.specs.System.{State, Call, make, add-channel, add-shape, execute, sample, iq, offset, iir, fir, Event, calls, lends, withLent, iqStep, offsetStep, iirStep, firStep, outcome}
+use Rattle.system.specs.System.{State, Call, make, add-channel, add-shape, execute, sample, iq, offset, iir, fir, Event, calls, lends, withTables, withLent, adopted, remade, iqStep, offsetStep, iirStep, firStep, outcome}
 use Rattle.system.specs.Said.{AsSaid, Holds, EveryCall}
 use Rattle.system.proofs.Promised.{answered, only}
 use Rattle.system.proofs.Adds.{make-said, channel-said, shape-said}
@@ -39,12 +42,20 @@ holds s c = record { answered = answered s c; only = only s c; said = said s c }
 abbrev Known : State → Type 0
 Known s = Reached (s .tables) (s .bins) (s .pulses)
 
+-- tables made anew, or, refused, those before
+remade-known : (s : State) (x : Tabled) → Known s → Reached (x .tables) (s .bins) (s .pulses) → Known (remade s x .after)
+remade-known s x old new = by (x .answer)
+  where
+    by : (a : Answer) → Known (adopted a s (withTables s (x .tables)))
+    by (Done k) = new
+    by (Refused why k) = old
+
 -- making and adding write to the tables, command calls to the tables, the bins and the pulses, and no other call to any of these
 next : (s : State) (c : Call) → Known s → Known (outcome s c .after)
 unfolding outcome
 next s (make amp time oversize) h =
     let known = sound (s .tables) (s .bins) (s .pulses) h in
-    reached.start amp time oversize (s .bins) (s .pulses) (known .rows) (known .records)
+    remade-known s (made amp time oversize) h (reached.start amp time oversize (s .bins) (s .pulses) (known .rows) (known .records))
 next s (add-channel n osc) h = reached.channel (s .tables) (s .bins) (s .pulses) n osc h
 next s (add-shape n) h = reached.shape (s .tables) (s .bins) (s .pulses) n h
 next s (execute commands) h = reached.call (s .tables) (s .bins) (s .pulses) commands h
@@ -66,11 +77,13 @@ every-call s [] h = tt
 every-call s (calls c ∷ more) h = let k = next s c h in one-more s c more k (every-call (outcome s c .after) more k)
 every-call s (lends rows work marks ∷ more) h = every-call (withLent s rows work marks) more h
 
--- "64 bins and 1,024 stored pulses a channel", of 8 channels, with whatever in them; all else that is lent may have any size
-pub whole : (amp time : Float) (oversize : Bool) (lent : State) (events : List Event) → length (lent .bins) ≡ 512 → length (lent .pulses) ≡ 8192
-    → EveryCall lent (calls (make amp time oversize) ∷ events)
+-- "64 bins and 1,024 stored pulses a channel", of 8 channels, with whatever in them; all else that is lent may have any size. The first tables are made:
+-- of tolerances that fit (else the caller has no tables yet).
+pub whole : (amp time : Float) (oversize : Bool) (lent : State) (events : List Event) → made amp time oversize .answer ≡ Done 0 → length (lent .bins) ≡ 512
+    → length (lent .pulses) ≡ 8192 → EveryCall lent (calls (make amp time oversize) ∷ events)
 unfolding outcome
-whole amp time oversize lent events rows records =
-    let made = reached.start amp time oversize (lent .bins) (lent .pulses) rows records in
+whole amp time oversize lent events fit rows records =
+    let start = reached.start amp time oversize (lent .bins) (lent .pulses) rows records in
     let c = make amp time oversize in
-    one-more lent c events made (every-call (outcome lent c .after) events made)
+    let after : Known (outcome lent c .after) = subst (λ (a : Answer). Known (adopted a lent (withTables lent (made amp time oversize .tables)))) (sym fit) start in
+    one-more lent c events after (every-call (outcome lent c .after) events after)

@@ -7,14 +7,12 @@ use mathlib.Core.Bool.{true, false}
 use mathlib.Core.List.{List, [], _∷_}
 use lib.Ieee.{Float}
 use lib.ListN.{length, take, drop}
-use Rattle.exact.specs.Doubles.{nought}
 use Rattle.exact.specs.Among.{among}
 use Rattle.quant.specs.declared.refusal.Answer.{Answer}
 use Rattle.quant.specs.declared.refusal.Answer.the-variants.{Done, Refused}
 use Rattle.quant.specs.declared.refusal.Refusal.{Refusal}
 use Rattle.quant.specs.declared.settings.Settings.{Settings}
 use Rattle.quant.specs.Refusal.{numberOf}
-use Rattle.tables.specs.Tables.{empty}
 use Rattle.commands.specs.declared.command.Arranged.{Arranged}
 use Rattle.commands.specs.Run.{sizesFit}
 use Rattle.commands_laws.specs.Sound.{Sound}
@@ -27,7 +25,7 @@ use Rattle.mixdown.specs.Bins.{binsBy, mergedOf}
 use Rattle.sampler.specs.declared.Request.{Request}
 use Rattle.sampler.specs.Prepared.{settingsOf}
 use Rattle.sampler_laws.specs.Added.{Due, allDues, withAll}
-use Rattle.system.specs.System.{State, Call, make, add-channel, add-shape, execute, sample, iq, offset, iir, fir, Event, calls, lends, Outcome, told, withTables, withLent, Promised, outcome}
+use Rattle.system.specs.System.{State, Call, make, add-channel, add-shape, execute, sample, iq, offset, iir, fir, Event, calls, lends, Outcome, told, withLent, Promised, outcome}
 
 -- "Order for a command: 2, 4, 5, 6, 7, 8, 3"
 abbrev pub commandNumbers : List ℕ
@@ -43,10 +41,10 @@ pub record AsItCame (numbers : List ℕ) (at : ℕ) (came : State) (why : Refusa
   pub place : k ≡ at
   pub left : u ≡ came
 
--- "Tables are made with both tolerances and the oversize choice: 1"; refused, they are empty and tolerate nothing
+-- "Tables are made with both tolerances and the oversize choice: 1"
 abbrev pub MakeSaid : State → Answer → State → Type 0
 MakeSaid s (Done k) u = k ≡ 0
-MakeSaid s (Refused why k) u = AsItCame (1 ∷ []) 0 (withTables s (empty nought nought false)) why k u
+MakeSaid s (Refused why k) u = AsItCame (1 ∷ []) 0 s why k u
 
 -- "Adding a channel or shape: 2, 3"
 abbrev pub AddSaid : State → Answer → State → Type 0

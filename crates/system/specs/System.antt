@@ -8,6 +8,7 @@ use lib.Ieee.{Float, nan}
 use lib.ListN.{length, getD}
 use Rattle.naming.specs.declared.Name.{Name}
 use Rattle.quant.specs.declared.refusal.Answer.{Answer}
+use Rattle.quant.specs.declared.refusal.Answer.the-variants.{Done, Refused}
 use Rattle.rows.specs.Rows as rows
 use Rattle.mixer.specs.Mixer as mixer
 use Rattle.iir.specs.Section.{sectionsOf, finiteSections}
@@ -103,14 +104,37 @@ written s (offset n m) u = withRows s (u .rows .i) (u .rows .q)
 written s (iir n sections) u = withRows s (u .rows .i) (u .rows .q)
 written s (fir n taps) u = withRows s (u .rows .i) (u .rows .q)
 
+-- what the caller holds then: what the call returned and left; a refused `make` returns no tables to work with, and the caller keeps its own
+abbrev pub adopted : Answer → State → State → State
+adopted (Done k) s u = u
+adopted (Refused why k) s u = s
+
+unfoldable pub held : State → Call → Answer → State → State
+held s (make amp time oversize) a u = adopted a s u
+held s (add-channel n o) a u = u
+held s (add-shape n) a u = u
+held s (execute commands) a u = u
+held s (sample r c factors) a u = u
+held s (iq n m) a u = u
+held s (offset n m) a u = u
+held s (iir n sections) a u = u
+held s (fir n taps) a u = u
+
+-- the contract holds of the answer and of what the call returned and left, which the caller then holds
 pub record Promised (s : State) (c : Call) (o : Outcome) : Type 0 where
-  pub contract : Contract s c (o .answer) (o .after)
-  pub rest : o .after ≡ written s c (o .after)
+  pub left : State
+  pub contract : Contract s c (o .answer) left
+  pub rest : left ≡ written s c left
+  pub after : o .after ≡ held s c (o .answer) left
 
 -- ---- what a call comes to
 
 abbrev pub tabled : State → Tabled → Outcome
 tabled s x = told (x .answer) (withTables s (x .tables))
+
+-- tables made anew: refused, the caller keeps its own
+abbrev pub remade : State → Tabled → Outcome
+remade s x = told (x .answer) (adopted (x .answer) s (withTables s (x .tables)))
 
 abbrev pub hasRun : State → Ran → Outcome
 hasRun s x = told (x .result .answer) (withStored s (x .result .tables) (x .bins) (x .pulses))
@@ -167,7 +191,7 @@ firStep st n taps =
 -- Every call has an answer: this is a function of every state and every call, with no case left out; and it is the one outcome that the call's
 -- promise allows (proofs/Promised.antt).
 unfoldable pub outcome : State → Call → Outcome
-outcome s (make amp time oversize) = tabled s (made amp time oversize)
+outcome s (make amp time oversize) = remade s (made amp time oversize)
 outcome s (add-channel n o) = tabled s (withAdded (s .tables) n o)
 outcome s (add-shape n) = tabled s (withAddedShape (s .tables) n)
 outcome s (execute commands) = hasRun s (executed (s .tables) commands (s .bins) (s .pulses))
