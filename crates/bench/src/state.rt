@@ -1,6 +1,7 @@
 // What the bench knows between two lines, but for the arrays: tables, the rows' sizes, how many commands are gathered, crosstalk's names.
 ghost use mathlib.Core.Path.{_≡_};
 ghost use Prim.Native.Nat.{_≤_, min};
+ghost use Rattle.bench.specs.Sheet.{withCrosstalk};
 use super::show::show_answer;
 use super::show::show_states;
 use super::show::show_syntax;
@@ -123,7 +124,7 @@ fn with_names(s: State, n: u64, line: &[u8]) -> State {
 }
 
 pub(crate) fn with_crosstalk(s: State, c: Crosstalk) -> State
-    ensures { λ r. ⌜ r .crosstalk ≡ c ⌝ }
+    ensures { λ r. ⌜ r ≡ withCrosstalk s c ⌝ }
 {
     let mut u = s;
     u.crosstalk = c;

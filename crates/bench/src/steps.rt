@@ -2,7 +2,7 @@
 // printed.
 ghost use Prim.Native.Nat.{_≤_};
 ghost use lib.ListN.{length};
-ghost use Rattle.bench.specs.Sheet.{TookBy, GoesOn};
+ghost use Rattle.bench.specs.Sheet.{Leaves, TookBy, Tells};
 use super::show::show_answer;
 use super::show::show_inset;
 use super::show::show_row;
@@ -45,48 +45,55 @@ pub(crate) fn tell(
     q: &mut [f64],
 ) -> Told
     requires { ⌜ (at ≤ end) × (end ≤ length (now text)) ⌝ }
-    ensures { λ r. ⌜ GoesOn (length (now (text .entry))) end (r .lines) (r .next) ⌝ }
+    ensures { λ r. ⌜ Tells said (now (text .entry)) end (s .crosstalk) (now (factors .entry)) r (now (factors .exit)) ⌝ }
 {
     let u = after(s, said, &text[at..end], number);
     take_factors(said, &text[at..end], factors);
-    let behind = least(end + 1, text.len());
+    let past = end + 1;
+    let behind = least(past, text.len());
+    let before = s.crosstalk;
     let c = u.crosstalk;
-    let taken = sheet_behind(said, c, &text[behind..], factors, number);
+    let taken = sheet_behind(said, before, c, &text[behind..], factors, number);
     let crossed = taken.crosstalk;
     let state = with_crosstalk(u, crossed);
     on_rows(said, state, &text[at..end], i, q);
+    let next = past + taken.bytes;
     Told {
         state,
         lines: taken.lines as usize,
-        next: end + 1 + taken.bytes,
+        next,
     }
 }
 
 // The factors of a crosstalk line, as many as eight names have.
-fn take_factors(said: Line, line: &[u8], factors: &mut [f64]) {
+fn take_factors(said: Line, line: &[u8], factors: &mut [f64])
+    ensures { λ r. ⌜ Leaves said (now (factors .entry)) (now (factors .exit)) ⌝ }
+{
     if let Line::Crosstalk(n) = said {
         numbers(line, at_most_511(n) + 2, factors);
     }
 }
 
-// The sheet behind a line of a sheet: read, answered, and its lines and bytes told; behind any other line none.
+// The sheet behind a line of a sheet: read, answered, and its lines and bytes told; refused, the crosstalk is that before it. Behind any other line
+// none: the crosstalk is that after it.
 fn sheet_behind(
     said: Line,
-    c: Crosstalk,
+    before: Crosstalk,
+    after: Crosstalk,
     behind: &[u8],
     factors: &mut [f64],
     number: usize,
 ) -> Taken
-    ensures { λ r. ⌜ TookBy said (now (behind .entry)) c (now (factors .entry)) r (now (factors .exit)) ⌝ }
+    ensures { λ r. ⌜ TookBy said (now (behind .entry)) before after (now (factors .entry)) r (now (factors .exit)) ⌝ }
 {
     match said {
         Line::Sheet(n) => {
-            let taken = take_sheet(behind, n, c, factors);
+            let taken = take_sheet(behind, n, before, factors);
             let inset = taken.inset;
             show_inset(inset, number);
             taken
         }
-        _ => fewer(c),
+        _ => fewer(after),
     }
 }
 

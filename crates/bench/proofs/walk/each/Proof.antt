@@ -107,7 +107,7 @@ add-number-2 c =
     let told = c .before .before .before .before .before in
     let start = told .before .before .before .before .before .before .before .before .before .before .before .before .before .before .before .before .before in
     let was = told .before .before .before .before .before .before .before .before .before .before .before .before .loop .inv in
-    counts (length (start .args .text .now)) _ _ _ _ _ (was .few) (told .before .before .before .before .before .before .before .before .before .before .end-of .ensures .0) (told .tell .ensures) (start .good .0 .1)
+    counts (length (start .args .text .now)) _ _ _ _ _ (was .few) (told .before .before .before .before .before .before .before .before .before .before .end-of .ensures .0) (told .tell .ensures .goes-on) (start .good .0 .1)
 
 slice-aggregate-execute-owned : tie.Need-slice-aggregate-execute-owned Inv-loop μ-loop
 slice-aggregate-execute-owned c = sym (c .before .before .before .before .before .before .before .before .before .before .before .before .before .before .before .before .before .before .before .before .loop .inv .bins-long)
@@ -122,7 +122,7 @@ loop-less : tie.Need-loop-less Inv-loop μ-loop
 loop-less c =
     let told = c .before .before .before .before .before .before .before .before .before .before .before .before .before in
     let ends = told .before .before .before .before .before .before .before .before .before .before in
-    less _ _ _ _ _ (ends .before .loop-test .taken) (ends .end-of .ensures .0) (told .tell .ensures)
+    less _ _ _ _ _ (ends .before .loop-test .taken) (ends .end-of .ensures .0) (told .tell .ensures .goes-on)
 
 loop-again : tie.Need-loop-again Inv-loop μ-loop
 loop-again c =
@@ -130,8 +130,8 @@ loop-again c =
     let ends = told .before .before .before .before .before .before .before .before .before .before in
     let was = ends .before .before .loop .inv in
     record {
-      within = told .tell .ensures .near;
-      few = passed _ _ _ _ _ _ (was .few) (ends .end-of .ensures .0) (told .tell .ensures);
+      within = told .tell .ensures .goes-on .near;
+      few = passed _ _ _ _ _ _ (was .few) (ends .end-of .ensures .0) (told .tell .ensures .goes-on);
       bins-long = c .before .before .before .before .execute-owned .kept .1 .1 .1 .0 ∙ was .bins-long;
       i-long = told .tell .kept .1 .1 .1 .1 .1 .1 .1 .0 ∙ was .i-long;
       q-long = told .tell .kept .1 .1 .1 .1 .1 .1 .1 .1 .0 ∙ was .q-long;
@@ -178,7 +178,7 @@ loop-less-2 : tie.Need-loop-less-2 Inv-loop μ-loop
 loop-less-2 c =
     let told = c .before .before .before .before .before .before .before .before .before .before .before .before .before .before .before .before .before .before .before .before .before .before .before .before .before in
     let ends = told .before .before .before .before .before .before .before .before .before .before in
-    less _ _ _ _ _ (ends .before .loop-test .taken) (ends .end-of .ensures .0) (told .tell .ensures)
+    less _ _ _ _ _ (ends .before .loop-test .taken) (ends .end-of .ensures .0) (told .tell .ensures .goes-on)
 
 loop-again-2 : tie.Need-loop-again-2 Inv-loop μ-loop
 loop-again-2 c =
@@ -186,8 +186,8 @@ loop-again-2 c =
     let ends = told .before .before .before .before .before .before .before .before .before .before in
     let was = ends .before .before .loop .inv in
     record {
-      within = told .tell .ensures .near;
-      few = passed _ _ _ _ _ _ (was .few) (ends .end-of .ensures .0) (told .tell .ensures);
+      within = told .tell .ensures .goes-on .near;
+      few = passed _ _ _ _ _ _ (was .few) (ends .end-of .ensures .0) (told .tell .ensures .goes-on);
       bins-long = was .bins-long;
       i-long = c .before .before .before .before .before .sample-line .kept .1 .1 .1 .1 .1 .1 .1 .1 .0 ∙ told .tell .kept .1 .1 .1 .1 .1 .1 .1 .0 ∙ was .i-long;
       q-long = c .before .before .before .before .before .sample-line .kept .1 .1 .1 .1 .1 .1 .1 .1 .1 .0 ∙ told .tell .kept .1 .1 .1 .1 .1 .1 .1 .1 .0 ∙ was .q-long;
@@ -201,7 +201,7 @@ loop-less-3 : tie.Need-loop-less-3 Inv-loop μ-loop
 loop-less-3 c =
     let told = c .before .before .before .before .before .before .before .before in
     let ends = told .before .before .before .before .before .before .before .before .before .before in
-    less _ _ _ _ _ (ends .before .loop-test .taken) (ends .end-of .ensures .0) (told .tell .ensures)
+    less _ _ _ _ _ (ends .before .loop-test .taken) (ends .end-of .ensures .0) (told .tell .ensures .goes-on)
 
 loop-again-3 : tie.Need-loop-again-3 Inv-loop μ-loop
 loop-again-3 c =
@@ -209,8 +209,8 @@ loop-again-3 c =
     let ends = told .before .before .before .before .before .before .before .before .before .before in
     let was = ends .before .before .loop .inv in
     record {
-      within = told .tell .ensures .near;
-      few = passed _ _ _ _ _ _ (was .few) (ends .end-of .ensures .0) (told .tell .ensures);
+      within = told .tell .ensures .goes-on .near;
+      few = passed _ _ _ _ _ _ (was .few) (ends .end-of .ensures .0) (told .tell .ensures .goes-on);
       bins-long = was .bins-long;
       i-long = told .tell .kept .1 .1 .1 .1 .1 .1 .1 .0 ∙ was .i-long;
       q-long = told .tell .kept .1 .1 .1 .1 .1 .1 .1 .1 .0 ∙ was .q-long;
