@@ -15,6 +15,7 @@ use Rattle.tables.specs.declared.Tables.{Tables}
 use Rattle.crosstalk.specs.declared.names.Crosstalk.{Crosstalk}
 use Rattle.mixdown.specs.Sampled.{Rowed}
 use Rattle.sampler.specs.declared.Request.{Request}
+use Rattle.sampler.specs.Prepared.{Passes}
 use Rattle.job_sheet.specs.declared.first.First.{First}
 use Rattle.job_sheet.specs.declared.first.First.the-variants.{Bytes, Fewer}
 use Rattle.job_sheet.specs.declared.Inset.{Inset}
@@ -24,7 +25,7 @@ use Rattle.job_sheet.specs.First.{firstLines, firstOf}
 use Rattle.job_sheet.specs.Inset.{crosstalkAfter, takenOf, factorsAfter, Took}
 use Rattle.job_sheet.proofs.Firsts.{first-bytes}
 use Rattle.by_name.specs.Words.{Given}
-use Rattle.by_name.specs.Call.{Passes, ByName}
+use Rattle.by_name.specs.Call.{ByName}
 use Rattle.by_name.proofs.Laws.{by-name}
 
 -- ---- a text that was read, and what became of the crosstalk

@@ -22,9 +22,10 @@ use Rattle.merge.specs.Taking.{part}
 use Rattle.crosstalk.specs.declared.names.Crosstalk.{Crosstalk}
 use Rattle.mixdown.specs.Sampled.{Rowed, out}
 use Rattle.sampler.specs.declared.Request.{Request}
+use Rattle.sampler.specs.Prepared.{Passes}
 use Rattle.sampler.specs.Sampler.{sampled}
 use Rattle.by_name.specs.Words.{Handed, Given, Planned, parts, AllKnown, counted, pairsOf, pairsFrom}
-use Rattle.by_name.specs.Call.{Passes, ByName}
+use Rattle.by_name.specs.Call.{ByName}
 use Rattle.by_name.proofs.Accepting.{accepts-known, accepted-knows}
 use Rattle.by_name.proofs.Finding.{known-too}
 use Rattle.by_name.proofs.Orders.{counted-order, placed-order}
@@ -116,12 +117,10 @@ module _ (text : List ℕ) (before : List Float) (s : Sheet) (t : Tables) (r : R
       record {
         row = Taking.takes-row text before s c factors g t (r .channel) (p .plan);
         own = Taking.takes-own text before s c factors g t (r .channel) (p .plan);
-        settings = p .settings;
-        fit = p .fit;
         rows = rw (p .fit, p .sizes, p .plan) refl;
         any-order = λ text′ before′ s′ c′ factors′ g′ same.
             let o = order-says-nothing text text′ before before′ s s′ c c′ factors factors′ g g′ same (r .channel) t (p .plan) in
-            record { passes = record { settings = p .settings; fit = p .fit; sizes = p .sizes; plan = o .0 }; permuted = o .1 };
+            record { passes = record { fit = p .fit; sizes = p .sizes; plan = o .0 }; permuted = o .1 };
         any-places = λ u moved.
             let o = places-say-nothing text before s c factors g (r .channel) t u moved (p .plan) in
             record { passes = o .0; by-name = o .1 };

@@ -1,13 +1,8 @@
 -- The law of the project, in words: what a sampling call adds, whose names and factors were read from a sheet. Definitions only.
 use Prim.Native.Nat.{ℕ}
 use mathlib.Core.Path.{_≡_}
-use mathlib.Core.Bool.{true}
 use mathlib.Core.List.{List}
 use lib.Ieee.{Float}
-use lib.ListN.{length}
-use Rattle.quant.specs.declared.settings.Fitting.the-variants.{Fit}
-use Rattle.quant.specs.declared.settings.Settings.{Settings}
-use Rattle.quant.specs.Settings.{fittingOf}
 use Rattle.sheet.specs.Sheet.{Sheet}
 use Rattle.sheet_laws.specs.Words.{In, Permuted, SameUpToOrder}
 use Rattle.pulse.specs.declared.list.Pulse.{Pulse}
@@ -18,16 +13,9 @@ use Rattle.crosstalk.specs.declared.names.Crosstalk.{Crosstalk}
 use Rattle.mixdown.specs.Bins.{binsBy, mergedOf}
 use Rattle.mixdown.specs.Sampled.{Rowed, out, ranBins}
 use Rattle.sampler.specs.declared.Request.{Request}
-use Rattle.sampler.specs.Sizes.{sizesFit}
+use Rattle.sampler.specs.Prepared.{settingsOf, Passes}
 use Rattle.sampler.specs.Sampler.{sampled}
 use Rattle.by_name.specs.Words.{Given, Planned, parts, TakesRow, TakesOwn, pairsOf}
-
--- the call passes its refusals: 1, 13 for what is lent, and 13, 2, 14 and 7 for the crosstalk and the channel
-pub record Passes (t : Tables) (r : Request) (c : Crosstalk) (factors : List Float) (bins : List (List Float)) (pulses : List Pulse) (st : Rowed) (work : List (List Float)) (marks : List ℕ) : Type 0 where
-  pub settings : Settings
-  pub fit : fittingOf (r .rate) (r .delay) (r .level) ≡ Fit settings
-  pub sizes : sizesFit (r .rows) (length (st .i)) (length (st .q)) (length (st .scratch)) (length bins) (length pulses) (length work) (length marks) ≡ true
-  pub plan : Planned t (r .channel) c factors
 
 module _ (s : Sheet) (t : Tables) (r : Request) (c : Crosstalk) (factors : List Float) (bins : List (List Float)) (pulses : List Pulse) (st : Rowed) (work : List (List Float)) (marks : List ℕ) where
   -- the lists that take part
@@ -51,10 +39,8 @@ module _ (s : Sheet) (t : Tables) (r : Request) (c : Crosstalk) (factors : List 
     -- any other channel: its own list alone, with factor 1
     pub own : (In (r .channel) (s .columns) → ⊥) → TakesOwn t (r .channel) taken
     -- the answer and the rows are those of exactly these lists, merged
-    pub settings : Settings
-    pub fit : fittingOf (r .rate) (r .delay) (r .level) ≡ Fit settings
     pub rows : out (sampled t r c factors bins pulses st work marks .answer) (sampled t r c factors bins pulses st work marks .rows)
-        ≡ ranBins settings (r .rows) (mergedOf t bins pulses taken) (binsBy t bins taken) 0 st
+        ≡ ranBins (settingsOf r) (r .rows) (mergedOf t bins pulses taken) (binsBy t bins taken) 0 st
     -- whatever the order of rows and columns in the sheet, and of channels in the tables
     pub any-order : (text : List ℕ) (before : List Float) (other : Sheet) (e : Crosstalk) (others : List Float) → Given text before other e others → SameUpToOrder s other
         → InAnyOrder e others

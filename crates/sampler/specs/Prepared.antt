@@ -1,9 +1,11 @@
 -- How the code goes: all that is judged before the first pulse comes first, then the pulses, out of the work rows. That this is `sampled` is a law
 -- (`proofs/Order.antt`). Definitions only.
 use Prim.Native.Nat.{ℕ}
+use mathlib.Core.Path.{_≡_}
 use mathlib.Core.Bool.{Bool, true, false, cond}
 use mathlib.Core.List.{List, []}
 use lib.Ieee.{Float, binary64, div}
+use lib.ListN.{length}
 use Rattle.exact.specs.Doubles.{one}
 use Rattle.quant.specs.declared.refusal.Answer.the-variants.{Refused}
 use Rattle.quant.specs.declared.refusal.Refusal.{Refusal}
@@ -36,6 +38,12 @@ fits Unfit = false
 
 abbrev pub isFit : Request → Bool
 isFit r = fits (fittingOf (r .rate) (r .delay) (r .level))
+
+-- a call passes its refusals, and each pulse is judged: it meets no 1, no 13 for what is lent, and none of 13, 2, 14 and 7 for the crosstalk and the channel
+pub record Passes (t : Tables) (r : Request) (c : Crosstalk) (factors : List Float) (bins : List (List Float)) (pulses : List Pulse) (st : Rowed) (work : List (List Float)) (marks : List ℕ) : Type 0 where
+  pub fit : fittingOf (r .rate) (r .delay) (r .level) ≡ Fit (settingsOf r)
+  pub sizes : sizesFit (r .rows) (length (st .i)) (length (st .q)) (length (st .scratch)) (length bins) (length pulses) (length work) (length marks) ≡ true
+  pub plan : planned t (r .channel) c factors .refused ≡ false
 
 abbrev pub refusedBefore : Request → Refusal → Prepared
 refusedBefore r why = record { refused = true; answer = Refused why 0; settings = settingsOf r; taking = packed [] }

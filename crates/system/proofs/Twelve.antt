@@ -32,7 +32,7 @@ use Rattle.placing.proofs.Twelve.{Over, Kept, Judgeable}
 use Rattle.placing.proofs.Twelve as one
 use Rattle.mixdown.specs.Bins.{binsBy, mergedOf}
 use Rattle.sampler.specs.declared.Request.{Request}
-use Rattle.sampler.specs.Prepared.{settingsOf}
+use Rattle.sampler.specs.Prepared.{settingsOf, Passes}
 use Rattle.sampler.specs.Sizes.{sizesFit}
 use Rattle.sampler.specs.Sampler.{Left, sampled}
 use Rattle.sampler.proofs.Order.{fitting-sizes}
@@ -59,11 +59,9 @@ module _ (s : State) (r : Request) (c : Crosstalk) (factors : List Float) where
   abbrev plan : Plan
   plan = planned (s .tables) (r .channel) c factors
 
-  -- it meets no 1, no 13, and none of 13, 2, 14 and 7 for the crosstalk and the channel: its pulses are judged
-  pub record Heard : Type 0 where
-    pub fit : fittingOf (r .rate) (r .delay) (r .level) ≡ Fit (settingsOf r)
-    pub sizes : sized ≡ true
-    pub plan : planned (s .tables) (r .channel) c factors .refused ≡ false
+  -- its pulses are judged
+  abbrev pub Heard : Type 0
+  Heard = Passes (s .tables) r c factors (s .bins) (s .pulses) (s .rows) (s .work) (s .marks)
 
   abbrev pub Answers : Answer → Type 0
   Answers a = outcome s (sample r c factors) .answer ≡ a
