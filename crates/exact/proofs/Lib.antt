@@ -16,3 +16,4 @@ pub mod Compare
 pub mod Remainder
 pub mod Bounded
 pub mod Truth
+pub mod AtMost

@@ -1,7 +1,9 @@
 -- A finite double as a whole number over 2 ^ 1074, the smallest positive double. Definitions only.
-use Prim.Native.Nat.{ℕ, _*_, _/_, _^_}
+use Prim.Native.Nat.{ℕ, _*_, _/_, _^_, _≤_}
 use mathlib.Core.Bool.{Bool, false}
-use lib.Ieee.{Float, nan, inf, fin, up, down}
+use lib.Dec.{T}
+use lib.Ieee.{Float, nan, inf, fin, up, down, binary64, fits}
+use lib.Ieee.Scale.{finite}
 use lib.Ieee.Exact.{HasValue}
 
 -- x is finite, has the sign s (true: negative) and is n / 2 ^ 1074 in size
@@ -18,3 +20,9 @@ abbrev pub unitsOf : Float → ℕ
 unitsOf nan = 0
 unitsOf (inf s) = 0
 unitsOf (fin s m e) = m * up e * 2 ^ 1074 / down e
+
+-- z is a double of at most m units in size
+pub record AtMost (m : ℕ) (z : Float) : Type 0 where
+  pub fit : T (fits binary64 z)
+  pub known : T (finite z)
+  pub small : unitsOf z ≤ m

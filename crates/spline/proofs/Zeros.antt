@@ -1,0 +1,127 @@
+-- Zeros and ones in the operations: what a zero makes of a product, a quotient and a sum, and that 1 times a double is that number. Assumes nothing.
+use mathlib.Core.Path.{_≡_, refl, sym, ap, _∙_, subst}
+use mathlib.Core.Logic.{inl, inr}
+use mathlib.Core.Bool.{Bool, true, false, not}
+use Prim.Native.Nat.{ℕ, _+_, _-_, _*_, _^_, _<_}
+use native.Mathlib.Nat.{eq-zero-or-pos, mul-pos, one-mul, zero-mul, add-zero, sub-zero}
+use native.Mathlib.Omega.{arith}
+use lib.Dec.{T, lit<}
+use lib.IntN.{pos}
+use lib.Pow.{pow-pos}
+use lib.Ieee.{Float, nan, inf, fin, binary64, ofBits, round, units, odd, sum, add, sub, neg, mul, eq, up, down, unlike}
+use lib.Ieee.Exact.{HasValue}
+use lib.Ieee.Fits.{down-pos}
+use lib.Ieee.Scale.{finite, round-same}
+use Rattle.exact.specs.Doubles.{nought, one}
+use Rattle.exact.specs.Signed.{Same, signed}
+use Rattle.exact.specs.Value.{Units, signOf, unitsOf}
+use Rattle.exact.proofs.Few.{Few, few-of, few-value, units-below}
+use Rattle.exact.proofs.Operation.{mul-rounds}
+use Rattle.exact.proofs.Sum.{sum-like, sum-first, sum-none}
+use Rattle.exact.proofs.Value.{own}
+use Rattle.spline.proofs.Places.{Number}
+
+-- ---- the zeros
+abbrev pub none : Bool → Float
+none s = fin s 0 (pos 0)
+
+pub none-value : (s : Bool) (c : ℕ) → HasValue (none s) s 0 c
+none-value s c = (refl, zero-mul c)
+
+pub round-zero : (s : Bool) (c : ℕ) → 0 < c → round binary64 s 0 c ≡ none s
+round-zero s c C = round-same binary64 s 0 c 0 1 C (lit< tt) (zero-mul 1 ∙ sym (zero-mul c)) ∙ by s
+  where
+    by : (s : Bool) → round binary64 s 0 1 ≡ none s
+    by true = unfold round units odd in refl
+    by false = unfold round units odd in refl
+
+pub nought-is : nought ≡ none false
+unfolding ofBits
+nought-is = refl
+
+pub none-is-nought : (s : Bool) → eq (none s) nought ≡ true
+unfolding eq ofBits
+none-is-nought true = refl
+none-is-nought false = refl
+
+-- ---- a zero times a finite number is a zero
+pub none-times : (s : Bool) (b : Float) → T (finite b) → mul binary64 (none s) b ≡ none (unlike s (signOf b))
+unfolding mul
+none-times s nan t = absurd t
+none-times s (inf u) t = absurd t
+none-times s (fin u n d) t =
+    ap (λ (k : ℕ). round binary64 (unlike s u) k (1 * down d)) (zero-mul (n * up d))
+    ∙ round-zero (unlike s u) (1 * down d) (mul-pos (lit< tt) (down-pos d))
+
+-- ---- 1 less a zero is 1, and 1 less 1 is +0
+pub one-less-none : (s : Bool) → sub binary64 one (none s) ≡ one
+unfolding sub add neg sum round units odd ofBits
+one-less-none true = refl
+one-less-none false = refl
+
+pub one-less-one : sub binary64 one one ≡ none false
+unfolding sub add neg sum round units odd ofBits
+one-less-one = refl
+
+-- ---- 1 times a double is that number
+pub one-value : HasValue one false 1 1
+unfolding ofBits
+one-value = (refl, refl)
+
+like-plus : (s : Bool) → unlike false s ≡ s
+like-plus true = refl
+like-plus false = refl
+
+pub one-times : (a : Float) → Number a → Units (mul binary64 one a) (signOf a) (unitsOf a)
+one-times a A =
+    let s = signOf a in
+    let n = unitsOf a in
+    subst (λ (z : Float). Units z s n)
+    (sym
+    (mul-rounds binary64 one a false s 1 1 n (2 ^ 1074) (lit< tt) (pow-pos 1074) one-value (own a (A .fit) (A .known))
+    ∙ (λ i. round binary64 (like-plus s i) (one-mul n i) (2 ^ 1074))))
+    (few-value s n (few-of a (A .fit) (A .known)) (units-below a (A .fit) (A .known)))
+
+-- ---- equal numbers differ by a zero
+pub same-difference : (s u : Bool) (a d c : ℕ) → 0 < c → Same (signed s a) (signed u d) → (z : Bool) × (sum binary64 s a (not u) d c ≡ none z)
+same-difference false false a d c C e = (false, sum-none binary64 false true a d c refl (omega arith) ∙ round-zero false c C)
+same-difference true true a d c C e = (false, sum-none binary64 true false a d c refl (omega arith) ∙ round-zero false c C)
+same-difference false true a d c C e =
+    let z : a + d ≡ 0 = omega arith in
+    (false, sum-like binary64 false false a d c refl ∙ ap (λ (m : ℕ). round binary64 false m c) z ∙ round-zero false c C)
+same-difference true false a d c C e =
+    let z : a + d ≡ 0 = omega arith in
+    (true, sum-like binary64 true true a d c refl ∙ ap (λ (m : ℕ). round binary64 true m c) z ∙ round-zero true c C)
+
+-- ---- a double and a zero add up to that number
+pub sum-nothing : (s t : Bool) (n : ℕ) → Few n → n < 2 ^ 2098
+    → (u : Bool) × Units (sum binary64 s n t 0 (2 ^ 1074)) u n × Same (signed u n) (signed s n)
+sum-nothing s t n f l =
+    elim (eq-zero-or-pos n) [
+      | inl z ↦ at-zero z
+      | inr h ↦ (s, subst (λ (z : Float). Units z s n) (sym (kept s t h)) (few-value s n f l), refl)
+    ]
+  where
+    zeros : (s t : Bool) → (u : Bool) × (sum binary64 s 0 t 0 (2 ^ 1074) ≡ none u)
+    zeros false false = same-difference false true 0 0 (2 ^ 1074) (pow-pos 1074) refl
+    zeros true true = same-difference true false 0 0 (2 ^ 1074) (pow-pos 1074) refl
+    zeros false true = same-difference false false 0 0 (2 ^ 1074) (pow-pos 1074) refl
+    zeros true false = same-difference true true 0 0 (2 ^ 1074) (pow-pos 1074) refl
+
+    same : (u s : Bool) → n ≡ 0 → Same (signed u n) (signed s n)
+    same false false z = refl
+    same true true z = refl
+    same false true z = omega arith
+    same true false z = omega arith
+
+    kept : (s t : Bool) → 0 < n → sum binary64 s n t 0 (2 ^ 1074) ≡ round binary64 s n (2 ^ 1074)
+    kept false false h = sum-like binary64 false false n 0 (2 ^ 1074) refl ∙ ap (λ (m : ℕ). round binary64 false m (2 ^ 1074)) (add-zero n)
+    kept true true h = sum-like binary64 true true n 0 (2 ^ 1074) refl ∙ ap (λ (m : ℕ). round binary64 true m (2 ^ 1074)) (add-zero n)
+    kept false true h = sum-first binary64 false true n 0 (2 ^ 1074) refl h ∙ ap (λ (m : ℕ). round binary64 false m (2 ^ 1074)) (sub-zero n)
+    kept true false h = sum-first binary64 true false n 0 (2 ^ 1074) refl h ∙ ap (λ (m : ℕ). round binary64 true m (2 ^ 1074)) (sub-zero n)
+
+    at-zero : n ≡ 0 → (u : Bool) × Units (sum binary64 s n t 0 (2 ^ 1074)) u n × Same (signed u n) (signed s n)
+    at-zero z =
+        let w = zeros s t in
+        let is : sum binary64 s n t 0 (2 ^ 1074) ≡ none (w .0) = ap (λ (m : ℕ). sum binary64 s m t 0 (2 ^ 1074)) z ∙ w .1 in
+        (w .0, subst (λ (y : Float). Units y (w .0) n) (sym is) (rw z (none-value (w .0) (2 ^ 1074))), same (w .0) s z)

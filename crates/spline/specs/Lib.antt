@@ -1,0 +1,5 @@
+pub mod Spline
+pub mod Value
+pub mod Row
+pub mod Same
+pub mod Walk
