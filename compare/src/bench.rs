@@ -37,6 +37,15 @@ pub fn run() {
     }
     println!(
         "{:44} {:>8} {:>8} {:>8}",
+        "nanoseconds a point", "ours", "Rust", "ratio"
+    );
+    for degree in [1, 3, 5] {
+        for controls in [8, 32] {
+            spline(degree, controls);
+        }
+    }
+    println!(
+        "{:44} {:>8} {:>8} {:>8}",
         "nanoseconds a sample of each row", "ours", "Rust", "ratio"
     );
     step("iq", &[0.9, 0.1, -0.1, 1.1], host::iq, mixer::their_iq);
@@ -59,6 +68,41 @@ pub fn run() {
             theirs::rows::fir,
         );
     }
+}
+
+/// NUMBERS points that rise through the domain of a clamped spline, as an envelope's do; the Rust's `Interp` takes the plain recurrence.
+fn spline(degree: usize, count: usize) {
+    let mut rng = Rng::new(7);
+    let controls: Vec<f64> = (0..count).map(|_| rng.sample()).collect();
+    let inner = count - degree;
+    let knots: Vec<f64> = (0..count + degree + 1)
+        .map(|k| k.clamp(degree, count) - degree)
+        .map(|k| k as f64 / inner as f64 - 0.5)
+        .collect();
+    let mut row = vec![degree as f64, count as f64];
+    row.extend(&controls);
+    row.resize(34, 0.0);
+    row.extend(&knots);
+    row.resize(72, 0.0);
+    let rising: Vec<f64> = (0..NUMBERS)
+        .map(|k| k as f64 / NUMBERS as f64 - 0.5)
+        .collect();
+    let theirs = theirs::lists::spline(degree, &controls, &knots);
+    let (mut mine, mut rust) = (rising.clone(), rising.clone());
+    host::spline(&mut mine, &row);
+    theirs(&mut rust);
+    assert_eq!(mine, rust, "a spline's values");
+    let timed = |call: &dyn Fn(&mut [f64])| {
+        rows_best(&rising, |points| {
+            points.copy_from_slice(&rising);
+            call(points);
+        })
+    };
+    self::row(
+        &format!("spline, degree {degree}, {count} controls"),
+        timed(&|points| host::spline(points, &row)),
+        timed(&theirs),
+    );
 }
 
 /// Two rows of NUMBERS samples from -1 to 1, stepped in place again and again; the numbers keep them finite.

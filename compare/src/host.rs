@@ -86,6 +86,12 @@ mod c {
             sections: *const f64,
             sections_len: usize,
         ) -> usize;
+        pub fn skierralu_spline(
+            points: *mut f64,
+            points_len: usize,
+            row: *const f64,
+            row_len: usize,
+        );
         pub fn skierralu_fir(
             rows: usize,
             i: *mut f64,
@@ -198,6 +204,13 @@ pub fn fir(rows: usize, i: &mut [f64], q: &mut [f64], taps: &[f64]) -> usize {
 
 pub fn iir(rows: usize, i: &mut [f64], q: &mut [f64], sections: &[f64]) -> usize {
     step(c::skierralu_iir, rows, i, q, sections)
+}
+
+/// Each point becomes a spline's value at it.
+pub fn spline(points: &mut [f64], row: &[f64]) {
+    unsafe {
+        c::skierralu_spline(points.as_mut_ptr(), points.len(), row.as_ptr(), row.len());
+    }
 }
 
 /// A plateau onto two rows: `count` samples from `start` on.

@@ -142,6 +142,14 @@ impl Text {
             tables.add_hann(name);
             self.ask(&format!("shape {name} hann"), "ok 0");
         }
+        // Of two names one or both may stand for splines, the same or others.
+        let splined = rng.below(3);
+        if splined > 0 {
+            self.spline(rng, &mut tables, "h");
+        }
+        if splined == 2 {
+            self.spline(rng, &mut tables, "hann");
+        }
         // The Rust refuses some commands when they are made; nothing behind such a one runs.
         let (mut items, mut unmade) = (Vec::new(), None);
         let mut say = |text: &mut Self, command: &Command, start: f64, span: f64| {
@@ -183,6 +191,15 @@ impl Text {
             1,
         );
         self.ask("run", &told);
+        // Stored pulses keep what they had.
+        match rng.below(6) {
+            0 => self.spline(rng, &mut tables, "h"),
+            1 => {
+                tables.add_hann("h");
+                self.ask("shape h hann", "ok 0");
+            }
+            _ => {}
+        }
         let states: BTreeMap<String, _> = tables.states().into_iter().collect();
         let state = |name: &&str| {
             let osc = &states[*name];
@@ -198,6 +215,48 @@ impl Text {
         tables
     }
 
+    /// A spline of any degree, whose steps do not overflow; before it, now and then, one that is refused.
+    fn spline(&mut self, rng: &mut Rng, tables: &mut Tables, name: &str) {
+        if rng.below(4) == 0 {
+            let (line, told) = [
+                ("degree=6 controls=7 knots=14 1 1 1 1 1 1 1 0 1 2 3 4 5 6 7 8 9 10 11 12 13", "refused 16 0"),
+                ("degree=1 controls=1 knots=3 1 0 1 2", "refused 16 0"),
+                ("degree=0 controls=1 knots=3 1 0 1 2", "refused 16 0"),
+                ("degree=0 controls=1 knots=2 1 1 0", "refused 16 0"),
+                ("degree=9 controls=1 knots=2 7ff0000000000000 1 0", "refused 2 0"),
+                ("degree=0 controls=1 knots=2 1 0 7ff8000000000000", "refused 2 0"),
+            ][rng.below(6) as usize];
+            self.count(&format!("splines {}", &told[..told.len() - 2]), 1);
+            self.ask(&format!("spline {name} {line}"), told);
+        }
+        self.count("splines", 1);
+        let degree = rng.below(6) as usize;
+        let n = degree + 1 + rng.below(33 - degree as u64 - 1) as usize;
+        let controls: Vec<f64> = (0..n)
+            .map(|_| match rng.below(4) {
+                0 => 1.0,
+                1 => rng.below(5) as f64 - 2.0,
+                _ => between(rng, -1.5, 1.5),
+            })
+            .collect();
+        let half = [0.5, 0.5, 0.25, 0.75][rng.below(4) as usize];
+        let mut knots: Vec<f64> = (0..n + degree + 1)
+            .map(|_| match rng.below(3) {
+                0 => (rng.below(9) as f64 / 8.0 - 0.5) * 2.0 * half,
+                _ => between(rng, -half, half),
+            })
+            .collect();
+        knots.sort_by(f64::total_cmp);
+        if rng.below(2) == 0 {
+            knots[..=degree].fill(-half);
+            knots[n..].fill(half);
+        }
+        tables.add_spline(name, degree, &controls, &knots);
+        let numbers: String = controls.iter().chain(&knots).map(|x| word(*x)).collect();
+        let counts = format!("degree={degree} controls={n} knots={}", knots.len());
+        self.ask(&format!("spline {name} {counts}{numbers}"), "ok 0");
+    }
+
     /// A line that is no request, or one that is refused and changes nothing.
     fn aside(&mut self, rng: &mut Rng) {
         let odd = [
@@ -210,6 +269,8 @@ impl Text {
             "fir 2 0",
             "nothing",
             "channel q0 base=1 delta=0",
+            "spline h degree=0 controls=1 knots=2 1 0",
+            "spline h degree=0 controls=2 knots=1 1 0 1 1",
         ];
         match rng.below(5) {
             0 => self.ask("", ""),
@@ -342,6 +403,10 @@ impl Text {
         self.ask("print", &(told + "ok 0"));
         self.count("samples printed", samples.len());
     }
+}
+
+fn between(rng: &mut Rng, low: f64, high: f64) -> f64 {
+    low + (high - low) * ((rng.bits() >> 11) as f64 * 2f64.powi(-53))
 }
 
 /// The play and its span; one in a hundred is refused: a shape that is not there, a number not finite, too short a span.

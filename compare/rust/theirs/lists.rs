@@ -176,3 +176,18 @@ pub fn hann(width: f64, plateau: f64, offset: f64, rate: f64) -> Result<Vec<f64>
         Ok(points.to_vec())
     })
 }
+
+/// A spline's value at each point, as `Interp` takes it, over P1's recurrence written plainly.
+pub fn spline(degree: usize, controls: &[f64], knots: &[f64]) -> impl Fn(&mut [f64]) {
+    let spline = bspline::BSpline::new(degree, controls.to_vec(), knots.to_vec());
+    move |points| {
+        for x in points {
+            let (min, max) = spline.knot_domain();
+            *x = if *x < min || *x > max {
+                0.0
+            } else {
+                spline.point(*x)
+            };
+        }
+    }
+}

@@ -142,6 +142,13 @@ impl Tables {
             .add_shape(ShapeId::new(name), Shape::new_hann());
     }
 
+    /// Numbers that are finite. `Interp` takes P1's recurrence from what stands in for the crate `bspline`.
+    pub fn add_spline(&mut self, name: &str, degree: usize, controls: &[f64], knots: &[f64]) {
+        let shape = Shape::new_interp(knots.to_vec(), controls.to_vec(), degree);
+        self.executor
+            .add_shape(ShapeId::new(name), shape.expect("no NaN"));
+    }
+
     /// How many of the commands were run, and why no more.
     pub fn execute(&mut self, items: &[Item]) -> (usize, Option<Refusal>) {
         for (place, item) in items.iter().enumerate() {

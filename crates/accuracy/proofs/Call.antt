@@ -24,9 +24,9 @@ use Rattle.trig.specs.Reduce.{TAU}
 use Rattle.trig.proofs.Special.{cosine-fits, sine-fits, cosine-finite, sine-finite}
 use Rattle.rows.specs.Rows.{rowsFit, allFinite}
 use Rattle.pulse.specs.declared.bin.Bin.{Bin}
-use Rattle.pulse.specs.declared.envelope.Shape.the-variants.{Plain, Hann}
 use Rattle.pulse.specs.declared.list.Pulse.{Pulse}
-use Rattle.pulse.specs.Bin.{binOf}
+use Rattle.pulse.specs.Envelope.{isShaped}
+use Rattle.pulse.specs.Bin.{binOf, numbersOf}
 use Rattle.tables.specs.declared.Tables.{Tables}
 use Rattle.merge.specs.Taking.{Part, partsIn}
 use Rattle.merge.proofs.Scaled.{Fitting, AllFitting}
@@ -106,7 +106,7 @@ kind rows i q e =
     go false f false g h k = absurd (true≢false (sym k))
 
 -- ---- a pulse without a shape, alone on rows of zeros
-module _ (s : Settings) (b : Bin) (p : Pulse) (rows len : ℕ) (st after : Rowed) (f : Flat) (held : HeldFlat s b p (length (st .i)) f) (z : Zeros rows len st) (sized : rowsFit rows (length (st .i)) (length (st .q)) ≡ true) (is : after ≡ addedTo s b rows (Plateau f) st) (fitting : Fitting p) where
+module _ (s : Settings) (b : Bin) (numbers : List Float) (p : Pulse) (rows len : ℕ) (st after : Rowed) (f : Flat) (held : HeldFlat s b p (length (st .i)) f) (z : Zeros rows len st) (sized : rowsFit rows (length (st .i)) (length (st .q)) ≡ true) (is : after ≡ addedTo s b numbers rows (Plateau f) st) (fitting : Fitting p) where
   abbrev it : AsSampled
   it = record { settings = s; bin = b; pulse = p; start = f .start; offset = held .offset }
 
@@ -197,14 +197,17 @@ module _ (t : Tables) (r : Request) (c : Crosstalk) (factors : List Float) (bins
     abbrev its-bin : Bin
     its-bin = binOf (x .row)
 
+    abbrev its-numbers : List Float
+    its-numbers = numbersOf (x .row)
+
     abbrev verdict : Judged
-    verdict = judged (a .settings) its-bin (x .pulse) (length (st .i))
+    verdict = judged (a .settings) its-bin its-numbers (x .pulse) (length (st .i))
 
     fitting : Fitting (x .pulse)
     fitting = subst AllFitting (x .only) (all-merged t bins pulses parts (x .row)) .0
 
-    left-is : (d : Judged) → verdict ≡ d → result .rows ≡ addedTo (a .settings) its-bin (r .rows) d st
-    left-is d e = x .alone .left ∙ ap (λ (j : Judged). addedTo (a .settings) its-bin (r .rows) j st) e
+    left-is : (d : Judged) → verdict ≡ d → result .rows ≡ addedTo (a .settings) its-bin its-numbers (r .rows) d st
+    left-is d e = x .alone .left ∙ ap (λ (j : Judged). addedTo (a .settings) its-bin its-numbers (r .rows) j st) e
 
     -- the pulse that was added, by its start and its offset
     abbrev as-it : ℕ → Float → AsSampled
@@ -218,21 +221,21 @@ module _ (t : Tables) (r : Request) (c : Crosstalk) (factors : List Float) (bins
 
     by-verdict : (d : Judged) → verdict ≡ d → OneNear t r c factors bins pulses len st (result .rows)
     by-verdict (Plateau f) e =
-        let h = flat-held (a .settings) its-bin (x .pulse) (length (st .i)) f e in
+        let h = flat-held (a .settings) its-bin its-numbers (x .pulse) (length (st .i)) f e in
         let sized = fitting-sizes (r .rows) (length (st .i)) (length (st .q)) (length (st .scratch)) (length bins) (length pulses) (length work) (length marks) (a .sizes) .its-rows in
         record {
           one = as-it (f .start) (h .offset);
           only = only-it (f .start) (h .offset) (h .placed);
           alone = alone (as-it (f .start) (h .offset)) (only-it (f .start) (h .offset) (h .placed));
-          near = λ plain bounded. flat-near (a .settings) its-bin (x .pulse) (r .rows) len st (result .rows) f h z sized (left-is (Plateau f) e) fitting bounded;
+          near = λ plain bounded. flat-near (a .settings) its-bin its-numbers (x .pulse) (r .rows) len st (result .rows) f h z sized (left-is (Plateau f) e) fitting bounded;
         }
     by-verdict (Shaped k) e =
-        let h = curved-held (a .settings) its-bin (x .pulse) (length (st .i)) k e in
+        let h = curved-held (a .settings) its-bin its-numbers (x .pulse) (length (st .i)) k e in
         record {
           one = as-it (k .start) (k .offset);
           only = only-it (k .start) (k .offset) (h .placed);
           alone = alone (as-it (k .start) (k .offset)) (only-it (k .start) (k .offset) (h .placed));
-          near = λ plain bounded. let same : Plain ≡ Hann = sym plain ∙ h .shape in let w : _≡_ {A = ℕ} 0 1 = cc in absurd (omega arith);
+          near = λ plain bounded. absurd (true≢false (sym (h .shape) ∙ ap isShaped plain));
         }
     by-verdict (Refused why) e = absurd (true≢false (sym (x .alone .taken) ∙ ap accepted e))
 

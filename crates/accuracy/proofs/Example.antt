@@ -21,6 +21,7 @@ use Rattle.quant.specs.declared.refusal.Answer.the-variants.{Done}
 use Rattle.quant.specs.declared.settings.Fitting.the-variants.{Fit}
 use Rattle.quant.specs.Settings.{fittingOf}
 use Rattle.shape.specs.Parts.{indexAt}
+use Rattle.spline.specs.Same.{sameNumbers}
 use Rattle.pulse.specs.declared.envelope.Shape.the-variants.{Plain}
 use Rattle.pulse.specs.Bin.{sameRow, placeOf}
 use Rattle.tables.specs.Tables.{foundFrom}
@@ -54,7 +55,7 @@ record Computed : Type 0 where
   not-closer : Closer → ⊥
 
 computed : Computed
-unfolding add sub mul div rem lt eq round ofBits ofInt ceiling cutOf exp2Of wrapped reduced horner cosineAt sineAt cosineOf sineOf allFinite nameByte every lowBytes bytesOfWord sixteen bytesOf pastEnd isName sameName indexAt sameRow placeOf phase0 dphase startPair rotationPair phaseNumbers judged foundFrom keptFrom summedBy joined joinedTwo packed zipped allNames doubledFrom allKnown rowFrom partOf partsAt planned onPart carried ofMark allRows firstsAfter ranPulses ranBins sampled powerG
+unfolding add sub mul div rem lt eq round ofBits ofInt ceiling cutOf exp2Of wrapped reduced horner cosineAt sineAt cosineOf sineOf allFinite nameByte every lowBytes bytesOfWord sixteen bytesOf pastEnd isName sameName indexAt sameNumbers sameRow placeOf phase0 dphase startPair rotationPair phaseNumbers judged foundFrom keptFrom summedBy joined joinedTwo packed zipped allNames doubledFrom allKnown rowFrom partOf partsAt planned onPart carried ofMark allRows firstsAfter ranPulses ranBins sampled powerG
 computed =
     record {
       done = refl;

@@ -3,7 +3,7 @@
 use Prim.Native.Nat.{_*_, _^_}
 use mathlib.Core.Path.{_≡_}
 use mathlib.Core.Bool.{false}
-use mathlib.Core.List.{List, [], _∷_}
+use mathlib.Core.List.{List, [], _∷_, _++_}
 use lib.IntN.{pos}
 use lib.Ieee.{Float, nan, binary64, ofBits}
 use lib.ListN.{getD, replicate}
@@ -13,11 +13,11 @@ use Rattle.naming.specs.declared.Name.{Name}
 use Rattle.quant.specs.declared.refusal.Answer.the-variants.{Done}
 use Rattle.pulse.specs.declared.envelope.Shape.the-variants.{Plain}
 use Rattle.pulse.specs.declared.list.Pulse.{Pulse}
-use Rattle.pulse.specs.Bin.{binOf}
+use Rattle.pulse.specs.Bin.{noNumbers, binOf}
 use Rattle.tables.specs.declared.Tables.{Tables}
 use Rattle.tables.specs.Tables.{noName, atRest, fresh}
 use Rattle.crosstalk.specs.declared.names.Crosstalk.{Crosstalk}
-use Rattle.commands.specs.Step.{noPulse, noRow}
+use Rattle.commands.specs.Step.{noPulse, noHead}
 use Rattle.mixdown.specs.Sampled.{Rowed, rowed}
 use Rattle.sampler.specs.declared.Request.{Request}
 use Rattle.sampler.specs.Sampler.{Left, sampled}
@@ -54,16 +54,16 @@ tables =
       named = 0;
     }
 
--- its bin: no shape, width 0, plateau 3, global frequency 0.125, local frequency 0
+-- its bin: no shape, width 0, plateau 3, global frequency 0.125, local frequency 0; of a spline no numbers
 abbrev pub row : List Float
-row = nought ∷ nought ∷ three ∷ eighth ∷ nought ∷ []
+row = nought ∷ nought ∷ three ∷ eighth ∷ nought ∷ noNumbers
 
 -- it begins at 1, and its amplitude is 3 - 9 i
 abbrev pub pulse : Pulse
 pulse = record { bin = 0; time = record { 0 = one }; amp = record { re = three; im = minus-nine }; drag = record { re = nought; im = nought } }
 
 abbrev pub bins : List (List Float)
-bins = row ∷ replicate 511 noRow
+bins = row ∷ replicate 511 (noHead ++ noNumbers)
 
 abbrev pub pulses : List Pulse
 pulses = pulse ∷ replicate 8191 noPulse
@@ -82,7 +82,7 @@ rows =
     (replicate 5 nought)
 
 abbrev pub left : Left
-left = sampled tables request cross [] bins pulses rows (replicate 8192 noRow) (replicate 8192 0)
+left = sampled tables request cross [] bins pulses rows (replicate 8192 noHead) (replicate 8192 0)
 
 -- the pulse as sampled: it starts at sample 1
 abbrev pub theOne : AsSampled

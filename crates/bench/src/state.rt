@@ -1,6 +1,7 @@
 // What the bench knows between two lines, but for the arrays: tables, the rows' sizes, how many commands are gathered, crosstalk's names.
 ghost use mathlib.Core.Path.{_≡_};
 ghost use Prim.Native.Nat.{_≤_, min};
+ghost use lib.ListN.{length};
 ghost use Rattle.bench.specs.Sheet.{withCrosstalk};
 use super::show::show_answer;
 use super::show::show_states;
@@ -12,6 +13,7 @@ use fields::value::Called;
 use fields::value::name_in;
 use job::line::Line;
 use naming::Name;
+use numbers::numbers;
 use quant::quantity::Amplitude;
 use quant::quantity::Frequency;
 use quant::quantity::Time;
@@ -45,7 +47,13 @@ pub(crate) fn start() -> State {
 }
 
 // What a line does to the state, answered; rows, runs and samplings that are in order are not answered here.
-pub(crate) fn after(s: State, said: Line, line: &[u8], number: usize) -> State {
+pub(crate) fn after(
+    s: State,
+    said: Line,
+    line: &[u8],
+    number: usize,
+    splines: &mut [[f64; 72]],
+) -> State {
     let t = s.tables;
     match said {
         Line::Syntax => {
@@ -54,7 +62,10 @@ pub(crate) fn after(s: State, said: Line, line: &[u8], number: usize) -> State {
         }
         Line::Tables(amp, time, oversize) => renewed(s, tables::make(amp, time, oversize)),
         Line::Channel(name, osc) => with_tables(s, tables::add_channel(t, name, osc)),
-        Line::Shape(name) => with_tables(s, tables::add_shape(t, name)),
+        Line::Shape(name) => with_tables(s, tables::add_shape(t, name, splines)),
+        Line::Spline(name, degree, controls, knots) => {
+            with_tables(s, spline(t, name, degree, controls, knots, line, splines))
+        }
         Line::Command(_) => with_gathered(s, least(s.gathered, 1024) + 1),
         Line::Run => unless_too_many(s),
         Line::States => {
@@ -65,6 +76,53 @@ pub(crate) fn after(s: State, said: Line, line: &[u8], number: usize) -> State {
         Line::Rows(n, length) => with_rows(s, n, length),
         _ => s,
     }
+}
+
+// The numbers of a spline stand from word 5 on; a job has not as many bytes as 131,072 of them.
+fn spline(
+    t: Tables,
+    name: Name,
+    degree: u64,
+    controls: u64,
+    knots: u64,
+    line: &[u8],
+    splines: &mut [[f64; 72]],
+) -> Tabled {
+    let mut given = [0.0; 131072];
+    let many = least(numbers(line, 5, &mut given), 131072);
+    let first = fewer(controls, many);
+    let end = first + fewer(knots, many - first);
+    add(t, name, degree as usize, &given[..end], first, splines)
+}
+
+// The first `controls` of the numbers are controls, the others knots.
+fn add(
+    t: Tables,
+    name: Name,
+    degree: usize,
+    given: &[f64],
+    controls: usize,
+    splines: &mut [[f64; 72]],
+) -> Tabled
+    requires { ⌜ controls ≤ length (now given) ⌝ }
+{
+    tables::add_spline(
+        t,
+        name,
+        degree,
+        &given[..controls],
+        &given[controls..],
+        splines,
+    )
+}
+
+fn fewer(n: u64, most: usize) -> usize
+    ensures { λ r. ⌜ r ≤ most ⌝ }
+{
+    if n < most as u64 {
+        return n as usize;
+    }
+    most
 }
 
 fn renewed(s: State, made: Tabled) -> State {

@@ -40,6 +40,7 @@ pub(crate) fn tell(
     at: usize,
     end: usize,
     number: usize,
+    splines: &mut [[f64; 72]],
     factors: &mut [f64],
     i: &mut [f64],
     q: &mut [f64],
@@ -47,7 +48,7 @@ pub(crate) fn tell(
     requires { ⌜ (at ≤ end) × (end ≤ length (now text)) ⌝ }
     ensures { λ r. ⌜ Tells said (now (text .entry)) end (s .crosstalk) (now (factors .entry)) r (now (factors .exit)) ⌝ }
 {
-    let u = after(s, said, &text[at..end], number);
+    let u = after(s, said, &text[at..end], number, splines);
     take_factors(said, &text[at..end], factors);
     let past = end + 1;
     let behind = least(past, text.len());

@@ -27,7 +27,8 @@ use tables::Tables;
 pub(crate) fn each(text: &[u8]) {
     let mut commands = [idle(); 1024];
     let mut pulses = [no_pulse(); 8192];
-    let mut bins = [[0.0; 5]; 512];
+    let mut bins = [[0.0; 77]; 512];
+    let mut splines = [[0.0; 72]; 8];
     let mut i = [0.0; 65536];
     let mut q = [0.0; 65536];
     let mut scratch = [0.0; 65536];
@@ -44,13 +45,24 @@ pub(crate) fn each(text: &[u8]) {
         let slot = least(s.gathered, 1023);
         commands[slot] = kept(said, commands[slot]);
         let runs = is_run(said, s);
-        let told = tell(said, s, text, at, end, number, &mut factors, &mut i, &mut q);
+        let told = tell(
+            said,
+            s,
+            text,
+            at,
+            end,
+            number,
+            &mut splines,
+            &mut factors,
+            &mut i,
+            &mut q,
+        );
         s = told.state;
         number += told.lines;
         at = told.next;
         if runs {
             let t = s.tables;
-            let e = execute_owned(t, commands, s.gathered, &mut bins, pulses);
+            let e = execute_owned(t, &splines, commands, s.gathered, &mut bins, pulses);
             let tabled = e.tabled;
             pulses = e.pulses;
             s = ran(s, tabled);
@@ -84,7 +96,7 @@ fn sample_line(
     first: usize,
     second: usize,
     factors: &[f64],
-    bins: &[[f64; 5]],
+    bins: &[[f64; 77]],
     pulses: [Pulse; 8192],
     i: &mut [f64],
     q: &mut [f64],

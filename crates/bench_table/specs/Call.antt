@@ -11,13 +11,13 @@ use Rattle.quant.specs.declared.settings.Settings.{Settings}
 use Rattle.pulse.specs.declared.bin.Bin.{Bin}
 use Rattle.pulse.specs.declared.envelope.Shape.{Shape}
 use Rattle.pulse.specs.declared.list.Pulse.{Pulse}
-use Rattle.pulse.specs.Bin.{rowOf}
+use Rattle.pulse.specs.Bin.{noNumbers, rowOf}
 use Rattle.pulse.specs.Envelope.{envelopeOf}
 use Rattle.executor.specs.declared.osc.OscState.{OscState}
 use Rattle.tables.specs.declared.Tables.{Tables}
 use Rattle.tables.specs.Tables.{noName, atRest, fresh}
 use Rattle.crosstalk.specs.declared.names.Crosstalk.{Crosstalk}
-use Rattle.commands.specs.Step.{noPulse, noRow}
+use Rattle.commands.specs.Step.{noPulse, noHead}
 use Rattle.mixdown.specs.Sampled.{rowed}
 use Rattle.sampler.specs.declared.Request.{Request}
 use Rattle.sampler.specs.Sampler.{Left, sampled}
@@ -56,9 +56,9 @@ tablesWith tolerance osc pulses =
       named = 0;
     }
 
--- what is lent: the bin and the pulses stand first, and the rest is not read
+-- what is lent: the bin, no spline, and the pulses stand first, and the rest is not read
 abbrev pub binsLent : Bin → List (List Float)
-binsLent b = rowOf b ∷ replicate 511 noRow
+binsLent b = rowOf b noNumbers ∷ replicate 511 (noHead ++ noNumbers)
 
 abbrev pub pulsesLent : List Pulse → List Pulse
 pulsesLent ps = ps ++ replicate (8192 - length ps) noPulse
@@ -76,5 +76,5 @@ abbrev pub sampledOn : Float → Bin → List Pulse → ℤ → ℕ → Left
 sampledOn tolerance b ps level n =
     sampled (tablesWith tolerance atRest (length ps)) (request level) noCrosstalk [] (binsLent b) (pulsesLent ps)
     (rowed (replicate n (whole 0)) [] (replicate n (whole 0)))
-    (replicate 8192 noRow)
+    (replicate 8192 noHead)
     (replicate 8192 0)

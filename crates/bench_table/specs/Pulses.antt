@@ -16,6 +16,7 @@ use Rattle.shape.specs.Envelope.{envelopedOf}
 use Rattle.pulse.specs.declared.bin.Bin.{Bin}
 use Rattle.pulse.specs.declared.envelope.Shape.the-variants.{Plain, Hann}
 use Rattle.pulse.specs.declared.list.Pulse.{Pulse}
+use Rattle.pulse.specs.Bin.{noNumbers}
 use Rattle.placing.specs.declared.Judged.{Judged}
 use Rattle.placing.specs.declared.Judged.the-variants.{Plateau, Shaped, Refused}
 use Rattle.placing.specs.Judged.{placedAt, flatOf, judged}
@@ -49,13 +50,13 @@ numberMeasured (enveloped.Refused r) = numberOf r
 
 -- accepted (0), or refused with a number, by `judge` and by `sample`
 pub record Numbered (b : Bin) (p : Pulse) (level : ℤ) (length number : ℕ) : Type 0 where
-  pub judge : numberJudged (judged (clock level) b p length) ≡ number
+  pub judge : numberJudged (judged (clock level) b noNumbers p length) ≡ number
   pub sample : codeOf (sampledOn (whole 0) b (p ∷ []) level length .answer) ≡ number
 
 -- A pulse of one sample is accepted, and begins there with this offset; `sample` adds one pulse, and its row then holds 1 there and 0 elsewhere.
 pub record Starts (b : Bin) (p : Pulse) (level : ℤ) (length begin : ℕ) (offset : Float) : Type 0 where
   pub place : placedAt (clock level) p ≡ Start begin offset
-  pub judge : judged (clock level) b p length ≡ Plateau (flatOf (clock level) b p begin offset)
+  pub judge : judged (clock level) b noNumbers p length ≡ Plateau (flatOf (clock level) b p begin offset)
   pub sample : sampledOn (whole 0) b (p ∷ []) level length .answer ≡ Done 1
   pub row : sampledOn (whole 0) b (p ∷ []) level length .rows .i ≡ set (replicate length (whole 0)) begin (whole 1)
 
@@ -93,5 +94,5 @@ pub record Shaping : Type 0 where
 pub record Shapes (l : Shaping) : Type 0 where
   pub begin : ℕ
   pub place : placedAt (clock (l .level)) (pulseAt (l .time)) ≡ Start begin (l .offset)
-  pub measure : numberMeasured (envelopedOf (partedOf (l .width) (l .plateau) (l .offset) (whole 1) (whole 1) (l .length))) ≡ numberSaid (l .says)
+  pub measure : numberMeasured (envelopedOf Hann noNumbers (partedOf (l .width) (l .plateau) (l .offset) (whole 1) (whole 1) (l .length))) ≡ numberSaid (l .says)
   pub pulse : Numbered (binWith Hann (l .width) (l .plateau)) (pulseAt (l .time)) (l .level) (l .length) (numberSaid (l .says))

@@ -6,13 +6,14 @@ use mathlib.Core.Bool.{false}
 use mathlib.Core.List.{List, [], _∷_, map}
 use lib.IntN.{pos}
 use lib.Ieee.{Float, binary64}
-use lib.ListN.{length}
+use lib.ListN.{length, replicate}
 use Rattle.fma.specs.Fused.{fma}
 use Rattle.quant.specs.declared.complex.Complex.{Complex}
 use Rattle.quant.specs.declared.refusal.Answer.the-variants.{Done}
 use Rattle.iir.specs.Iir.{Iir}
 use Rattle.pulse.specs.declared.envelope.Shape.the-variants.{Plain}
 use Rattle.pulse.specs.declared.list.Pulse.{Pulse}
+use Rattle.pulse.specs.Bin.{noNumbers}
 use Rattle.merge.specs.Sum.{plusP, summed}
 use Rattle.executor.specs.declared.osc.OscState.{OscState}
 use Rattle.executor.specs.declared.osc.Moved.{Moved}
@@ -119,7 +120,7 @@ withOsc s = tablesWith (whole 0) s 0
 pub record Phased (s : OscState) (l : Turned) : Type 0 where
   pub accepted : turned s (l .turn) (l .at) .refused ≡ false
   pub phase-is : turned s (l .turn) (l .at) .osc .phase .0 ≡ l .phase
-  pub execute : executed (withOsc s) (arranged l ∷ []) (binsLent (binWith Plain (whole 0) (whole 0))) (pulsesLent []) .result ≡ doneAt (withOsc (turned s (l .turn) (l .at) .osc)) 1
+  pub execute : executed (withOsc s) (replicate 8 noNumbers) (arranged l ∷ []) (binsLent (binWith Plain (whole 0) (whole 0))) (pulsesLent []) .result ≡ doneAt (withOsc (turned s (l .turn) (l .at) .osc)) 1
 
 -- each from where the one before it left the oscillator
 abbrev pub Follow : OscState → List Turned → Type 0

@@ -9,7 +9,7 @@ use quant::refusal::number;
 use tables::Channel;
 
 // A call's answer, and for `x` and `X` all that it leaves.
-pub(crate) fn show(letter: u8, e: Executed, bins: &[[f64; 5]], out: i32) {
+pub(crate) fn show(letter: u8, e: Executed, bins: &[[f64; 77]], out: i32) {
     let tabled = e.tabled;
     let pulses = e.pulses;
     let answer = tabled.answer;
@@ -70,7 +70,7 @@ fn show_channel(c: Channel, out: i32) {
     io::write_all(out, b"\n");
 }
 
-fn show_bins(bins: &[[f64; 5]], from: usize, count: usize, out: i32)
+fn show_bins(bins: &[[f64; 77]], from: usize, count: usize, out: i32)
     requires { ⌜ (from ≤ 512) × (count ≤ 64) ⌝ }
 {
     let mut i: usize = 0;
@@ -84,7 +84,7 @@ fn show_bins(bins: &[[f64; 5]], from: usize, count: usize, out: i32)
     }
 }
 
-fn show_bin(row: [f64; 5], out: i32) {
+fn show_bin(row: [f64; 77], out: i32) {
     io::write_all(out, b"b");
     print_float(row[0], out);
     print_float(row[1], out);

@@ -43,12 +43,12 @@ fn fresh(tables: Tables) -> State {
 }
 
 // What a line does to the state, but for a call.
-pub(crate) fn after(s: State, said: Line, out: i32) -> State {
+pub(crate) fn after(s: State, said: Line, splines: &mut [[f64; 72]], out: i32) -> State {
     let t = s.tables;
     match said {
         Line::Tables(amp, time, oversize) => fresh(told(tables::make(amp, time, oversize), out)),
         Line::Channel(name, osc) => with_tables(s, told(tables::add_channel(t, name, osc), out)),
-        Line::Shape(name) => with_tables(s, told(tables::add_shape(t, name), out)),
+        Line::Shape(name) => with_tables(s, told(tables::add_shape(t, name, splines), out)),
         Line::Command(_) => with_count(s, least(s.count, 1023) + 1),
         Line::Named(name) => with_name(s, name),
         Line::Factor(x) => with_factor(s, x),

@@ -37,7 +37,8 @@ pub fn walk(text: &[u8], out: i32) -> usize
 {
     let mut commands = [arranged_of(b'b', b""); 1024];
     let mut pulses = [no_pulse(); 8192];
-    let mut bins = [[0.0; 5]; 512];
+    let mut bins = [[0.0; 77]; 512];
+    let mut splines = [[0.0; 72]; 8];
     let mut s = start();
     let mut lines: usize = 0;
     let mut at: usize = 0;
@@ -48,10 +49,10 @@ pub fn walk(text: &[u8], out: i32) -> usize
         lines += 1;
         let slot = least(s.count, 1023);
         commands[slot] = kept(said, commands[slot]);
-        s = after(s, said, out);
+        s = after(s, said, &mut splines, out);
         let letter = letter_of(said);
         if letter != b'?' {
-            let e = called(s, said, letter, commands, &mut bins, pulses, out);
+            let e = called(s, said, letter, &splines, commands, &mut bins, pulses, out);
             pulses = e.pulses;
             s = ran(s, letter, e.tabled);
         }
@@ -65,8 +66,9 @@ fn called(
     s: State,
     said: Line,
     letter: u8,
+    splines: &[[f64; 72]],
     commands: [Arranged; 1024],
-    bins: &mut [[f64; 5]],
+    bins: &mut [[f64; 77]],
     pulses: [Pulse; 8192],
     out: i32,
 ) -> Executed {
@@ -76,7 +78,7 @@ fn called(
         return unchanged(t, pulses);
     }
     let n = rows_of(letter, bins.len());
-    let e = execute_owned(t, commands, s.count, &mut bins[..n], pulses);
+    let e = execute_owned(t, splines, commands, s.count, &mut bins[..n], pulses);
     show(letter, e, bins, out);
     e
 }
@@ -95,7 +97,7 @@ fn unchanged(tables: Tables, pulses: [Pulse; 8192]) -> Executed {
     Executed { tabled, pulses }
 }
 
-fn sampled(s: State, ask: Ask, bins: &[[f64; 5]], pulses: [Pulse; 8192], out: i32) {
+fn sampled(s: State, ask: Ask, bins: &[[f64; 77]], pulses: [Pulse; 8192], out: i32) {
     let t = s.tables;
     let r = ask.request;
     let c = s.cross;
@@ -134,7 +136,7 @@ fn on_rows(
     c: Crosstalk,
     factors: &[f64],
     nf: usize,
-    bins: &[[f64; 5]],
+    bins: &[[f64; 77]],
     pulses: [Pulse; 8192],
     i: &mut [f64],
     ni: usize,

@@ -22,19 +22,19 @@ use Rattle.commands.specs.Step.{stops, goesOn, binsAfter, pulsesAfter, t
 use Rattle.commands.specs.Play.{played}
 
 -- a command that meets neither 2 nor 4
-unfoldable pub acted : Tables → List (List Float) → Float → Float → Command → Step
-acted t bins start span (C.Play p) = played t bins start span p
-acted t bins start span (C.ShiftPhase n x) = turnedAt t (found t n) (C.ShiftPhase n x) start
-acted t bins start span (C.SetPhase n x) = turnedAt t (found t n) (C.SetPhase n x) start
-acted t bins start span (C.ShiftFreq n x) = turnedAt t (found t n) (C.ShiftFreq n x) start
-acted t bins start span (C.SetFreq n x) = turnedAt t (found t n) (C.SetFreq n x) start
-acted t bins start span (C.SwapPhase n m) = swappedBetween t n m start
-acted t bins start span C.Barrier = goesOn t
+unfoldable pub acted : Tables → List (List Float) → List (List Float) → Float → Float → Command → Step
+acted t splines bins start span (C.Play p) = played t splines bins start span p
+acted t splines bins start span (C.ShiftPhase n x) = turnedAt t (found t n) (C.ShiftPhase n x) start
+acted t splines bins start span (C.SetPhase n x) = turnedAt t (found t n) (C.SetPhase n x) start
+acted t splines bins start span (C.ShiftFreq n x) = turnedAt t (found t n) (C.ShiftFreq n x) start
+acted t splines bins start span (C.SetFreq n x) = turnedAt t (found t n) (C.SetFreq n x) start
+acted t splines bins start span (C.SwapPhase n m) = swappedBetween t n m start
+acted t splines bins start span C.Barrier = goesOn t
 
 -- one command
-abbrev pub stepOf : Tables → List (List Float) → Arranged → Step
-stepOf t bins a =
-    cond (wellFormed a) (cond (tooLong t a) (stops t Oversize) (acted t bins (a .start .0) (a .span .0) (a .command))) (stops t Malformed)
+abbrev pub stepOf : Tables → List (List Float) → List (List Float) → Arranged → Step
+stepOf t splines bins a =
+    cond (wellFormed a) (cond (tooLong t a) (stops t Oversize) (acted t splines bins (a .start .0) (a .span .0) (a .command))) (stops t Malformed)
 
 -- ---- a list of commands
 
@@ -54,16 +54,18 @@ abbrev pub refusedAt : Tables → Refusal → ℕ → Tabled
 refusedAt t r k = record { answer = Refused r k; tables = t }
 
 -- commands in turn, of which k have run, up to the first that is refused
-unfoldable pub ran : ℕ → Tables → List Arranged → List (List Float) → List Pulse → Ran
-ran k t [] bins pulses = ranTo (doneAt t k) bins pulses
-ran k t (a ∷ more) bins pulses =
-    let s = stepOf t bins a in
-    cond (s .stop) (ranTo (refusedAt t (s .why) k) bins pulses) (ran (suc k) (s .tables) more (binsAfter s bins) (pulsesAfter s pulses))
+unfoldable pub ran : ℕ → Tables → List (List Float) → List Arranged → List (List Float) → List Pulse → Ran
+ran k t splines [] bins pulses = ranTo (doneAt t k) bins pulses
+ran k t splines (a ∷ more) bins pulses =
+    let s = stepOf t splines bins a in
+    cond (s .stop) (ranTo (refusedAt t (s .why) k) bins pulses) (ran (suc k) (s .tables) splines more (binsAfter s splines bins) (pulsesAfter s pulses))
 
--- 64 bins and 1,024 pulses for each of 8 channels
-abbrev pub sizesFit : ℕ → ℕ → ℕ → Bool
-sizesFit commands bins pulses = leb commands 1024 && eqb bins 512 && eqb pulses 8192
+-- 64 bins and 1,024 pulses for each of 8 channels, and a row for each of 8 shapes
+abbrev pub sizesFit : ℕ → ℕ → ℕ → ℕ → Bool
+sizesFit commands splines bins pulses = leb commands 1024 && eqb splines 8 && eqb bins 512 && eqb pulses 8192
 
-abbrev pub executed : Tables → List Arranged → List (List Float) → List Pulse → Ran
-executed t commands bins pulses =
-    cond (sizesFit (length commands) (length bins) (length pulses)) (ran 0 t commands bins pulses) (ranTo (refusedAt t WrongSize 0) bins pulses)
+abbrev pub executed : Tables → List (List Float) → List Arranged → List (List Float) → List Pulse → Ran
+executed t splines commands bins pulses =
+    cond (sizesFit (length commands) (length splines) (length bins) (length pulses))
+    (ran 0 t splines commands bins pulses)
+    (ranTo (refusedAt t WrongSize 0) bins pulses)

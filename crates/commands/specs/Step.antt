@@ -2,9 +2,9 @@
 -- "Oscillators": what each command does to its channel. Definitions only.
 use Prim.Native.Nat.{ℕ}
 use mathlib.Core.Bool.{Bool, true, false, cond}
-use mathlib.Core.List.{List}
+use mathlib.Core.List.{List, _++_}
 use lib.Ieee.{Float}
-use lib.ListN.{replicate, set}
+use lib.ListN.{getD, replicate, set}
 use Rattle.exact.specs.Doubles.{nought}
 use Rattle.naming.specs.declared.Name.{Name}
 use Rattle.quant.specs.declared.refusal.Refusal.{Refusal}
@@ -16,6 +16,7 @@ use Rattle.executor.specs.declared.osc.Swapped.{Swapped}
 use Rattle.executor.specs.Osc.{shiftedPhase, setPhaseTo, shiftedFreq, setFreqTo, swappedPhases}
 use Rattle.pulse.specs.declared.list.Pulse.{Pulse}
 use Rattle.pulse.specs.List.{stored}
+use Rattle.pulse.specs.Bin.{noNumbers}
 use Rattle.tables.specs.declared.Tables.{Tables}
 use Rattle.tables.specs.declared.Found.{Found}
 use Rattle.tables.specs.declared.Found.the-variants.{At, Nowhere}
@@ -24,26 +25,34 @@ use Rattle.commands.specs.declared.command.Command.{Command}
 use Rattle.commands.specs.declared.command.Command.the-variants as C
 use Rattle.commands.specs.declared.step.Step.{Step}
 
--- no pulse, and no row of a bin
+-- no pulse, and no head of a bin
 abbrev pub noPulse : Pulse
 noPulse = record { bin = 0; time = record { 0 = nought }; amp = record { re = nought; im = nought }; drag = record { re = nought; im = nought } }
 
-abbrev pub noRow : List Float
-noRow = replicate 5 nought
+abbrev pub noHead : List Float
+noHead = replicate 5 nought
+
+-- behind the eight names: the place of no spline
+abbrev pub noSpline : ℕ
+noSpline = 8
+
+-- the numbers at a place of the shapes' rows
+abbrev pub numbersAt : List (List Float) → ℕ → List Float
+numbersAt splines k = getD splines k noNumbers
 
 -- refused: the tables as they came
 abbrev pub stops : Tables → Refusal → Step
 stops t r =
-    record { stop = true; why = r; put = false; from = 0; count = 0; pulse = noPulse; opens = false; at = 0; row = noRow; tables = t }
+    record { stop = true; why = r; put = false; from = 0; count = 0; pulse = noPulse; opens = false; at = 0; head = noHead; spline = noSpline; tables = t }
 
 -- accepted, with nothing to store
 abbrev pub goesOn : Tables → Step
 goesOn t =
-    record { stop = false; why = Unfit; put = false; from = 0; count = 0; pulse = noPulse; opens = false; at = 0; row = noRow; tables = t }
+    record { stop = false; why = Unfit; put = false; from = 0; count = 0; pulse = noPulse; opens = false; at = 0; head = noHead; spline = noSpline; tables = t }
 
 -- the bins and the pulses afterwards
-abbrev pub binsAfter : Step → List (List Float) → List (List Float)
-binsAfter s bins = cond (s .opens) (set bins (s .at) (s .row)) bins
+abbrev pub binsAfter : Step → List (List Float) → List (List Float) → List (List Float)
+binsAfter s splines bins = cond (s .opens) (set bins (s .at) (s .head ++ numbersAt splines (s .spline))) bins
 
 abbrev pub pulsesAfter : Step → List Pulse → List Pulse
 pulsesAfter s pulses = cond (s .put) (stored (s .from) (s .count) (s .pulse) pulses) pulses

@@ -13,23 +13,25 @@ use quant::refusal::Refusal;
 use tables::Tabled;
 use tables::Tables;
 
-// Bins are 64 rows a channel and pulses 1,024 records a channel; other sizes, or over 1,024 commands, are refusal 13.
+// Bins are 64 rows a channel, pulses 1,024 records a channel, and eight rows have the numbers of the shapes; other sizes, or over 1,024 commands, are
+// refusal 13.
 pub fn execute(
     t: Tables,
+    splines: &[[f64; 72]],
     commands: &[Arranged],
-    bins: &mut [[f64; 5]],
+    bins: &mut [[f64; 77]],
     pulses: &mut [Pulse],
 ) -> Tabled
-    ensures { λ r. ⌜ ranTo r (now (bins .exit)) (now (pulses .exit)) ≡ executed t (now (commands .entry)) (now (bins .entry)) (now (pulses .entry)) ⌝ }
+    ensures { λ r. ⌜ ranTo r (now (bins .exit)) (now (pulses .exit)) ≡ executed t (now (splines .entry)) (now (commands .entry)) (now (bins .entry)) (now (pulses .entry)) ⌝ }
 {
-    if !sizes_fit(commands.len(), bins.len(), pulses.len()) {
+    if !sizes_fit(commands.len(), splines.len(), bins.len(), pulses.len()) {
         return misfit(t);
     }
     let mut u = t;
     let mut k: usize = 0;
     while k < commands.len() {
         let c = commands[k];
-        let s = act(u, bins, c);
+        let s = act(u, splines, bins, c);
         if s.stop {
             return refused(u, s.why, k);
         }
@@ -42,10 +44,11 @@ pub fn execute(
     done(u, k)
 }
 
-pub(crate) fn sizes_fit(commands: usize, bins: usize, pulses: usize) -> bool
-    ensures { λ r. ⌜ r ≡ sizesFit commands bins pulses ⌝ }
+pub(crate) fn sizes_fit(commands: usize, splines: usize, bins: usize, pulses: usize) -> bool
+    ensures { λ r. ⌜ r ≡ sizesFit commands splines bins pulses ⌝ }
 {
-    both(both(commands <= 1024, bins == 512), pulses == 8192)
+    let tables = both(both(commands <= 1024, splines == 8), bins == 512);
+    both(tables, pulses == 8192)
 }
 
 // The three ways to end.

@@ -21,7 +21,7 @@ use tables::find;
 use tables::with_channel;
 
 // `stop`: refused, by `why`. `put`: a pulse is to be stored behind the first `count` records from `from` on. `opens`: its bin is new, and
-// its row goes to the place `at`. The tables are those afterwards.
+// its row, the head with the numbers at the place `spline` behind it, goes to the place `at`. The tables are those afterwards.
 pub struct Step {
     pub stop: bool,
     pub why: Refusal,
@@ -31,7 +31,8 @@ pub struct Step {
     pub pulse: Pulse,
     pub opens: bool,
     pub at: usize,
-    pub row: [f64; 5],
+    pub head: [f64; 5],
+    pub spline: usize,
     pub tables: Tables,
 }
 
@@ -39,7 +40,7 @@ pub(crate) fn stops(t: Tables, why: Refusal) -> Step
     ensures { λ r. ⌜ r ≡ stops t why ⌝ }
 {
     let pulse = no_pulse();
-    let row = [0.0; 5];
+    let head = [0.0; 5];
     Step {
         stop: true,
         why,
@@ -49,7 +50,8 @@ pub(crate) fn stops(t: Tables, why: Refusal) -> Step
         pulse,
         opens: false,
         at: 0,
-        row,
+        head,
+        spline: 8,
         tables: t,
     }
 }
@@ -58,7 +60,7 @@ pub(crate) fn goes_on(t: Tables) -> Step
     ensures { λ r. ⌜ r ≡ goesOn t ⌝ }
 {
     let pulse = no_pulse();
-    let row = [0.0; 5];
+    let head = [0.0; 5];
     Step {
         stop: false,
         why: Refusal::Unfit,
@@ -68,7 +70,8 @@ pub(crate) fn goes_on(t: Tables) -> Step
         pulse,
         opens: false,
         at: 0,
-        row,
+        head,
+        spline: 8,
         tables: t,
     }
 }

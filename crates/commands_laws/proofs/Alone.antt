@@ -28,7 +28,7 @@ use Rattle.commands.specs.declared.command.Command.{Command}
 use Rattle.commands.specs.declared.command.Command.the-variants as C
 use Rattle.commands.specs.declared.command.Arranged.{Arranged}
 use Rattle.commands.specs.declared.step.Step.{Step}
-use Rattle.commands.specs.Step.{binsAfter, pulsesAfter, withOsc}
+use Rattle.commands.specs.Step.{numbersAt, binsAfter, pulsesAfter, withOsc}
 use Rattle.commands.specs.Play.{rowsOf, grown, pulseAt, stores}
 use Rattle.commands.specs.Run.{Ran, ranTo, refusedAt, stepOf, ran, executed}
 use Rattle.commands_laws.specs.Sound.{listOf, Sound}
@@ -57,9 +57,9 @@ put-facts t bins c i _ (Cases.refuses r) e f = absurd (true≢false (sym f))
 put-facts t bins c i _ Cases.goes e f = absurd (true≢false (sym f))
 put-facts t bins c i _ (Cases.turns j o there) e f = absurd (true≢false (sym f))
 put-facts t bins c i _ (Cases.swaps j k o q swap) e f = absurd (true≢false (sym f))
-put-facts t bins c i _ (Cases.puts j place new time w row there known most old room last few) e f =
+put-facts t bins c i _ (Cases.puts j place new time w head spline there known most old room last few) e f =
     let is = at-inj (sym there ∙ e) in
-    subst (λ (k : ℕ). PutFacts t bins k (stores t j place new time w row)) is (record { most = most; room = room; last = last; few = few })
+    subst (λ (k : ℕ). PutFacts t bins k (stores t j place new time w head spline)) is (record { most = most; room = room; last = last; few = few })
 
 -- ---- one channel after its own step
 
@@ -76,7 +76,10 @@ module _ (n : Name) (i : ℕ) (t : Tables) (bins : List (List Float)) (pulses : 
   zone-long : length zone ≡ 64
   zone-long = rw (length-take 64 (drop (64 * i) bins), length-drop (64 * i) bins) (omega (arith, under, h .rows))
 
-  module _ (place : ℕ) (new : Bool) (time : Float) (w : Weight) (row : List Float) (facts : PutFacts t bins i (stores t i place new time w row)) where
+  module _ (splines : List (List Float)) (place : ℕ) (new : Bool) (time : Float) (w : Weight) (head : List Float) (spline : ℕ) (facts : PutFacts t bins i (stores t i place new time w head spline)) where
+    abbrev row : List Float
+    row = head ++ numbersAt splines spline
+
     abbrev c : Channel
     c = channelAt t i
 
@@ -99,9 +102,9 @@ module _ (n : Name) (i : ℕ) (t : Tables) (bins : List (List Float)) (pulses : 
 
 -- ---- two channels that look the same, after the same step
 
-module _ (n : Name) (i : ℕ) (t u : Tables) (bins rows : List (List Float)) (pulses records : List Pulse) (h : Sound t bins pulses) (k : Sound u rows records) (s : SameTo n i t u bins rows pulses records) where
-  view-same : viewOf t bins i ≡ viewOf u rows i
-  view-same = λ x. record { amp = s .amp x; time = s .time x; oversize = s .oversize x; shapes = s .shapes x; channel = s .channel x; rows = s .its-rows x }
+module _ (n : Name) (i : ℕ) (t u : Tables) (splines bins rows : List (List Float)) (pulses records : List Pulse) (h : Sound t bins pulses) (k : Sound u rows records) (s : SameTo n i t u bins rows pulses records) where
+  view-same : viewOf t splines bins i ≡ viewOf u splines rows i
+  view-same = λ x. record { amp = s .amp x; time = s .time x; oversize = s .oversize x; shapes = s .shapes x; splines = splines; channel = s .channel x; rows = s .its-rows x }
 
   -- with the same new record in both
   with-same : (c d : Channel) → c ≡ d → c .name ≡ channelAt t i .name → d .name ≡ channelAt u i .name → (a b : List (List Float)) (p q : List Pulse)
@@ -121,7 +124,7 @@ module _ (n : Name) (i : ℕ) (t u : Tables) (bins rows : List (List Float)) (pu
       }
 
   abbrev After : Step → Step → Type 0
-  After x y = SameTo n i (x .tables) (y .tables) (binsAfter x bins) (binsAfter y rows) (pulsesAfter x pulses) (pulsesAfter y records)
+  After x y = SameTo n i (x .tables) (y .tables) (binsAfter x splines bins) (binsAfter y splines rows) (pulsesAfter x pulses) (pulsesAfter y records)
 
   turned : (o : OscState) → SameTo n i (withOsc t i o) (withOsc u i o) bins rows pulses records
   turned o =
@@ -134,24 +137,26 @@ module _ (n : Name) (i : ℕ) (t u : Tables) (bins rows : List (List Float)) (pu
       (rw (ap (λ (x : Channel). x .bins) at, ap (λ (x : Channel). x .bins) there) (s .its-rows))
       (rw (ap (λ (x : Channel). x .pulses) at, ap (λ (x : Channel). x .pulses) there) (s .its-list))
 
-  module _ (place : ℕ) (new : Bool) (time : Float) (w : Weight) (row : List Float) (f : PutFacts t bins i (stores t i place new time w row)) (g : PutFacts u rows i (stores u i place new time w row)) where
-    put-same : After (stores t i place new time w row) (stores u i place new time w row)
+  module _ (place : ℕ) (new : Bool) (time : Float) (w : Weight) (head : List Float) (spline : ℕ) (f : PutFacts t bins i (stores t i place new time w head spline))
+      (g : PutFacts u rows i (stores u i place new time w head spline)) where
+    put-same : After (stores t i place new time w head spline) (stores u i place new time w head spline)
     put-same =
         let p = pulseAt place time w in
-        let its = after n i t bins pulses h (s .here) place new time w row f new refl in
-        let theirs = after n i u rows records k (s .there) place new time w row g new refl in
+        let row = head ++ numbersAt splines spline in
+        let its = after n i t bins pulses h (s .here) splines place new time w head spline f new refl in
+        let theirs = after n i u rows records k (s .there) splines place new time w head spline g new refl in
         with-same (grown (channelAt t i) new) (grown (channelAt u i) new) (ap (λ (x : Channel). grown x new) (s .channel)) refl refl
         (cond new (set bins (64 * i + place) row) bins) (cond new (set rows (64 * i + place) row) rows)
         (stored (1024 * i) (channelAt t i .pulses) p pulses) (stored (1024 * i) (channelAt u i .pulses) p records)
         (its ∙ ap (λ (l : List (List Float)). cond new (l ++ row ∷ []) l) (s .its-rows) ∙ sym theirs)
-        (list-after n i t bins pulses h (s .here) place new time w row f ∙ ap (placed p) (s .its-list) ∙ sym (list-after n i u rows records k (s .there) place new time w row g))
+        (list-after n i t bins pulses h (s .here) splines place new time w head spline f ∙ ap (placed p) (s .its-list) ∙ sym (list-after n i u rows records k (s .there) splines place new time w head spline g))
 
   realized : (x : Own) → (realize t i x .put ≡ true → PutFacts t bins i (realize t i x)) → (realize u i x .put ≡ true → PutFacts u rows i (realize u i x))
       → realize t i x .stop ≡ false → After (realize t i x) (realize u i x)
   realized (refuses r) f g e = absurd (true≢false e)
   realized same f g e = s
   realized (turns o) f g e = turned o
-  realized (puts place new time w row) f g e = put-same place new time w row (f refl) (g refl)
+  realized (puts place new time w head spline) f g e = put-same place new time w head spline (f refl) (g refl)
 
   -- both stop, or both go on
   record Alongside (x y : Step) : Type 0 where
@@ -162,7 +167,7 @@ module _ (n : Name) (i : ℕ) (t u : Tables) (bins rows : List (List Float)) (pu
   stops-alike (refuses r) = refl
   stops-alike same = refl
   stops-alike (turns o) = refl
-  stops-alike (puts place new time w row) = refl
+  stops-alike (puts place new time w head spline) = refl
 
   alongside : (x : Own) (p q : Step) → p ≡ realize t i x → q ≡ realize u i x → (p .put ≡ true → PutFacts t bins i p) → (q .put ≡ true → PutFacts u rows i q) → Alongside p q
   alongside x p q e f facts theirs =
@@ -171,15 +176,15 @@ module _ (n : Name) (i : ℕ) (t u : Tables) (bins rows : List (List Float)) (pu
       let both : Alongside (realize t i x) (realize u i x) = record { stop = stops-alike x; goes-on = realized x at-t at-u } in
       subst (λ (z : Step). Alongside z q) (sym e) (subst (λ (z : Step). Alongside (realize t i x) z) (sym f) both)
 
-  own-alike : (a : Arranged) → isSwap (a .command) ≡ false → named (a .command) ≡ n → Alongside (stepOf t bins a) (stepOf u rows a)
+  own-alike : (a : Arranged) → isSwap (a .command) ≡ false → named (a .command) ≡ n → Alongside (stepOf t splines bins a) (stepOf u splines rows a)
   own-alike a single is =
       let at-t : found t (named (a .command)) ≡ At i = ap (found t) is ∙ s .here in
       let at-u : found u (named (a .command)) ≡ At i = ap (found u) is ∙ s .there in
-      let x = own (viewOf t bins i) a in
-      let theirs : own (viewOf u rows i) a ≡ x = ap (λ (v : View). own v a) (sym view-same) in
-      alongside x (stepOf t bins a) (stepOf u rows a) (own-step t bins i a single at-t) (own-step u rows i a single at-u ∙ ap (realize u i) theirs)
-      (put-facts t bins (a .command) i (stepOf t bins a) (step-kind t bins a) at-t)
-      (put-facts u rows (a .command) i (stepOf u rows a) (step-kind u rows a) at-u)
+      let x = own (viewOf t splines bins i) a in
+      let theirs : own (viewOf u splines rows i) a ≡ x = ap (λ (v : View). own v a) (sym view-same) in
+      alongside x (stepOf t splines bins a) (stepOf u splines rows a) (own-step t splines bins i a single at-t) (own-step u splines rows i a single at-u ∙ ap (realize u i) theirs)
+      (put-facts t bins (a .command) i (stepOf t splines bins a) (step-kind t splines bins a) at-t)
+      (put-facts u rows (a .command) i (stepOf u splines rows a) (step-kind u splines rows a) at-u)
 
 -- ---- a list of commands
 
@@ -218,28 +223,28 @@ pub record EndAlike (n : Name) (i : ℕ) (r q : Ran) : Type 0 where
   pub same : SameTo n i (r .result .tables) (q .result .tables) (r .bins) (q .bins) (r .pulses) (q .pulses)
 
 module _ (n : Name) (good : isName n ≡ true) (i : ℕ) where
-  alone : (j k : ℕ) (t u : Tables) (commands : List Arranged) (bins rows : List (List Float)) (pulses records : List Pulse)
+  alone : (j k : ℕ) (t u : Tables) (splines : List (List Float)) (commands : List Arranged) (bins rows : List (List Float)) (pulses records : List Pulse)
       → Sound t bins pulses → Sound u rows records → SameTo n i t u bins rows pulses records → noSwaps commands ≡ true
-      → isDone (ran j t commands bins pulses .result .answer) ≡ true
-      → EndAlike n i (ran j t commands bins pulses) (ran k u (onlyFor n commands) rows records)
+      → isDone (ran j t splines commands bins pulses .result .answer) ≡ true
+      → EndAlike n i (ran j t splines commands bins pulses) (ran k u splines (onlyFor n commands) rows records)
   unfolding ran onlyFor noSwaps isDone
-  alone j k t u [] bins rows pulses records h g s free done = record { done = refl; same = s }
-  alone j k t u (a ∷ more) bins rows pulses records h g s free done =
+  alone j k t u splines [] bins rows pulses records h g s free done = record { done = refl; same = s }
+  alone j k t u splines (a ∷ more) bins rows pulses records h g s free done =
       by-name (isFor n (a .command)) refl
-      (alone (suc j) k (p .tables) u more (binsAfter p bins) rows (pulsesAfter p pulses) records (step-sound t bins pulses h a) g)
-      (alone (suc j) (suc k) (p .tables) (q .tables) more (binsAfter p bins) (binsAfter q rows) (pulsesAfter p pulses) (pulsesAfter q records) (step-sound t bins pulses h a) (step-sound u rows records g a))
+      (alone (suc j) k (p .tables) u splines more (binsAfter p splines bins) rows (pulsesAfter p pulses) records (step-sound t bins pulses h splines a) g)
+      (alone (suc j) (suc k) (p .tables) (q .tables) splines more (binsAfter p splines bins) (binsAfter q splines rows) (pulsesAfter p pulses) (pulsesAfter q records) (step-sound t bins pulses h splines a) (step-sound u rows records g splines a))
     where
       p : Step
-      p = stepOf t bins a
+      p = stepOf t splines bins a
 
       q : Step
-      q = stepOf u rows a
+      q = stepOf u splines rows a
 
       later : Ran
-      later = ran (suc j) (p .tables) more (binsAfter p bins) (pulsesAfter p pulses)
+      later = ran (suc j) (p .tables) splines more (binsAfter p splines bins) (pulsesAfter p pulses)
 
       theirs : Ran
-      theirs = ran (suc k) (q .tables) (onlyFor n more) (binsAfter q rows) (pulsesAfter q records)
+      theirs = ran (suc k) (q .tables) splines (onlyFor n more) (binsAfter q splines rows) (pulsesAfter q records)
 
       parts : (not (isSwap (a .command)) ≡ true) × (noSwaps more ≡ true)
       parts = both (not (isSwap (a .command))) (noSwaps more) free
@@ -259,16 +264,16 @@ module _ (n : Name) (good : isName n ≡ true) (i : ℕ) where
       done' = rw goes-on at done
 
       by-name : (b : Bool) → isFor n (a .command) ≡ b
-          → (SameTo n i (p .tables) u (binsAfter p bins) rows (pulsesAfter p pulses) records → noSwaps more ≡ true → isDone (later .result .answer) ≡ true
-          → EndAlike n i later (ran k u (onlyFor n more) rows records))
-          → (SameTo n i (p .tables) (q .tables) (binsAfter p bins) (binsAfter q rows) (pulsesAfter p pulses) (pulsesAfter q records) → noSwaps more ≡ true
+          → (SameTo n i (p .tables) u (binsAfter p splines bins) rows (pulsesAfter p pulses) records → noSwaps more ≡ true → isDone (later .result .answer) ≡ true
+          → EndAlike n i later (ran k u splines (onlyFor n more) rows records))
+          → (SameTo n i (p .tables) (q .tables) (binsAfter p splines bins) (binsAfter q splines rows) (pulsesAfter p pulses) (pulsesAfter q records) → noSwaps more ≡ true
           → isDone (later .result .answer) ≡ true → EndAlike n i later theirs)
-          → EndAlike n i (cond (p .stop) (ranTo (refusedAt t (p .why) j) bins pulses) later) (ran k u (cond b (a ∷ onlyFor n more) (onlyFor n more)) rows records)
+          → EndAlike n i (cond (p .stop) (ranTo (refusedAt t (p .why) j) bins pulses) later) (ran k u splines (cond b (a ∷ onlyFor n more) (onlyFor n more)) rows records)
       by-name false e other own' =
-          let left = unmoved n i t bins pulses h (s .here) (a .command) p single (not-for n good (a .command) single e) (step-kind t bins a) goes-on in
-          rw goes-on (other (same-then n i (p .tables) t u (binsAfter p bins) bins rows (pulsesAfter p pulses) pulses records left s) (parts .1) done')
+          let left = unmoved n i t bins pulses h (s .here) splines (a .command) p single (not-for n good (a .command) single e) (step-kind t splines bins a) goes-on in
+          rw goes-on (other (same-then n i (p .tables) t u (binsAfter p splines bins) bins rows (pulsesAfter p pulses) pulses records left s) (parts .1) done')
       by-name true e other own' =
-          let both = own-alike n i t u bins rows pulses records h g s a single (is-for n (a .command) single e) in
+          let both = own-alike n i t u splines bins rows pulses records h g s a single (is-for n (a .command) single e) in
           let stop' : q .stop ≡ false = both .stop ∙ goes-on in
           rw (goes-on, stop') (own' (both .goes-on goes-on) (parts .1) done')
 
@@ -283,13 +288,13 @@ few-for n (a ∷ more) = go (isFor n (a .command)) (few-for n more)
     go true h = omega arith
     go false h = omega arith
 
--- Where a call without swaps is done, a call with only the commands for the channel n is done too, and the channel's state and counts, its
--- bins' rows and its records are the same after both.
-pub channels-apart : (n : Name) (i : ℕ) (t : Tables) (commands : List Arranged) (bins : List (List Float)) (pulses : List Pulse) → isName n ≡ true
-    → found t n ≡ At i → Sound t bins pulses → length commands ≤ 1024 → noSwaps commands ≡ true → isDone (executed t commands bins pulses .result .answer) ≡ true
-    → EndAlike n i (executed t commands bins pulses) (executed t (onlyFor n commands) bins pulses)
-channels-apart n i t commands bins pulses good here h few free done =
-    let whole = fits commands bins pulses t few (h .rows) (h .records) in
+-- Where a call without swaps is done, a call with only the commands for the channel n and the same shapes' rows is done too, and the channel's
+-- state and counts, its bins' rows and its records are the same after both.
+pub channels-apart : (n : Name) (i : ℕ) (t : Tables) (splines : List (List Float)) (commands : List Arranged) (bins : List (List Float)) (pulses : List Pulse) → isName n ≡ true
+    → found t n ≡ At i → Sound t bins pulses → length splines ≡ 8 → length commands ≤ 1024 → noSwaps commands ≡ true → isDone (executed t splines commands bins pulses .result .answer) ≡ true
+    → EndAlike n i (executed t splines commands bins pulses) (executed t splines (onlyFor n commands) bins pulses)
+channels-apart n i t splines commands bins pulses good here h shapes few free done =
+    let whole = fits splines commands bins pulses t few shapes (h .rows) (h .records) in
     let less = few-for n commands in
-    rw (whole, fits (onlyFor n commands) bins pulses t (omega arith) (h .rows) (h .records))
-    (alone n good i 0 0 t t commands bins bins pulses pulses h h (same-to n i t bins pulses here) free (rw whole at done))
+    rw (whole, fits splines (onlyFor n commands) bins pulses t (omega arith) shapes (h .rows) (h .records))
+    (alone n good i 0 0 t t splines commands bins bins pulses pulses h h (same-to n i t bins pulses here) free (rw whole at done))

@@ -4,7 +4,7 @@ use Prim.Native.Nat.{ℕ, zero, suc, _+_, _-_, _*_, _≤_, _<_}
 use native.Mathlib.Omega.{arith}
 use mathlib.Core.Path.{_≡_, refl, sym, ap, _∙_}
 use mathlib.Core.Bool.{Bool, true, false, cond, true≢false}
-use mathlib.Core.List.{List, [], _∷_, map}
+use mathlib.Core.List.{List, [], _∷_, _++_, map}
 use borrow.Author.Tests.{ltb-true, ltb-false}
 use lib.Dec.{ltb}
 use lib.Ieee.{Float}
@@ -23,7 +23,7 @@ use Rattle.tables.proofs.Finding.{found-under}
 use Rattle.commands.specs.declared.command.Command.{Command}
 use Rattle.commands.specs.declared.command.Command.the-variants as C
 use Rattle.commands.specs.declared.step.Step.{Step}
-use Rattle.commands.specs.Step.{binsAfter, pulsesAfter}
+use Rattle.commands.specs.Step.{numbersAt, binsAfter, pulsesAfter}
 use Rattle.commands.specs.Play.{grown, pulseAt}
 use Rattle.commands_laws.specs.Sound.{Sound}
 use Rattle.commands.specs.Command.{named, isSwap}
@@ -55,7 +55,7 @@ module _ (t : Tables) (n : Name) (i : ℕ) (e : found t n ≡ At i) where
       let short = rw (length-take (t .count) (t .channels)) at u in
       omega (arith, short)
 
-  has-name : channelAt t i .name ≡ n
+  pub has-name : channelAt t i .name ≡ n
   has-name =
       let h = found-named 0 n (channelsIn t) i e in
       let at : i - 0 ≡ i = omega arith in
@@ -153,15 +153,15 @@ module _ (n : Name) (i : ℕ) (t : Tables) (bins : List (List Float)) (pulses : 
           let further : j < i = omega (arith, apart) in
           part-behind (64 * j + 64) (64 * i) 64 (set bins (64 * j + place) row) bins (omega arith) (drop-set-lt (64 * j + 64) bins (64 * j + place) row (omega arith))
 
-  pub unmoved : (c : Command) (s : Step) → isSwap c ≡ false → sameName (named c) n ≡ false → Kind t bins c s → s .stop ≡ false
-      → SameTo n i (s .tables) t (binsAfter s bins) bins (pulsesAfter s pulses) pulses
-  unmoved c _ single other (refuses r) f = absurd (true≢false f)
-  unmoved c _ single other goes f = same-to n i t bins pulses e
-  unmoved c _ single other (turns j o there) f =
+  pub unmoved : (splines : List (List Float)) (c : Command) (s : Step) → isSwap c ≡ false → sameName (named c) n ≡ false → Kind t bins c s → s .stop ≡ false
+      → SameTo n i (s .tables) t (binsAfter s splines bins) bins (pulsesAfter s pulses) pulses
+  unmoved splines c _ single other (refuses r) f = absurd (true≢false f)
+  unmoved splines c _ single other goes f = same-to n i t bins pulses e
+  unmoved splines c _ single other (turns j o there) f =
       let after : Channel = record { name = channelAt t j .name; osc = o; bins = channelAt t j .bins; pulses = channelAt t j .pulses } in
       with-other j after bins pulses (other-place t n (named c) i j e there other) refl refl refl
-  unmoved c _ single other (swaps j k o q swap) f = absurd (true≢false (sym swap ∙ single))
-  unmoved c _ single other (puts j place new time w row there known most old room last few) f =
+  unmoved splines c _ single other (swaps j k o q swap) f = absurd (true≢false (sym swap ∙ single))
+  unmoved splines c _ single other (puts j place new time w head spline there known most old room last few) f =
       let apart = other-place t n (named c) i j e there other in
       let d = channelAt t j in
       let far : i ≡ j → ⊥ = apart in
@@ -169,6 +169,9 @@ module _ (n : Name) (i : ℕ) (t : Tables) (bins : List (List Float)) (pulses : 
       let list = zone-stays j i (channelAt t i .pulses) (d .pulses) (pulseAt place time w) pulses apart (stands .most-pulses) few in
       with-other j (grown d new) (cond new (set bins (64 * j + place) row) bins) (stored (1024 * j) (d .pulses) (pulseAt place time w) pulses) far refl (zone new refl) list
     where
+      row : List Float
+      row = head ++ numbersAt splines spline
+
       zone : (b : Bool) → new ≡ b → take 64 (drop (64 * i) (cond b (set bins (64 * j + place) row) bins)) ≡ take 64 (drop (64 * i) bins)
       zone true g = let below = room g in row-elsewhere j place row (other-place t n (named c) i j e there other) (omega arith)
       zone false g = refl

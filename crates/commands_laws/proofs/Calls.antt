@@ -18,17 +18,17 @@ use Rattle.pulse.proofs.Stored.{stored-length}
 use Rattle.tables.specs.declared.Tables.{Tables}
 use Rattle.commands.specs.declared.command.Arranged.{Arranged}
 use Rattle.commands.specs.declared.step.Step.{Step}
-use Rattle.commands.specs.Step.{binsAfter, pulsesAfter}
+use Rattle.commands.specs.Step.{numbersAt, binsAfter, pulsesAfter}
 use Rattle.commands.specs.Run.{Ran, ranTo, doneAt, refusedAt, stepOf, ran, executed}
 use Rattle.commands_laws.specs.Words.{further, countedFrom, secondCall}
 
 -- ---- sizes
 
-pub bins-size : (s : Step) (bins : List (List Float)) → length (binsAfter s bins) ≡ length bins
-bins-size s bins = go (s .opens)
+pub bins-size : (s : Step) (splines bins : List (List Float)) → length (binsAfter s splines bins) ≡ length bins
+bins-size s splines bins = go (s .opens)
   where
-    go : (b : Bool) → length (cond b (set bins (s .at) (s .row)) bins) ≡ length bins
-    go true = length-set bins (s .at) (s .row)
+    go : (b : Bool) → length (cond b (set bins (s .at) (s .head ++ numbersAt splines (s .spline))) bins) ≡ length bins
+    go true = length-set bins (s .at) (s .head ++ numbersAt splines (s .spline))
     go false = refl
 
 pub pulses-size : (s : Step) (pulses : List Pulse) → length (pulsesAfter s pulses) ≡ length pulses
@@ -42,34 +42,34 @@ pub record Sizes (r : Ran) (bins : List (List Float)) (pulses : List Pulse) : Ty
   pub rows : length (r .bins) ≡ length bins
   pub records : length (r .pulses) ≡ length pulses
 
-pub ran-sizes : (k : ℕ) (t : Tables) (commands : List Arranged) (bins : List (List Float)) (pulses : List Pulse)
-    → Sizes (ran k t commands bins pulses) bins pulses
+pub ran-sizes : (k : ℕ) (t : Tables) (splines : List (List Float)) (commands : List Arranged) (bins : List (List Float)) (pulses : List Pulse)
+    → Sizes (ran k t splines commands bins pulses) bins pulses
 unfolding ran
-ran-sizes k t [] bins pulses = record { rows = refl; records = refl }
-ran-sizes k t (a ∷ more) bins pulses = go (s .stop) (ran-sizes (suc k) (s .tables) more (binsAfter s bins) (pulsesAfter s pulses))
+ran-sizes k t splines [] bins pulses = record { rows = refl; records = refl }
+ran-sizes k t splines (a ∷ more) bins pulses = go (s .stop) (ran-sizes (suc k) (s .tables) splines more (binsAfter s splines bins) (pulsesAfter s pulses))
   where
     s : Step
-    s = stepOf t bins a
+    s = stepOf t splines bins a
 
-    go : (b : Bool) → Sizes (ran (suc k) (s .tables) more (binsAfter s bins) (pulsesAfter s pulses)) (binsAfter s bins) (pulsesAfter s pulses)
-        → Sizes (cond b (ranTo (refusedAt t (s .why) k) bins pulses) (ran (suc k) (s .tables) more (binsAfter s bins) (pulsesAfter s pulses))) bins pulses
+    go : (b : Bool) → Sizes (ran (suc k) (s .tables) splines more (binsAfter s splines bins) (pulsesAfter s pulses)) (binsAfter s splines bins) (pulsesAfter s pulses)
+        → Sizes (cond b (ranTo (refusedAt t (s .why) k) bins pulses) (ran (suc k) (s .tables) splines more (binsAfter s splines bins) (pulsesAfter s pulses))) bins pulses
     go true h = record { rows = refl; records = refl }
-    go false h = record { rows = h .rows ∙ bins-size s bins; records = h .records ∙ pulses-size s pulses }
+    go false h = record { rows = h .rows ∙ bins-size s splines bins; records = h .records ∙ pulses-size s pulses }
 
 -- ---- the count
 
-pub ran-counted : (n k : ℕ) (t : Tables) (commands : List Arranged) (bins : List (List Float)) (pulses : List Pulse)
-    → ran (n + k) t commands bins pulses ≡ countedFrom n (ran k t commands bins pulses)
+pub ran-counted : (n k : ℕ) (t : Tables) (splines : List (List Float)) (commands : List Arranged) (bins : List (List Float)) (pulses : List Pulse)
+    → ran (n + k) t splines commands bins pulses ≡ countedFrom n (ran k t splines commands bins pulses)
 unfolding ran
-ran-counted n k t [] bins pulses = refl
-ran-counted n k t (a ∷ more) bins pulses =
-    go (s .stop) (ran-counted n (suc k) (s .tables) more (binsAfter s bins) (pulsesAfter s pulses))
+ran-counted n k t splines [] bins pulses = refl
+ran-counted n k t splines (a ∷ more) bins pulses =
+    go (s .stop) (ran-counted n (suc k) (s .tables) splines more (binsAfter s splines bins) (pulsesAfter s pulses))
   where
     s : Step
-    s = stepOf t bins a
+    s = stepOf t splines bins a
 
     later : ℕ → Ran
-    later j = ran j (s .tables) more (binsAfter s bins) (pulsesAfter s pulses)
+    later j = ran j (s .tables) splines more (binsAfter s splines bins) (pulsesAfter s pulses)
 
     go : (b : Bool) → later (n + suc k) ≡ countedFrom n (later (suc k))
         → cond b (ranTo (refusedAt t (s .why) (n + k)) bins pulses) (later (suc (n + k)))
@@ -80,52 +80,52 @@ ran-counted n k t (a ∷ more) bins pulses =
 -- ---- two calls
 
 -- the commands of a second list, from where the first run ended
-abbrev on : Answer → Ran → List Arranged → Ran
-on (Refused r k) first commands = first
-on (Done n) first commands = ran n (first .result .tables) commands (first .bins) (first .pulses)
+abbrev on : Answer → Ran → List (List Float) → List Arranged → Ran
+on (Refused r k) first splines commands = first
+on (Done n) first splines commands = ran n (first .result .tables) splines commands (first .bins) (first .pulses)
 
-ran-on : (k : ℕ) (t : Tables) (xs ys : List Arranged) (bins : List (List Float)) (pulses : List Pulse)
-    → let first = ran k t xs bins pulses in ran k t (xs ++ ys) bins pulses ≡ on (first .result .answer) first ys
+ran-on : (k : ℕ) (t : Tables) (splines : List (List Float)) (xs ys : List Arranged) (bins : List (List Float)) (pulses : List Pulse)
+    → let first = ran k t splines xs bins pulses in ran k t splines (xs ++ ys) bins pulses ≡ on (first .result .answer) first splines ys
 unfolding ran
-ran-on k t [] ys bins pulses = refl
-ran-on k t (a ∷ xs) ys bins pulses = go (s .stop) (ran-on (suc k) (s .tables) xs ys (binsAfter s bins) (pulsesAfter s pulses))
+ran-on k t splines [] ys bins pulses = refl
+ran-on k t splines (a ∷ xs) ys bins pulses = go (s .stop) (ran-on (suc k) (s .tables) splines xs ys (binsAfter s splines bins) (pulsesAfter s pulses))
   where
     s : Step
-    s = stepOf t bins a
+    s = stepOf t splines bins a
 
     later : List Arranged → Ran
-    later l = ran (suc k) (s .tables) l (binsAfter s bins) (pulsesAfter s pulses)
+    later l = ran (suc k) (s .tables) splines l (binsAfter s splines bins) (pulsesAfter s pulses)
 
     ended : Ran
     ended = ranTo (refusedAt t (s .why) k) bins pulses
 
-    go : (b : Bool) → later (xs ++ ys) ≡ on (later xs .result .answer) (later xs) ys
-        → cond b ended (later (xs ++ ys)) ≡ on (cond b ended (later xs) .result .answer) (cond b ended (later xs)) ys
+    go : (b : Bool) → later (xs ++ ys) ≡ on (later xs .result .answer) (later xs) splines ys
+        → cond b ended (later (xs ++ ys)) ≡ on (cond b ended (later xs) .result .answer) (cond b ended (later xs)) splines ys
     go true h = refl
     go false h = h
 
 -- a call whose sizes fit
-pub fits : (commands : List Arranged) (bins : List (List Float)) (pulses : List Pulse) (t : Tables)
-    → length commands ≤ 1024 → length bins ≡ 512 → length pulses ≡ 8192
-    → executed t commands bins pulses ≡ ran 0 t commands bins pulses
-fits commands bins pulses t few rows records = rw (le-leb (length commands) 1024 few, eq-eqb (length bins) 512 rows, eq-eqb (length pulses) 8192 records)
+pub fits : (splines : List (List Float)) (commands : List Arranged) (bins : List (List Float)) (pulses : List Pulse) (t : Tables)
+    → length commands ≤ 1024 → length splines ≡ 8 → length bins ≡ 512 → length pulses ≡ 8192
+    → executed t splines commands bins pulses ≡ ran 0 t splines commands bins pulses
+fits splines commands bins pulses t few shapes rows records = rw (le-leb (length commands) 1024 few, eq-eqb (length splines) 8 shapes, eq-eqb (length bins) 512 rows, eq-eqb (length pulses) 8192 records)
 
-module _ (t : Tables) (xs ys : List Arranged) (bins : List (List Float)) (pulses : List Pulse) (few : length (xs ++ ys) ≤ 1024) (rows : length bins ≡ 512) (records : length pulses ≡ 8192) where
+module _ (t : Tables) (splines : List (List Float)) (xs ys : List Arranged) (bins : List (List Float)) (pulses : List Pulse) (few : length (xs ++ ys) ≤ 1024) (shapes : length splines ≡ 8) (rows : length bins ≡ 512) (records : length pulses ≡ 8192) where
   -- running a list in two calls, at any cut, is running it in one
-  pub in-two-calls : let first = executed t xs bins pulses in executed t (xs ++ ys) bins pulses ≡ secondCall (first .result .answer) first ys
+  pub in-two-calls : let first = executed t splines xs bins pulses in executed t splines (xs ++ ys) bins pulses ≡ secondCall (first .result .answer) first splines ys
   unfolding secondCall
   in-two-calls =
-      let first = ran 0 t xs bins pulses in
+      let first = ran 0 t splines xs bins pulses in
       let long = length-append xs ys in
-      rw (fits (xs ++ ys) bins pulses t few rows records, fits xs bins pulses t (omega arith) rows records) (ran-on 0 t xs ys bins pulses ∙ go (first .result .answer) first (ran-sizes 0 t xs bins pulses))
+      rw (fits splines (xs ++ ys) bins pulses t few shapes rows records, fits splines xs bins pulses t (omega arith) shapes rows records) (ran-on 0 t splines xs ys bins pulses ∙ go (first .result .answer) first (ran-sizes 0 t splines xs bins pulses))
     where
-      go : (a : Answer) (first : Ran) → Sizes first bins pulses → on a first ys ≡ secondCall a first ys
+      go : (a : Answer) (first : Ran) → Sizes first bins pulses → on a first splines ys ≡ secondCall a first splines ys
       go (Refused r k) first h = refl
       go (Done n) first h =
           let long = length-append xs ys in
           let u = first .result .tables in
-          rw (fits ys (first .bins) (first .pulses) u (omega arith) (h .rows ∙ rows) (h .records ∙ records))
-          (ap (λ (k : ℕ). ran k u ys (first .bins) (first .pulses)) (sym (add-zero n)) ∙ ran-counted n 0 u ys (first .bins) (first .pulses))
+          rw (fits splines ys (first .bins) (first .pulses) u (omega arith) shapes (h .rows ∙ rows) (h .records ∙ records))
+          (ap (λ (k : ℕ). ran k u splines ys (first .bins) (first .pulses)) (sym (add-zero n)) ∙ ran-counted n 0 u splines ys (first .bins) (first .pulses))
 
 -- ---- a refused call
 
@@ -144,28 +144,28 @@ one-earlier : (a : Answer) (r : Refusal) (m : ℕ) → further 1 a ≡ Refused r
 one-earlier (Done k) r m e = absurd (done-not e)
 one-earlier (Refused q k) r m e = let place : 1 + k ≡ m = cc in let why : q ≡ r = cc in earlier k (omega arith) (ap (λ (x : Refusal). Refused x k) why)
 
-ran-refused : (t : Tables) (commands : List Arranged) (bins : List (List Float)) (pulses : List Pulse) (r : Refusal) (m : ℕ)
-    → ran 0 t commands bins pulses .result .answer ≡ Refused r m
-    → ran 0 t (take m commands) bins pulses ≡ asDone m (ran 0 t commands bins pulses)
+ran-refused : (t : Tables) (splines : List (List Float)) (commands : List Arranged) (bins : List (List Float)) (pulses : List Pulse) (r : Refusal) (m : ℕ)
+    → ran 0 t splines commands bins pulses .result .answer ≡ Refused r m
+    → ran 0 t splines (take m commands) bins pulses ≡ asDone m (ran 0 t splines commands bins pulses)
 unfolding ran
-ran-refused t [] bins pulses r m e = absurd (done-not e)
-ran-refused t (a ∷ more) bins pulses r m e = go (s .stop) refl m e (ran-refused (s .tables) more (binsAfter s bins) (pulsesAfter s pulses) r)
+ran-refused t splines [] bins pulses r m e = absurd (done-not e)
+ran-refused t splines (a ∷ more) bins pulses r m e = go (s .stop) refl m e (ran-refused (s .tables) splines more (binsAfter s splines bins) (pulsesAfter s pulses) r)
   where
     s : Step
-    s = stepOf t bins a
+    s = stepOf t splines bins a
 
     later : ℕ → List Arranged → Ran
-    later k l = ran k (s .tables) l (binsAfter s bins) (pulsesAfter s pulses)
+    later k l = ran k (s .tables) splines l (binsAfter s splines bins) (pulsesAfter s pulses)
 
     ended : Ran
     ended = ranTo (refusedAt t (s .why) 0) bins pulses
 
     one-more : (l : List Arranged) → later 1 l ≡ countedFrom 1 (later 0 l)
-    one-more l = ran-counted 1 0 (s .tables) l (binsAfter s bins) (pulsesAfter s pulses)
+    one-more l = ran-counted 1 0 (s .tables) splines l (binsAfter s splines bins) (pulsesAfter s pulses)
 
     step : (n : ℕ) → s .stop ≡ false → Earlier r n (later 0 more .result .answer)
         → ((j : ℕ) → later 0 more .result .answer ≡ Refused r j → later 0 (take j more) ≡ asDone j (later 0 more))
-        → ran 0 t (take n (a ∷ more)) bins pulses ≡ asDone n (later 1 more)
+        → ran 0 t splines (take n (a ∷ more)) bins pulses ≡ asDone n (later 1 more)
     step n goes-on (earlier j is e') before =
         let next : 1 + j ≡ suc j = omega arith in
         rw (is, goes-on)
@@ -176,7 +176,7 @@ ran-refused t (a ∷ more) bins pulses r m e = go (s .stop) refl m e (ran-refuse
 
     go : (b : Bool) → s .stop ≡ b → (n : ℕ) → cond b ended (later 1 more) .result .answer ≡ Refused r n
         → ((j : ℕ) → later 0 more .result .answer ≡ Refused r j → later 0 (take j more) ≡ asDone j (later 0 more))
-        → ran 0 t (take n (a ∷ more)) bins pulses ≡ asDone n (cond b ended (later 1 more))
+        → ran 0 t splines (take n (a ∷ more)) bins pulses ≡ asDone n (cond b ended (later 1 more))
     go true stops zero f before = refl
     go true stops (suc n) f before = let place : _≡_ {A = ℕ} 0 (suc n) = cc in absurd (omega arith)
     go false goes-on n f before =
@@ -184,10 +184,10 @@ ran-refused t (a ∷ more) bins pulses r m e = go (s .stop) refl m e (ran-refuse
         step n goes-on (one-earlier (later 0 more .result .answer) r n (counted ∙ f)) before
 
 -- what a refused call leaves is what its commands before the refused one leave by themselves: they are as many as its place says
-pub refused-call : (t : Tables) (commands : List Arranged) (bins : List (List Float)) (pulses : List Pulse) (r : Refusal) (m : ℕ)
-    → length commands ≤ 1024 → length bins ≡ 512 → length pulses ≡ 8192 → executed t commands bins pulses .result .answer ≡ Refused r m
-    → executed t (take m commands) bins pulses ≡ asDone m (executed t commands bins pulses)
-refused-call t commands bins pulses r m few rows records e =
+pub refused-call : (t : Tables) (splines : List (List Float)) (commands : List Arranged) (bins : List (List Float)) (pulses : List Pulse) (r : Refusal) (m : ℕ)
+    → length commands ≤ 1024 → length splines ≡ 8 → length bins ≡ 512 → length pulses ≡ 8192 → executed t splines commands bins pulses .result .answer ≡ Refused r m
+    → executed t splines (take m commands) bins pulses ≡ asDone m (executed t splines commands bins pulses)
+refused-call t splines commands bins pulses r m few shapes rows records e =
     let short : length (take m commands) ≤ 1024 = rw length-take (omega arith) in
-    let whole = fits commands bins pulses t few rows records in
-    rw (fits (take m commands) bins pulses t short rows records, whole) (ran-refused t commands bins pulses r m (rw whole at e))
+    let whole = fits splines commands bins pulses t few shapes rows records in
+    rw (fits splines (take m commands) bins pulses t short shapes rows records, whole) (ran-refused t splines commands bins pulses r m (rw whole at e))

@@ -5,7 +5,7 @@ use native.Mathlib.Omega.{arith}
 use native.Mathlib.Nat.{mul-pos, zero-mul, zero-lt-suc}
 use mathlib.Core.Path.{_≡_, refl, sym, ap, subst, _∙_}
 use mathlib.Core.Bool.{Bool, true, false, _&&_, not, cond, true≢false}
-use mathlib.Core.List.{List}
+use mathlib.Core.List.{List, _++_}
 use lib.Dec.{T}
 use lib.IntN.{ℤ, pos}
 use lib.Pow.{pow-pos}
@@ -22,29 +22,31 @@ use Rattle.exact.proofs.Sum.{sum-like, sum-first, sum-second, sum-none}
 use Rattle.exact.proofs.Truth.{both}
 use Rattle.naming.specs.Name.{sameName}
 use Rattle.naming.specs.declared.Name.{Name}
-use Rattle.quant.specs.declared.refusal.Refusal.the-variants.{Malformed, Full, Oversize, UnknownShape, NegativePlateau, NotFinite}
+use Rattle.quant.specs.declared.refusal.Refusal.the-variants.{Malformed, Full, Oversize, NegativePlateau, NotFinite}
 use Rattle.quant.specs.declared.quantity.Frequency.{Frequency}
 use Rattle.executor.specs.Osc.{swappedPhases}
 use Rattle.pulse.specs.declared.bin.Bin.{Bin}
-use Rattle.pulse.specs.declared.envelope.Shape.the-variants.{Plain, Hann}
+use Rattle.pulse.specs.declared.envelope.Envelope.{Envelope}
+use Rattle.pulse.specs.declared.envelope.Shape.{Shape}
+use Rattle.pulse.specs.declared.envelope.Shape.the-variants.{Plain}
 use Rattle.pulse.specs.declared.weight.Weighed.{Weighed}
 use Rattle.pulse.specs.declared.weight.Weighed.the-variants.{Fine, Overflow}
-use Rattle.pulse.specs.Bin.{rowOf, binOf, placeOf, GoodBin}
-use Rattle.pulse.specs.Envelope.{parts, envelopeOf}
+use Rattle.pulse.specs.Bin.{headOf, binOf, kindOf, placeOf, GoodBin}
+use Rattle.pulse.specs.Envelope.{parts, isShaped, envelopeOf}
 use Rattle.pulse.specs.Weight.{negligible, weighedOf}
 use Rattle.pulse.proofs.Rows.{bin-again}
 use Rattle.tables.specs.declared.Tables.{Tables}
 use Rattle.tables.specs.declared.Found.{Found}
 use Rattle.tables.specs.declared.Found.the-variants.{At, Nowhere}
-use Rattle.tables.specs.Tables.{shapesIn, isIn, found, channelAt}
+use Rattle.tables.specs.Tables.{found, shapeFound, channelAt}
 use Rattle.commands.specs.declared.command.Play.{Play}
 use Rattle.commands.specs.declared.command.Command.{Command}
 use Rattle.commands.specs.declared.command.Command.the-variants as C
 use Rattle.commands.specs.declared.command.Arranged.{Arranged}
 use Rattle.commands.specs.declared.step.Step.{Step}
 use Rattle.commands.specs.Command.{goodNames, goodNumbers, good, wellFormed, tooLong}
-use Rattle.commands.specs.Step.{stops, goesOn, withOsc, movedBy, turnedAt, swappedAt, swappedBetween}
-use Rattle.commands.specs.Play.{rowsOf, isNew, isFull, stores, storedWith, plateauOf, binFor, playedAt, played}
+use Rattle.commands.specs.Step.{noSpline, numbersAt, stops, goesOn, withOsc, movedBy, turnedAt, swappedAt, swappedBetween}
+use Rattle.commands.specs.Play.{rowsOf, isNew, isFull, stores, storedWith, plateauOf, binFor, splineFor, playedAt, playedAs, playedBy, played}
 use Rattle.commands.specs.Run.{acted, stepOf}
 
 -- ---- a sum of two numbers that are not below 0 is not below 0
@@ -116,54 +118,60 @@ added-up (fin s m e) (fin t n d) p q f =
 
 -- ---- the bin of a play
 
-no-shape : {A : Type 0} → Plain ≡ Hann → A
-no-shape e = let z : _≡_ {A = ℕ} 0 1 = cc in absurd (omega arith)
+none : {A : Type 0} → false ≡ true → A
+none e = absurd (true≢false (sym e))
 
 module _ (w q : Float) (g l : Frequency) (w-known : finite w ≡ true) (g-known : finite (g .0) ≡ true) (l-known : finite (l .0) ≡ true) (w-low : lt w nought ≡ false) (q-low : lt q nought ≡ false) where
-  abbrev withShape : Bool → Bin
-  withShape shaped = record { envelope = envelopeOf (cond shaped Hann Plain) w q; global = g; local = l }
+  abbrev withEnvelope : Envelope → Bin
+  withEnvelope e = record { envelope = e; global = g; local = l }
 
-  with-good : (shaped : Bool) → finite (withShape shaped .envelope .plateau .0) ≡ true → GoodBin (withShape shaped)
-  unfolding envelopeOf lt ofBits
-  with-good false f =
+  -- of a width that is kept
+  wide-good : (kind : Shape) → (isShaped kind ≡ true → eq w nought ≡ false) → finite q ≡ true → GoodBin (withEnvelope (parts kind w q))
+  wide-good kind nonzero f =
       record {
-        finite-width = refl;
+        finite-width = w-known;
         finite-plateau = f;
         finite-global = g-known;
         finite-local = l-known;
-        width = refl;
-        plateau = added-up q w q-low w-low f;
-        shaped = λ e. no-shape e;
+        width = w-low;
+        plateau = q-low;
+        shaped = nonzero;
       }
-  with-good true f = by (eq w nought) refl f
+
+  with-good : (kind : Shape) → finite (envelopeOf kind w q .plateau .0) ≡ true → GoodBin (withEnvelope (envelopeOf kind w q))
+  unfolding envelopeOf lt ofBits
+  with-good kind f = by (isShaped kind) f
     where
-      by : (b : Bool) → eq w nought ≡ b → finite (cond b (parts Plain w q) (parts Hann w q) .plateau .0) ≡ true
-          → GoodBin (record { envelope = cond b (parts Plain w q) (parts Hann w q); global = g; local = l })
-      by true e f =
+      by-width : (b : Bool) → eq w nought ≡ b → finite (cond b (parts Plain w q) (parts kind w q) .plateau .0) ≡ true → GoodBin (withEnvelope (cond b (parts Plain w q) (parts kind w q)))
+      by-width true e f = wide-good Plain none f
+      by-width false e f = wide-good kind (λ _. e) f
+
+      by : (b : Bool) → finite (cond b (cond (eq w nought) (parts Plain w q) (parts kind w q)) (parts Plain nought (add binary64 q w)) .plateau .0) ≡ true
+          → GoodBin (withEnvelope (cond b (cond (eq w nought) (parts Plain w q) (parts kind w q)) (parts Plain nought (add binary64 q w))))
+      by true f = by-width (eq w nought) refl f
+      by false f =
           record {
-            finite-width = w-known;
+            finite-width = refl;
             finite-plateau = f;
             finite-global = g-known;
             finite-local = l-known;
-            width = w-low;
-            plateau = q-low;
-            shaped = λ z. no-shape z;
+            width = refl;
+            plateau = added-up q w q-low w-low f;
+            shaped = none;
           }
-      by false e f =
-          record { finite-width = w-known; finite-plateau = f; finite-global = g-known; finite-local = l-known; width = w-low; plateau = q-low; shaped = λ z. e }
 
 not-true : (b : Bool) → not b ≡ true → b ≡ false
 not-true true e = absurd (true≢false (sym e))
 not-true false e = refl
 
-module _ (t : Tables) (i : ℕ) (p : Play) (span : Float) (numbers : goodNumbers p ≡ true) (low : lt (plateauOf p span) nought ≡ false) where
+module _ (t : Tables) (i : ℕ) (kind : Shape) (p : Play) (span : Float) (numbers : goodNumbers p ≡ true) (low : lt (plateauOf p span) nought ≡ false) where
   -- what 2 has let pass: width and frequency are finite, and the width is not below 0
   abbrev six : Bool
   six = finite (p .amplitude .0) && finite (p .width .0) && finite (p .plateau .0) && finite (p .drag) && finite (p .frequency .0) && finite (p .phase .0)
 
-  play-good : (finite (binFor t i p span .global .0) && finite (binFor t i p span .envelope .plateau .0)) ≡ true → GoodBin (binFor t i p span)
+  play-good : (finite (binFor t i kind p span .global .0) && finite (binFor t i kind p span .envelope .plateau .0)) ≡ true → GoodBin (binFor t i kind p span)
   play-good e =
-      let b = binFor t i p span in
+      let b = binFor t i kind p span in
       let fine = both (finite (b .global .0)) (finite (b .envelope .plateau .0)) e in
       let h = both six (not (lt (p .width .0) nought)) numbers in
       let five = both (finite (p .amplitude .0) && finite (p .width .0) && finite (p .plateau .0) && finite (p .drag) && finite (p .frequency .0)) (finite (p .phase .0)) (h .0) in
@@ -171,16 +179,13 @@ module _ (t : Tables) (i : ℕ) (p : Play) (span : Float) (numbers : goodNumbers
       let three = both (finite (p .amplitude .0) && finite (p .width .0) && finite (p .plateau .0)) (finite (p .drag)) (four .0) in
       let two = both (finite (p .amplitude .0) && finite (p .width .0)) (finite (p .plateau .0)) (three .0) in
       let one = both (finite (p .amplitude .0)) (finite (p .width .0)) (two .0) in
-      with-good (p .width .0) (plateauOf p span) (b .global) (p .frequency) (one .1) (fine .0) (four .1) (not-true (lt (p .width .0) nought) (h .1)) low (p .shaped) (fine .1)
+      with-good (p .width .0) (plateauOf p span) (b .global) (p .frequency) (one .1) (fine .0) (four .1) (not-true (lt (p .width .0) nought) (h .1)) low kind (fine .1)
 
 -- ---- a step, check by check
 
--- if it opens a bin, a good one
+-- if it opens a bin, a good one, whatever numbers stand behind its head
 abbrev pub Opens : Step → Type 0
-Opens s = s .opens ≡ true → GoodBin (binOf (s .row))
-
-none : {A : Type 0} → false ≡ true → A
-none e = absurd (true≢false (sym e))
+Opens s = s .opens ≡ true → (numbers : List Float) → GoodBin (binOf (s .head ++ numbers))
 
 one-of : (b : Bool) (x y : Step) → (b ≡ true → Opens x) → (b ≡ false → Opens y) → Opens (cond b x y)
 one-of true x y h k = h refl
@@ -205,37 +210,50 @@ module _ (t : Tables) where
       let x = swappedAt t (found t n) (found t m) time in
       one-of (sameName n m) (goesOn t) x (λ _. none) (λ _. swapped-at-opens (found t n) (found t m) time)
 
-  module _ (bins : List (List Float)) where
-    stored-opens : (i : ℕ) (start : Float) (w : Weighed) (b : Bin) → GoodBin b → Opens (storedWith t bins i start w (rowOf b))
+  module _ (splines bins : List (List Float)) where
+    stored-opens : (i : ℕ) (start : Float) (w : Weighed) (b : Bin) (spline : ℕ) → GoodBin b → Opens (storedWith t splines bins i start w (headOf b) spline)
     unfolding storedWith
-    stored-opens i start Overflow b h = none
-    stored-opens i start (Fine w) b h =
-        let place = placeOf (rowOf b) (rowsOf t bins i) in
-        one-of (isFull t bins i place) (stops t Full) (stores t i place (isNew t bins i place) start w (rowOf b)) (λ _. none) (λ _ _. subst GoodBin (sym (bin-again b)) h)
+    stored-opens i start Overflow b spline h = none
+    stored-opens i start (Fine w) b spline h =
+        let place = placeOf (headOf b ++ numbersAt splines spline) (rowsOf t bins i) in
+        one-of (isFull t bins i place) (stops t Full) (stores t i place (isNew t bins i place) start w (headOf b) spline)
+        (λ _. none)
+        (λ _ _ numbers. subst GoodBin (sym (bin-again b numbers)) h)
 
     module _ (start span : Float) (p : Play) (numbers : goodNumbers p ≡ true) where
-      played-at-opens : lt (plateauOf p span) nought ≡ false → (f : Found) → Opens (playedAt t bins f start span p)
+      played-at-opens : (kind : Shape) (k : ℕ) → lt (plateauOf p span) nought ≡ false → (f : Found) → Opens (playedAt t splines bins f start span p kind k)
       unfolding playedAt
-      played-at-opens low Nowhere = none
-      played-at-opens low (At i) =
-          let b = binFor t i p span in
+      played-at-opens kind k low Nowhere = none
+      played-at-opens kind k low (At i) =
+          let b = binFor t i kind p span in
           let w = weighedOf (p .amplitude .0) (p .phase .0) (p .drag) in
-          let storing = storedWith t bins i start w (rowOf b) in
+          let spline = splineFor (b .envelope .shape) k in
+          let storing = storedWith t splines bins i start w (headOf b) spline in
           let quiet = negligible (p .amplitude .0) (t .amp .0) in
           one-of (finite (b .global .0) && finite (b .envelope .plateau .0)) (cond quiet (goesOn t) storing) (stops t NotFinite)
-          (λ e. one-of quiet (goesOn t) storing (λ _. none) (λ _. stored-opens i start w b (play-good t i p span numbers low e)))
+          (λ e. one-of quiet (goesOn t) storing (λ _. none) (λ _. stored-opens i start w b spline (play-good t i kind p span numbers low e)))
           (λ _. none)
 
-      played-opens : Opens (played t bins start span p)
-      played-opens =
+      played-as-opens : (kind : Shape) (k : ℕ) → Opens (playedAs t splines bins start span p kind k)
+      played-as-opens kind k =
           let f = found t (p .channel) in
-          let placed = playedAt t bins f start span p in
-          let low = lt (plateauOf p span) nought in
-          one-of (p .shaped && not (isIn (p .shape) (shapesIn t))) (stops t UnknownShape) (cond low (stops t NegativePlateau) placed)
+          one-of (lt (plateauOf p span) nought) (stops t NegativePlateau) (playedAt t splines bins f start span p kind k)
           (λ _. none)
-          (λ _. one-of low (stops t NegativePlateau) placed (λ _. none) (λ e. played-at-opens e f))
+          (λ e. played-at-opens kind k e f)
 
-    acted-opens : (start span : Float) (c : Command) → good c ≡ true → Opens (acted t bins start span c)
+      played-by-opens : (f : Found) → Opens (playedBy t splines bins f start span p)
+      unfolding playedBy
+      played-by-opens Nowhere = none
+      played-by-opens (At k) = played-as-opens (kindOf (numbersAt splines k)) k
+
+      played-opens : Opens (played t splines bins start span p)
+      played-opens =
+          let f = shapeFound t (p .shape) in
+          one-of (p .shaped) (playedBy t splines bins f start span p) (playedAs t splines bins start span p Plain noSpline)
+          (λ _. played-by-opens f)
+          (λ _. played-as-opens Plain noSpline)
+
+    acted-opens : (start span : Float) (c : Command) → good c ≡ true → Opens (acted t splines bins start span c)
     unfolding acted good
     acted-opens start span (C.Play p) e = played-opens start span p (both (goodNames p) (goodNumbers p) e .1)
     acted-opens start span (C.ShiftPhase n x) e = turned-opens (found t n) (C.ShiftPhase n x) start
@@ -245,9 +263,9 @@ module _ (t : Tables) where
     acted-opens start span (C.SwapPhase n m) e = swapped-opens n m start
     acted-opens start span C.Barrier e = none
 
-    pub step-opens : (a : Arranged) → Opens (stepOf t bins a)
+    pub step-opens : (a : Arranged) → Opens (stepOf t splines bins a)
     step-opens a =
-        let x = acted t bins (a .start .0) (a .span .0) (a .command) in
+        let x = acted t splines bins (a .start .0) (a .span .0) (a .command) in
         one-of (wellFormed a) (cond (tooLong t a) (stops t Oversize) x) (stops t Malformed)
         (λ e.
         one-of (tooLong t a) (stops t Oversize) x (λ _. none)

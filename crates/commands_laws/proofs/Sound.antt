@@ -4,8 +4,8 @@ use Prim.Native.Nat.{ℕ, suc, _+_, _*_, _≤_, _<_}
 use native.Mathlib.Omega.{arith}
 use mathlib.Core.Path.{_≡_, refl, sym, ap, _∙_}
 use mathlib.Core.Bool.{Bool, true, false, _&&_, cond}
-use mathlib.Core.List.{List, [], _∷_}
-use lib.Dec.{ltb}
+use mathlib.Core.List.{List, [], _∷_, _++_}
+use lib.Dec.{ltb, eqb}
 use borrow.Author.Tests.{ltb-true}
 use lib.Ieee.{Float, isNan, nan, inf, fin}
 use lib.Ieee.Scale.{finite}
@@ -13,28 +13,31 @@ use lib.ListN.{length, take, drop, set, length-set, length-take, length-drop}
 use lib.Seq.{getD-set-same, getD-set-other}
 use Rattle.exact.specs.Doubles.{nought}
 use Rattle.naming.specs.declared.Name.{Name}
-use Rattle.quant.specs.declared.refusal.Refusal.the-variants.{Unfit, Malformed, Full, WrongSize}
+use Rattle.quant.specs.declared.refusal.Refusal.the-variants.{Unfit, Malformed, Full, WrongSize, WrongSpline}
 use Rattle.naming.specs.Name.{isName}
 use Rattle.quant.specs.Settings.{isTolerance}
 use Rattle.executor.specs.declared.osc.OscState.{OscState}
 use Rattle.pulse.specs.declared.list.Pulse.{Pulse}
 use Rattle.pulse.specs.declared.weight.Weight.{Weight}
-use Rattle.pulse.specs.Bin.{binOf, GoodBin}
+use Rattle.rows.specs.Rows.{allFinite}
+use Rattle.spline.specs.Spline.{isSpline}
+use Rattle.spline.specs.Row.{rowOf}
+use Rattle.pulse.specs.Bin.{binOf, noNumbers, GoodBin}
 use Rattle.pulse.specs.List.{stored}
 use Rattle.pulse.proofs.Stored.{stored-list, stored-sorted, stored-timed, stored-length}
 use Rattle.tables.specs.declared.Channel.{Channel}
 use Rattle.tables.specs.declared.Tables.{Tables}
 use Rattle.tables.specs.declared.Found.{Found}
 use Rattle.tables.specs.declared.Found.the-variants.{At, Nowhere}
-use Rattle.tables.specs.Tables.{found, isIn, shapesIn, done, refused, channelAt, fresh, finiteOsc, withChannels, withChannel, settled, withAdded, withShape, settledShape, withAddedShape, channelsIn, empty, made}
+use Rattle.tables.specs.Tables.{found, shapeFound, done, refused, Formed, formed, channelAt, fresh, finiteOsc, withChannels, withChannel, settled, withAdded, withShape, settledShape, withAddedShape, withAddedSpline, channelsIn, empty, made}
 use Rattle.tables.proofs.Finding.{found-eight, found-under}
 use Rattle.commands.specs.declared.command.Command.{Command}
 use Rattle.commands.specs.declared.command.Arranged.{Arranged}
 use Rattle.commands.specs.declared.step.Step.{Step}
-use Rattle.commands.specs.Step.{binsAfter, pulsesAfter, withOsc}
+use Rattle.commands.specs.Step.{numbersAt, binsAfter, pulsesAfter, withOsc}
 use Rattle.commands.specs.Play.{rowsOf, grown, pulseAt, stores}
 use Rattle.commands.specs.Run.{Ran, ranTo, refusedAt, stepOf, ran, sizesFit, executed}
-use Rattle.commands_laws.specs.Sound.{listOf, binAt, Stands, Sound, Reached, start, channel, shape, call}
+use Rattle.commands_laws.specs.Sound.{listOf, binAt, Stands, Sound, Reached, start, channel, shape, spline, call}
 use Rattle.commands.specs.Command.{named}
 use Rattle.commands.proofs.Cases.{Kind, refuses, goes, turns, swaps, puts, step-kind}
 use Rattle.commands_laws.proofs.Zones.{zone-stays, binned-more, binned-placed}
@@ -104,21 +107,30 @@ module _ (t : Tables) (bins : List (List Float)) (pulses : List Pulse) (h : Soun
         good = h .good;
       }
 
-  settled-shape-sound : (known : Bool) → Sound (settledShape t known n .tables) bins pulses
-  unfolding settledShape
-  settled-shape-sound true = h
-  settled-shape-sound false = go (ltb (t .named) 8)
-    where
-      go : (b : Bool) → Sound (cond b (done (withShape t n)) (refused Full t) .tables) bins pulses
-      go true = named-sound
-      go false = h
+  -- by what is tested
+  one-sound : (b : Bool) (x y : Formed) → Sound (x .tabled .tables) bins pulses → Sound (y .tabled .tables) bins pulses → Sound (cond b x y .tabled .tables) bins pulses
+  one-sound true x y a c = a
+  one-sound false x y a c = c
 
-  shape-sound : Sound (withAddedShape t n .tables) bins pulses
-  shape-sound = go (isName n)
-    where
-      go : (b : Bool) → Sound (cond b (settledShape t (isIn n (shapesIn t)) n) (refused Malformed t) .tables) bins pulses
-      go true = settled-shape-sound (isIn n (shapesIn t))
-      go false = h
+  module _ (splines : List (List Float)) where
+    settled-shape-sound : (row : List Float) (f : Found) → Sound (settledShape t f n row splines .tabled .tables) bins pulses
+    unfolding settledShape
+    settled-shape-sound row (At i) = h
+    settled-shape-sound row Nowhere = one-sound (ltb (t .named) 8) (formed (done (withShape t n)) _) (formed (refused Full t) splines) named-sound h
+
+    shape-sound : Sound (withAddedShape t n splines .tabled .tables) bins pulses
+    shape-sound =
+        one-sound (eqb (length splines) 8) _ (formed (refused WrongSize t) splines)
+        (one-sound (isName n) _ (formed (refused Malformed t) splines) (settled-shape-sound noNumbers (shapeFound t n)) h)
+        h
+
+    spline-sound : (degree : ℕ) (controls knots : List Float) → Sound (withAddedSpline t n degree controls knots splines .tabled .tables) bins pulses
+    spline-sound degree controls knots =
+        one-sound (eqb (length splines) 8) _ (formed (refused WrongSize t) splines)
+        (one-sound (isName n && allFinite controls && allFinite knots) _ (formed (refused Malformed t) splines)
+        (one-sound (isSpline degree (length controls) knots) _ (formed (refused WrongSpline t) splines) (settled-shape-sound (rowOf degree controls knots) (shapeFound t n)) h)
+        h)
+        h
 
 -- ---- one command
 
@@ -238,45 +250,47 @@ module _ (t : Tables) (bins : List (List Float)) (pulses : List Pulse) (h : Soun
           good = fine;
         }
 
-  kind-sound : (c : Command) (s : Step) → Kind t bins c s → Opens s → Sound (s .tables) (binsAfter s bins) (pulsesAfter s pulses)
-  kind-sound c _ (refuses r) opens = h
-  kind-sound c _ goes opens = h
-  kind-sound c _ (turns i o there) opens = osc-sound t bins pulses h i o
-  kind-sound c _ (swaps i j o q swap) opens = osc-sound (withOsc t i o) bins pulses (osc-sound t bins pulses h i o) j q
-  kind-sound c _ (puts i place new time w row there known most old room last few) opens =
-      let s = stores t i place new time w row in
-      stored-sound (named c) i place new time w row there known most old room few (binsAfter s bins) (bins-size s bins ∙ h .rows)
-      (good-after (named c) i place new time w row there known most old room few opens last)
+  module _ (splines : List (List Float)) where
+    kind-sound : (c : Command) (s : Step) → Kind t bins c s → Opens s → Sound (s .tables) (binsAfter s splines bins) (pulsesAfter s pulses)
+    kind-sound c _ (refuses r) opens = h
+    kind-sound c _ goes opens = h
+    kind-sound c _ (turns i o there) opens = osc-sound t bins pulses h i o
+    kind-sound c _ (swaps i j o q swap) opens = osc-sound (withOsc t i o) bins pulses (osc-sound t bins pulses h i o) j q
+    kind-sound c _ (puts i place new time w head its there known most old room last few) opens =
+        let s = stores t i place new time w head its in
+        let numbers = numbersAt splines its in
+        stored-sound (named c) i place new time w (head ++ numbers) there known most old room few (binsAfter s splines bins) (bins-size s splines bins ∙ h .rows)
+        (good-after (named c) i place new time w (head ++ numbers) there known most old room few (λ e. opens e numbers) last)
 
-  pub step-sound : (a : Arranged) → let s = stepOf t bins a in Sound (s .tables) (binsAfter s bins) (pulsesAfter s pulses)
-  step-sound a = kind-sound (a .command) (stepOf t bins a) (step-kind t bins a) (step-opens t bins a)
+    pub step-sound : (a : Arranged) → let s = stepOf t splines bins a in Sound (s .tables) (binsAfter s splines bins) (pulsesAfter s pulses)
+    step-sound a = kind-sound (a .command) (stepOf t splines bins a) (step-kind t splines bins a) (step-opens t splines bins a)
 
 -- ---- a call
 
-ran-sound : (k : ℕ) (t : Tables) (commands : List Arranged) (bins : List (List Float)) (pulses : List Pulse) → Sound t bins pulses
-    → let r = ran k t commands bins pulses in Sound (r .result .tables) (r .bins) (r .pulses)
+ran-sound : (k : ℕ) (t : Tables) (splines : List (List Float)) (commands : List Arranged) (bins : List (List Float)) (pulses : List Pulse) → Sound t bins pulses
+    → let r = ran k t splines commands bins pulses in Sound (r .result .tables) (r .bins) (r .pulses)
 unfolding ran
-ran-sound k t [] bins pulses h = h
-ran-sound k t (a ∷ more) bins pulses h =
-    go (s .stop) (ran-sound (suc k) (s .tables) more (binsAfter s bins) (pulsesAfter s pulses) (step-sound t bins pulses h a))
+ran-sound k t splines [] bins pulses h = h
+ran-sound k t splines (a ∷ more) bins pulses h =
+    go (s .stop) (ran-sound (suc k) (s .tables) splines more (binsAfter s splines bins) (pulsesAfter s pulses) (step-sound t bins pulses h splines a))
   where
     s : Step
-    s = stepOf t bins a
+    s = stepOf t splines bins a
 
     later : Ran
-    later = ran (suc k) (s .tables) more (binsAfter s bins) (pulsesAfter s pulses)
+    later = ran (suc k) (s .tables) splines more (binsAfter s splines bins) (pulsesAfter s pulses)
 
     go : (b : Bool) → Sound (later .result .tables) (later .bins) (later .pulses)
         → let r = cond b (ranTo (refusedAt t (s .why) k) bins pulses) later in Sound (r .result .tables) (r .bins) (r .pulses)
     go true k' = h
     go false k' = k'
 
-call-sound : (t : Tables) (commands : List Arranged) (bins : List (List Float)) (pulses : List Pulse) → Sound t bins pulses
-    → let r = executed t commands bins pulses in Sound (r .result .tables) (r .bins) (r .pulses)
-call-sound t commands bins pulses h = go (sizesFit (length commands) (length bins) (length pulses))
+call-sound : (t : Tables) (splines : List (List Float)) (commands : List Arranged) (bins : List (List Float)) (pulses : List Pulse) → Sound t bins pulses
+    → let r = executed t splines commands bins pulses in Sound (r .result .tables) (r .bins) (r .pulses)
+call-sound t splines commands bins pulses h = go (sizesFit (length commands) (length splines) (length bins) (length pulses))
   where
-    go : (b : Bool) → let r = cond b (ran 0 t commands bins pulses) (ranTo (refusedAt t WrongSize 0) bins pulses) in Sound (r .result .tables) (r .bins) (r .pulses)
-    go true = ran-sound 0 t commands bins pulses h
+    go : (b : Bool) → let r = cond b (ran 0 t splines commands bins pulses) (ranTo (refusedAt t WrongSize 0) bins pulses) in Sound (r .result .tables) (r .bins) (r .pulses)
+    go true = ran-sound 0 t splines commands bins pulses h
     go false = h
 
 -- ---- any run of calls
@@ -292,8 +306,9 @@ start-sound a time oversize bins pulses rows records = go (isTolerance a && isTo
     go true = none a time oversize
     go false = none nought nought false
 
-pub sound : (t : Tables) (bins : List (List Float)) (pulses : List Pulse) → Reached t bins pulses → Sound t bins pulses
-sound _ _ _ (start a time oversize bins pulses rows records) = start-sound a time oversize bins pulses rows records
-sound _ _ _ (channel t bins pulses n o r) = channel-sound t bins pulses (sound t bins pulses r) n o
-sound _ _ _ (shape t bins pulses n r) = shape-sound t bins pulses (sound t bins pulses r) n
-sound _ _ _ (call t bins pulses commands r) = call-sound t commands bins pulses (sound t bins pulses r)
+pub sound : (t : Tables) (splines bins : List (List Float)) (pulses : List Pulse) → Reached t splines bins pulses → Sound t bins pulses
+sound _ _ _ _ (start a time oversize splines bins pulses rows records) = start-sound a time oversize bins pulses rows records
+sound _ _ _ _ (channel t splines bins pulses n o r) = channel-sound t bins pulses (sound t splines bins pulses r) n o
+sound _ _ _ _ (shape t splines bins pulses n r) = shape-sound t bins pulses (sound t splines bins pulses r) n splines
+sound _ _ _ _ (spline t splines bins pulses n degree controls knots r) = spline-sound t bins pulses (sound t splines bins pulses r) n splines degree controls knots
+sound _ _ _ _ (call t splines bins pulses commands r) = call-sound t splines commands bins pulses (sound t splines bins pulses r)

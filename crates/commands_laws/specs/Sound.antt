@@ -14,7 +14,7 @@ use Rattle.pulse.specs.declared.list.Pulse.{Pulse}
 use Rattle.pulse.specs.Bin.{binOf, GoodBin}
 use Rattle.pulse.specs.Sorted.{sorted, timed}
 use Rattle.tables.specs.declared.Tables.{Tables}
-use Rattle.tables.specs.Tables.{made, withAdded, withAddedShape, channelAt}
+use Rattle.tables.specs.Tables.{made, withAdded, withAddedShape, withAddedSpline, channelAt}
 use Rattle.commands.specs.declared.command.Arranged.{Arranged}
 use Rattle.commands.specs.Run.{executed}
 
@@ -48,13 +48,17 @@ pub record Sound (t : Tables) (bins : List (List Float)) (pulses : List Pulse) :
   pub each : (i : ℕ) → i < t .count → Stands t pulses i
   pub good : (i k : ℕ) → i < t .count → k < channelAt t i .bins → GoodBin (binAt bins i k)
 
--- after any run of calls, from made tables and whatever rows and records are lent
-pub data Reached : Tables → List (List Float) → List Pulse → Type 0 where
-  start : (a time : Float) (oversize : Bool) (bins : List (List Float)) (pulses : List Pulse) → length bins ≡ 512 → length pulses ≡ 8192
-      → Reached (made a time oversize .tables) bins pulses
-  channel : (t : Tables) (bins : List (List Float)) (pulses : List Pulse) (n : Name) (o : OscState) → Reached t bins pulses
-      → Reached (withAdded t n o .tables) bins pulses
-  shape : (t : Tables) (bins : List (List Float)) (pulses : List Pulse) (n : Name) → Reached t bins pulses
-      → Reached (withAddedShape t n .tables) bins pulses
-  call : (t : Tables) (bins : List (List Float)) (pulses : List Pulse) (commands : List Arranged) → Reached t bins pulses
-      → Reached (executed t commands bins pulses .result .tables) (executed t commands bins pulses .bins) (executed t commands bins pulses .pulses)
+-- after any run of calls, from made tables and whatever rows of shapes, rows of bins and records are lent
+pub data Reached : Tables → List (List Float) → List (List Float) → List Pulse → Type 0 where
+  start : (a time : Float) (oversize : Bool) (splines bins : List (List Float)) (pulses : List Pulse) → length bins ≡ 512 → length pulses ≡ 8192
+      → Reached (made a time oversize .tables) splines bins pulses
+  channel : (t : Tables) (splines bins : List (List Float)) (pulses : List Pulse) (n : Name) (o : OscState) → Reached t splines bins pulses
+      → Reached (withAdded t n o .tables) splines bins pulses
+  shape : (t : Tables) (splines bins : List (List Float)) (pulses : List Pulse) (n : Name) → Reached t splines bins pulses
+      → Reached (withAddedShape t n splines .tabled .tables) (withAddedShape t n splines .rows) bins pulses
+  spline : (t : Tables) (splines bins : List (List Float)) (pulses : List Pulse) (n : Name) (degree : ℕ) (controls knots : List Float)
+      → Reached t splines bins pulses
+      → Reached (withAddedSpline t n degree controls knots splines .tabled .tables) (withAddedSpline t n degree controls knots splines .rows) bins pulses
+  call : (t : Tables) (splines bins : List (List Float)) (pulses : List Pulse) (commands : List Arranged) → Reached t splines bins pulses
+      → Reached (executed t splines commands bins pulses .result .tables) splines (executed t splines commands bins pulses .bins)
+      (executed t splines commands bins pulses .pulses)

@@ -35,8 +35,7 @@ use Rattle.mixdown.specs.Sampled.{Out}
 use Rattle.sheet.specs.Sheet as sheet
 use Rattle.sheet.specs.Sheet.{outcome, namesOf, matrixOf, printedOf, bytesAfter, printedAnswer}
 use Rattle.sheet_answer.specs.Answer.{answerPrints, answerLeft}
-use Rattle.stand_ins.specs.ByValue.{partsFor}
-use Rattle.stand_ins.specs.Buffers.{mixedFor}
+use Rattle.stand_ins.specs.Buffers.{partsLaid, mixedFor}
 use Rattle.stand_ins.specs.StandIns.{equation}
 use Rattle.every_call.specs.Demand.{Said, Answers, Which, align, place, phaser, set-up, shift-phase, set-phase, shift-freq, set-freq, swap-phase, weigh, lay-out, measure, envelope, judge, state, plan, steps, name-read, sheet-read, sheet-print, sheet-answer, mix-lists, execute-owned, none, refusing}
 use Rattle.every_call.proofs.Numbers.{parted-said, points-said, measured-said, judged-said, planned-said, mixed-said, owned-said}
@@ -127,17 +126,20 @@ every-call set-freq = by-cases _ _ movedAnswer _ (λ y. flag-said (y .refused))
 every-call swap-phase = by-cases _ _ swappedAnswer _ (λ y. flag-said (y .refused))
 every-call weigh = by-cases _ _ weighedAnswer _ weighed-said
 every-call lay-out = by-equation _ _ _ _ (λ x. parted-said (x .width) (x .plateau) (x .offset) (x .rate) (x .dt) (x .room))
-every-call measure = by-equation _ _ _ _ (λ x. measured-said (x .width) (x .plateau) (x .offset) (x .rate) (x .dt) (least (x .room) 65536))
+every-call measure = by-equation _ _ _ _ (λ x. let c = x .curve in measured-said (x .shape) (x .numbers) (c .width) (c .plateau) (c .offset) (c .rate) (c .dt) (least (c .room) 65536))
 every-call envelope =
     record {
-      answered = λ x. let q = partsFor (x .curve) (limitOf (x .curve .room) (length (x .scratch))) in (record { answer = envelopedOf q; scratch = scratchAfter q (x .scratch) }, (refl, refl));
+      answered = λ x.
+          let b = x .bent in
+          (record { answer = envelopedOf (b .shape) (b .numbers) (partsLaid x); scratch = scratchAfter (b .shape) (b .numbers) (partsLaid x) (x .scratch) }, (refl, refl));
       only = λ x y z p q i. record { answer = (p .0 ∙ sym (q .0)) i; scratch = (p .1 ∙ sym (q .1)) i };
       said = λ x y p.
-          let c = x .curve in
+          let b = x .bent in
+          let c = b .curve in
           moved _ _ _ (ap envelopedAnswer (p .0)) (λ k. p .1 ∙ k)
-          (points-said (c .width) (c .plateau) (c .offset) (c .rate) (c .dt) (limitOf (c .room) (length (x .scratch))) (x .scratch));
+          (points-said (b .shape) (b .numbers) (c .width) (c .plateau) (c .offset) (c .rate) (c .dt) (limitOf (c .room) (length (x .scratch))) (x .scratch));
     }
-every-call judge = by-equation _ _ _ _ (λ x. judged-said (x .settings) (x .bin) (x .pulse) (x .len))
+every-call judge = by-equation _ _ _ _ (λ x. judged-said (x .settings) (x .bin) (x .numbers) (x .pulse) (x .len))
 every-call state = by-cases _ _ toldAnswer _ told-said
 every-call plan = by-equation _ _ _ _ (λ x. planned-said (x .tables) (x .channel) (x .cross) (x .factors))
 every-call steps = by-equation _ _ _ _ (λ x. steps-said (x .fits) (x .fine))

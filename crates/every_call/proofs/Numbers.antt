@@ -17,6 +17,7 @@ use Rattle.quant.specs.declared.refusal.Refusal.the-variants as why
 use Rattle.quant.specs.declared.settings.Settings.{Settings}
 use Rattle.quant.specs.Refusal.{numberOf}
 use Rattle.pulse.specs.declared.bin.Bin.{Bin}
+use Rattle.pulse.specs.declared.envelope.Shape.{Shape}
 use Rattle.pulse.specs.declared.list.Pulse.{Pulse}
 use Rattle.tables.specs.declared.Tables.{Tables}
 use Rattle.tables.specs.Tables.{found}
@@ -78,9 +79,9 @@ parted-said w p o rate dt room =
     go u v false false false true = tt
     go u v false false false false = (refl, tt)
 
-module _ (w p o rate dt : Float) (room : ℕ) where
+module _ (shape : Shape) (numbers : List Float) (w p o rate dt : Float) (room : ℕ) where
   abbrev points : Enveloped
-  points = envelopedOf (partedOf w p o rate dt room)
+  points = envelopedOf shape numbers (partedOf w p o rate dt room)
 
   number-of : (r : Refusal) → (r ≡ why.ShapeTooShort) ⊎ ((r ≡ why.EndPastRow) ⊎ (r ≡ why.NotFinite)) → among (11 ∷ 12 ∷ 8 ∷ []) (numberOf r) ≡ true
   unfolding among
@@ -89,27 +90,27 @@ module _ (w p o rate dt : Float) (room : ℕ) where
   number-of r (inr (inr e)) = subst (λ (x : Refusal). among (11 ∷ 12 ∷ 8 ∷ []) (numberOf x) ≡ true) (sym e) refl
 
   -- the scratch, too
-  pub points-said : (old : List Float) → Said (11 ∷ 12 ∷ 8 ∷ []) (scratchAfter (partedOf w p o rate dt room) old ≡ old) (envelopedAnswer points)
+  pub points-said : (old : List Float) → Said (11 ∷ 12 ∷ 8 ∷ []) (scratchAfter shape numbers (partedOf w p o rate dt room) old ≡ old) (envelopedAnswer points)
   points-said old = by points refl
     where
-      by : (e : Enveloped) → points ≡ e → Said (11 ∷ 12 ∷ 8 ∷ []) (scratchAfter (partedOf w p o rate dt room) old ≡ old) (envelopedAnswer e)
+      by : (e : Enveloped) → points ≡ e → Said (11 ∷ 12 ∷ 8 ∷ []) (scratchAfter shape numbers (partedOf w p o rate dt room) old ≡ old) (envelopedAnswer e)
       by (enveloped.Points n) f = tt
-      by (enveloped.Refused r) f = (number-of r (refused-by w p o rate dt room r f), refused-stays (partedOf w p o rate dt room) old r f)
+      by (enveloped.Refused r) f = (number-of r (refused-by shape numbers w p o rate dt room r f), refused-stays shape numbers (partedOf w p o rate dt room) old r f)
 
   pub measured-said : Said (11 ∷ 12 ∷ 8 ∷ []) Unit (envelopedAnswer points)
   measured-said = by points (points-said [])
     where
-      by : (e : Enveloped) → Said (11 ∷ 12 ∷ 8 ∷ []) (scratchAfter (partedOf w p o rate dt room) [] ≡ []) (envelopedAnswer e) → Said (11 ∷ 12 ∷ 8 ∷ []) Unit (envelopedAnswer e)
+      by : (e : Enveloped) → Said (11 ∷ 12 ∷ 8 ∷ []) (scratchAfter shape numbers (partedOf w p o rate dt room) [] ≡ []) (envelopedAnswer e) → Said (11 ∷ 12 ∷ 8 ∷ []) Unit (envelopedAnswer e)
       by (enveloped.Points n) h = tt
       by (enveloped.Refused r) h = (h .0, tt)
 
-pub judged-said : (s : Settings) (b : Bin) (p : Pulse) (len : ℕ) → Said (8 ∷ 9 ∷ 10 ∷ 11 ∷ 12 ∷ []) Unit (judgedAnswer (judged s b p len))
-judged-said s b p len = by (judged s b p len) refl
+pub judged-said : (s : Settings) (b : Bin) (numbers : List Float) (p : Pulse) (len : ℕ) → Said (8 ∷ 9 ∷ 10 ∷ 11 ∷ 12 ∷ []) Unit (judgedAnswer (judged s b numbers p len))
+judged-said s b numbers p len = by (judged s b numbers p len) refl
   where
-    by : (j : Judged) → judged s b p len ≡ j → Said (8 ∷ 9 ∷ 10 ∷ 11 ∷ 12 ∷ []) Unit (judgedAnswer j)
+    by : (j : Judged) → judged s b numbers p len ≡ j → Said (8 ∷ 9 ∷ 10 ∷ 11 ∷ 12 ∷ []) Unit (judgedAnswer j)
     by (judgement.Plateau f) e = tt
     by (judgement.Shaped f) e = tt
-    by (judgement.Refused r) e = (judged-number r s b p len e, tt)
+    by (judgement.Refused r) e = (judged-number r s b numbers p len e, tt)
 
 -- ---- the plan of a sampling
 
@@ -151,12 +152,12 @@ mixed-said s t taking ends bins work marks rows st = go (mixFits taking ends (le
     go false = (refl, tt)
 
 pub owned-said : (s : State) (commands : List Arranged) (count : ℕ)
-    → Said (13 ∷ commandNumbers) Unit (executedOwned (s .tables) commands count (s .bins) (s .pulses) .result .answer)
+    → Said (13 ∷ commandNumbers) Unit (executedOwned (s .tables) (s .splines) commands count (s .bins) (s .pulses) .result .answer)
 unfolding among
 owned-said s commands count = go (leb count 1024)
   where
     ran : Ran
-    ran = executed (s .tables) (take count commands) (s .bins) (s .pulses)
+    ran = executed (s .tables) (s .splines) (take count commands) (s .bins) (s .pulses)
 
     of : (a : Answer) (u : State) → CommandsSaid s (take count commands) a u → Said (13 ∷ commandNumbers) Unit a
     of (Done n) u h = tt

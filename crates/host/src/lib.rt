@@ -1,5 +1,6 @@
 // What C, Rust and Python link: each function is one of the crates below, under a name of its own.
 ghost use mathlib.Core.Path.{_≡_};
+ghost use mathlib.Core.List.{map};
 ghost use lib.Ieee.{binary64};
 ghost use Rattle.executor.specs.Osc.{shiftedPhase, setPhaseTo, shiftedFreq, setFreqTo, swappedPhases};
 ghost use Rattle.fir.specs.Fir.{Fir};
@@ -13,6 +14,7 @@ ghost use Rattle.mix.specs.Plateau.{carried, real, imaginary};
 ghost use Rattle.mixer.specs.Mixer.{Iq, Offset};
 ghost use Rattle.quant.specs.Aligned.{alignedOf, placedOf};
 ghost use Rattle.quant.specs.declared.refusal.Answer.{Answer};
+ghost use Rattle.spline.specs.Value.{valueIn};
 ghost use Rattle.trig.specs.Trig.{cosineOf, sineOf};
 use executor::osc::Moved;
 use executor::osc::OscState;
@@ -207,4 +209,12 @@ pub extern "C" fn skierralu_add_plateau(
     let carrier = Complex { re, im };
     let rotation = Complex { re: cos, im: sin };
     mix::add_plateau(rows, i, q, start, count, carrier, rotation);
+}
+
+// A spline's value at each point, in its place. The row has 72 numbers: degree, count of controls, 32 controls, 38 knots.
+#[no_mangle]
+pub extern "C" fn skierralu_spline(points: &mut [f64], row: &[f64])
+    ensures { λ r. ⌜ now (points .exit) ≡ map (valueIn (now (row .entry))) (now (points .entry)) ⌝ }
+{
+    spline::over::over(points, row);
 }

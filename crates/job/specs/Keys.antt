@@ -64,6 +64,10 @@ crosstalkWord = 99 ∷ 114 ∷ 111 ∷ 115 ∷ 115 ∷ 116 ∷ 97 ∷ 108 ∷ 10
 abbrev pub sheetWord : List ℕ
 sheetWord = 115 ∷ 104 ∷ 101 ∷ 101 ∷ 116 ∷ []
 
+-- `spline`
+abbrev pub splineWord : List ℕ
+splineWord = 115 ∷ 112 ∷ 108 ∷ 105 ∷ 110 ∷ 101 ∷ []
+
 -- `rows`
 abbrev pub rowsWord : List ℕ
 rowsWord = 114 ∷ 111 ∷ 119 ∷ 115 ∷ []
@@ -177,3 +181,15 @@ delayKey = 100 ∷ 101 ∷ 108 ∷ 97 ∷ 121 ∷ 61 ∷ []
 -- `level=`
 abbrev pub levelKey : List ℕ
 levelKey = 108 ∷ 101 ∷ 118 ∷ 101 ∷ 108 ∷ 61 ∷ []
+
+-- `degree=`
+abbrev pub degreeKey : List ℕ
+degreeKey = 100 ∷ 101 ∷ 103 ∷ 114 ∷ 101 ∷ 101 ∷ 61 ∷ []
+
+-- `controls=`
+abbrev pub controlsKey : List ℕ
+controlsKey = 99 ∷ 111 ∷ 110 ∷ 116 ∷ 114 ∷ 111 ∷ 108 ∷ 115 ∷ 61 ∷ []
+
+-- `knots=`
+abbrev pub knotsKey : List ℕ
+knotsKey = 107 ∷ 110 ∷ 111 ∷ 116 ∷ 115 ∷ 61 ∷ []

@@ -9,13 +9,14 @@ use Rattle.decimal.specs.declared.digits.Digits.{Digits}
 use Rattle.decimal.specs.declared.digits.Digits.the-variants as digits
 use Rattle.decimal.specs.declared.number.Number.{Number}
 use Rattle.decimal.specs.declared.number.Number.the-variants as number
-use Rattle.fields.specs.Value.{wholeField}
+use Rattle.fields.specs.Value.{wholeField, nameField}
 use Rattle.fields.specs.Words.{isWord}
 use Rattle.job.specs.declared.line.Line.{Line}
-use Rattle.job.specs.declared.line.Line.the-variants.{Syntax, Crosstalk, Sheet, Iq, Offset, Iir, Fir}
+use Rattle.job.specs.declared.line.Line.the-variants.{Syntax, Spline, Crosstalk, Sheet, Iq, Offset, Iir, Fir}
 use Rattle.job.specs.Given as given
 use Rattle.job.specs.Given.{word}
-use Rattle.job.specs.Keys.{crosstalkWord, sheetWord, iqWord, offsetWord, iirWord, firWord}
+use Rattle.job.specs.Keys.{crosstalkWord, sheetWord, splineWord, iqWord, offsetWord, iirWord, firWord}
+use Rattle.job.specs.Keys.{degreeKey, controlsKey, knotsKey}
 
 -- ---- words that are numbers
 
@@ -74,6 +75,16 @@ crosstalkOf words =
 unfoldable pub sheetOf : List (List ℕ) → Line
 sheetOf words = cond (eqb (length words) 2) (given.whole Syntax (wholeField [] (word words 1)) Sheet) Syntax
 
+-- `spline NAME degree=D controls=C knots=K N..`: C controls and K knots, from word 5 on
+unfoldable pub splineOf : List (List ℕ) → Line
+splineOf words =
+    cond (ltb (length words) 5) Syntax
+    (given.name Syntax (nameField [] (word words 1)) (λ n.
+    given.whole Syntax (wholeField degreeKey (word words 2)) (λ d.
+    given.whole Syntax (wholeField controlsKey (word words 3)) (λ c.
+    given.whole Syntax (wholeField knotsKey (word words 4)) (λ k.
+    cond (eqb (length words - 5) (c + k)) (cond (numbersFrom 5 words) (Spline n d c k) Syntax) Syntax)))))
+
 unfoldable pub listOf : List (List ℕ) → Line
 listOf words =
     cond (isWord iqWord (word words 0)) (iqOf words)
@@ -82,4 +93,5 @@ listOf words =
     (cond (isWord firWord (word words 0)) (firBy (countedOf words))
     (cond (isWord crosstalkWord (word words 0)) (crosstalkOf words)
     (cond (isWord sheetWord (word words 0)) (sheetOf words)
-    Syntax)))))
+    (cond (isWord splineWord (word words 0)) (splineOf words)
+    Syntax))))))

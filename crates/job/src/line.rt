@@ -40,6 +40,8 @@ pub enum Line {
     Tables(Amplitude, Time, bool),
     Channel(Name, OscState),
     Shape(Name),
+    // Its degree, controls and knots; the numbers stand from word 5 on.
+    Spline(Name, u64, u64, u64),
     Command(Arranged),
     Run,
     States,

@@ -2,11 +2,13 @@
 // lines behind the line by `job_sheet`.
 ghost use mathlib.Core.Path.{_≡_};
 ghost use Rattle.fields.specs.Words.{wordsOf};
-ghost use Rattle.job.specs.List.{listOf, iqOf, offsetOf, countedOf, iirBy, firBy, crosstalkOf, sheetOf, numbersFrom, stopsAt, lessOf};
+ghost use Rattle.job.specs.List.{listOf, iqOf, offsetOf, countedOf, iirBy, firBy, crosstalkOf, sheetOf, splineOf, numbersFrom, stopsAt, lessOf};
 use super::line::Line;
 use decimal::digits::Digits;
 use decimal::digits::place;
 use decimal::number::Number;
+use fields::value::Called;
+use fields::value::name_in;
 use fields::value::whole_in;
 use fields::words::count;
 use fields::words::is_word;
@@ -31,6 +33,9 @@ pub(crate) fn list_line(line: &[u8]) -> Line
     }
     if is_word(line, 0, b"sheet") {
         return sheet(line);
+    }
+    if is_word(line, 0, b"spline") {
+        return spline(line);
     }
     Line::Syntax
 }
@@ -129,6 +134,42 @@ fn sheet(line: &[u8]) -> Line
         Digits::Value(n) => Line::Sheet(n),
         Digits::Bad => Line::Syntax,
     }
+}
+
+// `spline NAME degree=D controls=C knots=K N..`: C controls, then K knots. Compared one after the other: no sum has to fit.
+fn spline(line: &[u8]) -> Line
+    ensures { λ r. ⌜ r ≡ splineOf (wordsOf (now (line .entry))) ⌝ }
+{
+    if count(line) < 5 {
+        return Line::Syntax;
+    }
+    let named = name_in(line, 1, b"");
+    let Called::Name(n) = named else {
+        return Line::Syntax;
+    };
+    let bent = whole_in(line, 2, b"degree=");
+    let Digits::Value(degree) = bent else {
+        return Line::Syntax;
+    };
+    let held = whole_in(line, 3, b"controls=");
+    let Digits::Value(controls) = held else {
+        return Line::Syntax;
+    };
+    let tied = whole_in(line, 4, b"knots=");
+    let Digits::Value(knots) = tied else {
+        return Line::Syntax;
+    };
+    let left = (count(line) - 5) as u64;
+    if left < controls {
+        return Line::Syntax;
+    }
+    if left - controls != knots {
+        return Line::Syntax;
+    }
+    if !all_numbers(line, 5) {
+        return Line::Syntax;
+    }
+    Line::Spline(n, degree, controls, knots)
 }
 
 // Whether every word from word k on is a number.

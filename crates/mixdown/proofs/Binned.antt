@@ -52,27 +52,27 @@ unfolding summedBy
 summed-none falls = refl
 
 -- ---- running
-module _ (s : Settings) (b : Bin) (rows : ℕ) where
-  pub ran-none : (n : ℕ) (st : Rowed) → ranPulses s b rows [] n st ≡ out (answer.Done n) st
+module _ (s : Settings) (b : Bin) (numbers : List Float) (rows : ℕ) where
+  pub ran-none : (n : ℕ) (st : Rowed) → ranPulses s b numbers rows [] n st ≡ out (answer.Done n) st
   unfolding ranPulses
   ran-none n st = refl
 
   module _ (p : Pulse) (ps : List Pulse) (n : ℕ) (st : Rowed) where
     abbrev j : Judged
-    j = judged s b p (length (st .i))
+    j = judged s b numbers p (length (st .i))
 
-    pub ran-on : accepted j ≡ true → ranPulses s b rows (p ∷ ps) n st ≡ ranPulses s b rows ps (n + 1) (addedTo s b rows j st)
+    pub ran-on : accepted j ≡ true → ranPulses s b numbers rows (p ∷ ps) n st ≡ ranPulses s b numbers rows ps (n + 1) (addedTo s b numbers rows j st)
     unfolding ranPulses
-    ran-on e = go j e ∙ ap (λ (k : ℕ). ranPulses s b rows ps k (addedTo s b rows j st)) (sym (add-one n))
+    ran-on e = go j e ∙ ap (λ (k : ℕ). ranPulses s b numbers rows ps k (addedTo s b numbers rows j st)) (sym (add-one n))
       where
-        go : (d : Judged) → accepted d ≡ true → unlessRefused d n st (ranPulses s b rows ps (suc n) (addedTo s b rows j st)) ≡ ranPulses s b rows ps (suc n) (addedTo s b rows j st)
+        go : (d : Judged) → accepted d ≡ true → unlessRefused d n st (ranPulses s b numbers rows ps (suc n) (addedTo s b numbers rows j st)) ≡ ranPulses s b numbers rows ps (suc n) (addedTo s b numbers rows j st)
         go (judgement.Plateau f) t = refl
         go (judgement.Shaped c) t = refl
         go (judgement.Refused r) t = absurd (true≢false (sym t))
 
-    pub ran-refused : (r : Refusal) → j ≡ judgement.Refused r → ranPulses s b rows (p ∷ ps) n st ≡ out (answer.Refused r n) st
+    pub ran-refused : (r : Refusal) → j ≡ judgement.Refused r → ranPulses s b numbers rows (p ∷ ps) n st ≡ out (answer.Refused r n) st
     unfolding ranPulses
-    ran-refused r e = ap (λ (d : Judged). unlessRefused d n st (ranPulses s b rows ps (suc n) (addedTo s b rows j st))) e
+    ran-refused r e = ap (λ (d : Judged). unlessRefused d n st (ranPulses s b numbers rows ps (suc n) (addedTo s b numbers rows j st))) e
 
 -- ---- how many there are
 
@@ -120,35 +120,35 @@ few all r h k =
 
 -- ---- the loop: kept is not yet added, what r has left is not yet looked at
 
-abbrev pub todo : Settings → Bin → Float → List (List Float) → List ℕ → ℕ → Pulse → Runs → ℕ → Rowed → Out
-todo s b tolerance work marks rows kept r n st = ranPulses s b rows (keptFrom (together tolerance) kept (left work marks r)) n st
+abbrev pub todo : Settings → Bin → List Float → Float → List (List Float) → List ℕ → ℕ → Pulse → Runs → ℕ → Rowed → Out
+todo s b numbers tolerance work marks rows kept r n st = ranPulses s b numbers rows (keptFrom (together tolerance) kept (left work marks r)) n st
 
-module _ (s : Settings) (b : Bin) (tolerance : Float) (work : List (List Float)) (marks : List ℕ) (rows : ℕ) where
+module _ (s : Settings) (b : Bin) (numbers : List Float) (tolerance : Float) (work : List (List Float)) (marks : List ℕ) (rows : ℕ) where
   pub record Going (all : Out) (st₀ st : Rowed) (r : Runs) (p : Picked) (kept : Pulse) (held : Held) (n : ℕ) : Type 0 where
     pub same-i : length (st .i) ≡ length (st₀ .i)
     pub same-q : length (st .q) ≡ length (st₀ .q)
     pub same-scratch : length (st .scratch) ≡ length (st₀ .scratch)
     pub picks : Picks work marks r p
-    pub holds : Holds s b held (st .scratch)
+    pub holds : Holds s b numbers held (st .scratch)
     pub few-added : n + length (left work marks r) ≤ 2 ^ 61
-    pub whole : todo s b tolerance work marks rows kept r n st ≡ all
+    pub whole : todo s b numbers tolerance work marks rows kept r n st ≡ all
 
 -- one turn, from what holds before it
-module _ {s : Settings} {b : Bin} {tolerance : Float} {work : List (List Float)} {marks : List ℕ} {rows : ℕ} {all : Out} {st₀ st : Rowed} {r : Runs} {p : Picked} {kept : Pulse} {held : Held} {n : ℕ} (g : Going s b tolerance work marks rows all st₀ st r p kept held n) where
+module _ {s : Settings} {b : Bin} {numbers : List Float} {tolerance : Float} {work : List (List Float)} {marks : List ℕ} {rows : ℕ} {all : Out} {st₀ st : Rowed} {r : Runs} {p : Picked} {kept : Pulse} {held : Held} {n : ℕ} (g : Going s b numbers tolerance work marks rows all st₀ st r p kept held n) where
   abbrev x : Pulse
   x = pulseOf work marks r p
 
   abbrev verdict : Judged
-  verdict = judged s b kept (length (st .i))
+  verdict = judged s b numbers kept (length (st .i))
 
   pub less : p .some ≡ true → (r' : Runs) → r' ≡ movedOn marks r p → length (left work marks r') < length (left work marks r)
   less e r' is = rw is (let k = ap length (picked-next (g .picks) e) in omega (arith, k))
 
-  todo-next : p .some ≡ true → (r' : Runs) → r' ≡ movedOn marks r p → ranPulses s b rows (keptFrom (together tolerance) kept (x ∷ left work marks r')) n st ≡ all
-  todo-next e r' is = rw is (ap (λ (ps : List Pulse). ranPulses s b rows (keptFrom (together tolerance) kept ps) n st) (sym (picked-next (g .picks) e)) ∙ g .whole)
+  todo-next : p .some ≡ true → (r' : Runs) → r' ≡ movedOn marks r p → ranPulses s b numbers rows (keptFrom (together tolerance) kept (x ∷ left work marks r')) n st ≡ all
+  todo-next e r' is = rw is (ap (λ (ps : List Pulse). ranPulses s b numbers rows (keptFrom (together tolerance) kept ps) n st) (sym (picked-next (g .picks) e)) ∙ g .whole)
 
   -- the next falls together with the kept one
-  pub near-turn : p .some ≡ true → (r' : Runs) → r' ≡ movedOn marks r p → (p' : Picked) → Picks work marks r' p' → together tolerance kept x ≡ true → Going s b tolerance work marks rows all st₀ st r' p' (plusP kept x) held n
+  pub near-turn : p .some ≡ true → (r' : Runs) → r' ≡ movedOn marks r p → (p' : Picked) → Picks work marks r' p' → together tolerance kept x ≡ true → Going s b numbers tolerance work marks rows all st₀ st r' p' (plusP kept x) held n
   near-turn e r' is p' next near =
       record {
         same-i = g .same-i;
@@ -157,28 +157,28 @@ module _ {s : Settings} {b : Bin} {tolerance : Float} {work : List (List Float)}
         picks = next;
         holds = g .holds;
         few-added = let k = less e r' is in omega (arith, k, g .few-added);
-        whole = ap (λ (ps : List Pulse). ranPulses s b rows ps n st) (sym (kept-near (together tolerance) kept x (left work marks r') near)) ∙ todo-next e r' is;
+        whole = ap (λ (ps : List Pulse). ranPulses s b numbers rows ps n st) (sym (kept-near (together tolerance) kept x (left work marks r') near)) ∙ todo-next e r' is;
       }
 
   -- it does not: the kept one is added
-  apart-is : p .some ≡ true → (r' : Runs) → r' ≡ movedOn marks r p → together tolerance kept x ≡ false → ranPulses s b rows (kept ∷ keptFrom (together tolerance) x (left work marks r')) n st ≡ all
-  apart-is e r' is apart = ap (λ (ps : List Pulse). ranPulses s b rows ps n st) (sym (kept-apart (together tolerance) kept x (left work marks r') apart)) ∙ todo-next e r' is
+  apart-is : p .some ≡ true → (r' : Runs) → r' ≡ movedOn marks r p → together tolerance kept x ≡ false → ranPulses s b numbers rows (kept ∷ keptFrom (together tolerance) x (left work marks r')) n st ≡ all
+  apart-is e r' is apart = ap (λ (ps : List Pulse). ranPulses s b numbers rows ps n st) (sym (kept-apart (together tolerance) kept x (left work marks r') apart)) ∙ todo-next e r' is
 
-  last-is : p .some ≡ false → ranPulses s b rows (kept ∷ []) n st ≡ all
-  last-is e = ap (λ (ps : List Pulse). ranPulses s b rows ps n st) (sym (kept-last (together tolerance) kept) ∙ ap (keptFrom (together tolerance) kept) (sym (picked-none (g .picks) e))) ∙ g .whole
+  last-is : p .some ≡ false → ranPulses s b numbers rows (kept ∷ []) n st ≡ all
+  last-is e = ap (λ (ps : List Pulse). ranPulses s b numbers rows ps n st) (sym (kept-last (together tolerance) kept) ∙ ap (keptFrom (together tolerance) kept) (sym (picked-none (g .picks) e))) ∙ g .whole
 
-  module _ {st' : Rowed} (after : st' ≡ addedTo s b rows verdict st) where
+  module _ {st' : Rowed} (after : st' ≡ addedTo s b numbers rows verdict st) where
     pub i-same : length (st' .i) ≡ length (st₀ .i)
-    i-same = ap (λ (o : Rowed). length (o .i)) after ∙ i-length s b rows st verdict ∙ g .same-i
+    i-same = ap (λ (o : Rowed). length (o .i)) after ∙ i-length s b numbers rows st verdict ∙ g .same-i
 
     pub q-same : length (st' .q) ≡ length (st₀ .q)
-    q-same = ap (λ (o : Rowed). length (o .q)) after ∙ q-length s b rows st verdict ∙ g .same-q
+    q-same = ap (λ (o : Rowed). length (o .q)) after ∙ q-length s b numbers rows st verdict ∙ g .same-q
 
     pub scratch-same : length (st₀ .i) ≤ length (st₀ .scratch) → length (st' .scratch) ≡ length (st₀ .scratch)
-    scratch-same h = ap (λ (o : Rowed). length (o .scratch)) after ∙ scratch-length s b rows st (omega (arith, h, g .same-i, g .same-scratch)) verdict ∙ g .same-scratch
+    scratch-same h = ap (λ (o : Rowed). length (o .scratch)) after ∙ scratch-length s b numbers rows st (omega (arith, h, g .same-i, g .same-scratch)) verdict ∙ g .same-scratch
 
     pub on-turn : length (st₀ .i) ≤ length (st₀ .scratch) → p .some ≡ true → (r' : Runs) → r' ≡ movedOn marks r p → (p' : Picked) → Picks work marks r' p' → together tolerance kept x ≡ false
-        → accepted verdict ≡ true → (h : Held) → Holds s b h (st' .scratch) → Going s b tolerance work marks rows all st₀ st' r' p' x h (n + 1)
+        → accepted verdict ≡ true → (h : Held) → Holds s b numbers h (st' .scratch) → Going s b numbers tolerance work marks rows all st₀ st' r' p' x h (n + 1)
     on-turn short e r' is p' next apart taken h holds =
         record {
           same-i = i-same;
@@ -187,17 +187,17 @@ module _ {s : Settings} {b : Bin} {tolerance : Float} {work : List (List Float)}
           picks = next;
           holds = holds;
           few-added = let k = less e r' is in omega (arith, k, g .few-added);
-          whole = ap (ranPulses s b rows (keptFrom (together tolerance) x (left work marks r')) (n + 1)) after ∙ sym (ran-on s b rows kept (keptFrom (together tolerance) x (left work marks r')) n st taken) ∙ apart-is e r' is apart;
+          whole = ap (ranPulses s b numbers rows (keptFrom (together tolerance) x (left work marks r')) (n + 1)) after ∙ sym (ran-on s b numbers rows kept (keptFrom (together tolerance) x (left work marks r')) n st taken) ∙ apart-is e r' is apart;
         }
 
     stays : (why : Refusal) → verdict ≡ judgement.Refused why → st' ≡ st
-    stays why e = after ∙ ap (λ (d : Judged). addedTo s b rows d st) e
+    stays why e = after ∙ ap (λ (d : Judged). addedTo s b numbers rows d st) e
 
     pub refused-turn : p .some ≡ true → together tolerance kept x ≡ false → (why : Refusal) → verdict ≡ judgement.Refused why → out (answer.Refused why n) st' ≡ all
-    refused-turn e apart why not-ok = ap (out (answer.Refused why n)) (stays why not-ok) ∙ sym (ran-refused s b rows kept (keptFrom (together tolerance) x (left work marks (movedOn marks r p))) n st why not-ok) ∙ apart-is e (movedOn marks r p) refl apart
+    refused-turn e apart why not-ok = ap (out (answer.Refused why n)) (stays why not-ok) ∙ sym (ran-refused s b numbers rows kept (keptFrom (together tolerance) x (left work marks (movedOn marks r p))) n st why not-ok) ∙ apart-is e (movedOn marks r p) refl apart
 
     pub on-last : p .some ≡ false → accepted verdict ≡ true → out (answer.Done (n + 1)) st' ≡ all
-    on-last e taken = ap (out (answer.Done (n + 1))) after ∙ sym (ran-none s b rows (n + 1) (addedTo s b rows verdict st)) ∙ sym (ran-on s b rows kept [] n st taken) ∙ last-is e
+    on-last e taken = ap (out (answer.Done (n + 1))) after ∙ sym (ran-none s b numbers rows (n + 1) (addedTo s b numbers rows verdict st)) ∙ sym (ran-on s b numbers rows kept [] n st taken) ∙ last-is e
 
     pub refused-last : p .some ≡ false → (why : Refusal) → verdict ≡ judgement.Refused why → out (answer.Refused why n) st' ≡ all
-    refused-last e why not-ok = ap (out (answer.Refused why n)) (stays why not-ok) ∙ sym (ran-refused s b rows kept [] n st why not-ok) ∙ last-is e
+    refused-last e why not-ok = ap (out (answer.Refused why n)) (stays why not-ok) ∙ sym (ran-refused s b numbers rows kept [] n st why not-ok) ∙ last-is e

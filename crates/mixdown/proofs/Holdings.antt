@@ -14,12 +14,13 @@ use Rattle.exact.specs.Doubles.{nought}
 use Rattle.quant.specs.declared.refusal.Refusal.the-variants.{ShapeTooShort, EndPastRow}
 use Rattle.quant.specs.declared.settings.Settings.{Settings}
 use Rattle.pulse.specs.declared.bin.Bin.{Bin}
+use Rattle.pulse.specs.declared.envelope.Shape.{Shape}
 use Rattle.shape.specs.declared.parts.Parts.{Parts}
 use Rattle.shape.specs.declared.parts.Parted.{Parted}
 use Rattle.shape.specs.declared.parts.Parted.the-variants.{Within, Refused}
 use Rattle.shape.specs.declared.envelope.Enveloped.the-variants as enveloped
 use Rattle.shape.specs.Parts.{indexAt, t1, t3, unbroken, broken, ordered, partedOf}
-use Rattle.shape.specs.Envelope.{least, Fitting, shapeOf, finitePoints, scratchFilled, envelopedOf, scratchAfter}
+use Rattle.shape.specs.Envelope.{least, Fitting, shapeOf, finePoints, scratchFilled, envelopedOf, scratchAfter}
 use Rattle.shape.proofs.Filling.{within-fits, fits-more, least-left}
 use Rattle.shape.proofs.Envelopes.{scratch-length, rest-stays}
 use Rattle.mixdown.specs.Sampled.{partsAt}
@@ -45,42 +46,49 @@ module _ (w p o rate dt : Float) where
   parts-same room room' q q' e f = let same : Within q ≡ Within q' = sym (roomy-is room q e) ∙ roomy-is room' q' f in cc
 
 -- ---- filled twice
+module _ (shape : Shape) (numbers : List Float) (q : Parts) (old : List Float) (fit : Fitting q (length old)) where
+  abbrev once : List Float
+  once = shapeOf shape numbers q ++ drop (q .length) old
 
-filled-twice : (q : Parts) (old : List Float) → Fitting q (length old) → scratchFilled q (scratchFilled q old) ≡ scratchFilled q old
-filled-twice q old fit = go (finitePoints q)
-  where
-    go : (b : Bool) → cond b (shapeOf q ++ drop (q .length) (cond b (shapeOf q ++ drop (q .length) old) old)) (cond b (shapeOf q ++ drop (q .length) old) old) ≡ cond b (shapeOf q ++ drop (q .length) old) old
-    go true = ap (λ (l : List Float). shapeOf q ++ l) (rest-stays q old fit)
-    go false = refl
+  filled-twice : scratchFilled shape numbers q (scratchFilled shape numbers q old) ≡ scratchFilled shape numbers q old
+  filled-twice = go (finePoints shape numbers q)
+    where
+      go : (b : Bool) → cond b (shapeOf shape numbers q ++ drop (q .length) (cond b once old)) (cond b once old) ≡ cond b once old
+      go true = ap (λ (l : List Float). shapeOf shape numbers q ++ l) (rest-stays shape numbers q old fit)
+      go false = refl
 
-filled-length : (q : Parts) (old : List Float) → Fitting q (length old) → length (scratchFilled q old) ≡ length old
-filled-length q old fit = go (finitePoints q)
-  where
-    go : (b : Bool) → length (cond b (shapeOf q ++ drop (q .length) old) old) ≡ length old
-    go true = scratch-length q old fit
-    go false = refl
+  filled-length : length (scratchFilled shape numbers q old) ≡ length old
+  filled-length = go (finePoints shape numbers q)
+    where
+      go : (b : Bool) → length (cond b once old) ≡ length old
+      go true = scratch-length shape numbers q old fit
+      go false = refl
 
-module _ (s : Settings) (b : Bin) (offset : Float) (room : ℕ) (old : List Float) (h : room ≤ length old) where
+module _ (s : Settings) (b : Bin) (numbers : List Float) (offset : Float) (room : ℕ) (old : List Float) (h : room ≤ length old) where
+  abbrev shape : Shape
+  shape = b .envelope .shape
+
   fitting : (q : Parts) → partsAt s b offset room ≡ Within q → Fitting q (length old)
   fitting q e = fits-more q (least room 65536) (length old) (let less = least-left room 65536 in omega (arith, less)) (within-fits (least room 65536) q _ _ _ _ _ e)
 
   -- the scratch is as long as before
-  pub after-length : length (scratchAfter (partsAt s b offset room) old) ≡ length old
+  pub after-length : length (scratchAfter shape numbers (partsAt s b offset room) old) ≡ length old
   after-length = go (partsAt s b offset room) refl
     where
-      go : (d : Parted) → partsAt s b offset room ≡ d → length (scratchAfter d old) ≡ length old
-      go (Within q) e = filled-length q old (fitting q e)
+      go : (d : Parted) → partsAt s b offset room ≡ d → length (scratchAfter shape numbers d old) ≡ length old
+      go (Within q) e = filled-length shape numbers q old (fitting q e)
       go (Refused r) e = refl
 
   -- and holds the envelope
-  pub holds-after : (k : ℕ) → envelopedOf (partsAt s b offset room) ≡ enveloped.Points k → (room' : ℕ)
-      → scratchAfter (partsAt s b offset room') (scratchAfter (partsAt s b offset room) old) ≡ scratchAfter (partsAt s b offset room) old
+  pub holds-after : (k : ℕ) → envelopedOf shape numbers (partsAt s b offset room) ≡ enveloped.Points k → (room' : ℕ)
+      → scratchAfter shape numbers (partsAt s b offset room') (scratchAfter shape numbers (partsAt s b offset room) old) ≡ scratchAfter shape numbers (partsAt s b offset room) old
   holds-after k points room' = go (partsAt s b offset room) refl points (partsAt s b offset room') refl
     where
-      go : (d : Parted) → partsAt s b offset room ≡ d → envelopedOf d ≡ enveloped.Points k → (d' : Parted) → partsAt s b offset room' ≡ d' → scratchAfter d' (scratchAfter d old) ≡ scratchAfter d old
+      go : (d : Parted) → partsAt s b offset room ≡ d → envelopedOf shape numbers d ≡ enveloped.Points k → (d' : Parted) → partsAt s b offset room' ≡ d'
+          → scratchAfter shape numbers d' (scratchAfter shape numbers d old) ≡ scratchAfter shape numbers d old
       go (Refused r) e f d' e' = let z : _≡_ {A = ℕ} 0 1 = cc in absurd (omega arith)
       go (Within q) e f (Refused r) e' = refl
-      go (Within q) e f (Within q') e' = rw (parts-same _ _ _ _ _ (least room' 65536) (least room 65536) q' q e' e) (filled-twice q old (fitting q e))
+      go (Within q) e f (Within q') e' = rw (parts-same _ _ _ _ _ (least room' 65536) (least room 65536) q' q e' e) (filled-twice shape numbers q old (fitting q e))
 
 -- ---- offsets by their bits
 

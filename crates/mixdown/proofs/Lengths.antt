@@ -47,18 +47,18 @@ module _ (rows s n : ℕ) (i q : List Float) (f : List Float → List Float) (sa
       go true e false g o h = refl
       go false e d g o h = refl
 
-module _ (s : Settings) (b : Bin) (rows : ℕ) (st : Rowed) where
-  pub i-length : (j : Judged) → length (addedTo s b rows j st .i) ≡ length (st .i)
+module _ (s : Settings) (b : Bin) (numbers : List Float) (rows : ℕ) (st : Rowed) where
+  pub i-length : (j : Judged) → length (addedTo s b numbers rows j st .i) ≡ length (st .i)
   i-length (Plateau f) = first-length rows (f .start) (f .count) (st .i) (st .q) _ (carried-length _ _ _)
   i-length (Shaped c) = first-length rows (c .start) (c .points) (st .i) (st .q) _ (λ xs. shaped-length _ _ _ _ _ _ _ xs)
   i-length (Refused r) = refl
 
-  pub q-length : (j : Judged) → length (addedTo s b rows j st .q) ≡ length (st .q)
+  pub q-length : (j : Judged) → length (addedTo s b numbers rows j st .q) ≡ length (st .q)
   q-length (Plateau f) = second-length rows (f .start) (f .count) (st .i) (st .q) _ (carried-length _ _ _)
   q-length (Shaped c) = second-length rows (c .start) (c .points) (st .i) (st .q) _ (λ xs. shaped-length _ _ _ _ _ _ _ xs)
   q-length (Refused r) = refl
 
-  pub scratch-length : length (st .i) ≤ length (st .scratch) → (j : Judged) → length (addedTo s b rows j st .scratch) ≡ length (st .scratch)
+  pub scratch-length : length (st .i) ≤ length (st .scratch) → (j : Judged) → length (addedTo s b numbers rows j st .scratch) ≡ length (st .scratch)
   scratch-length h (Plateau f) = refl
-  scratch-length h (Shaped c) = after-length s b (c .offset) (length (st .i) - c .start) (st .scratch) (omega (arith, h))
+  scratch-length h (Shaped c) = after-length s b numbers (c .offset) (length (st .i) - c .start) (st .scratch) (omega (arith, h))
   scratch-length h (Refused r) = refl

@@ -1,4 +1,5 @@
 pub mod Spans
+pub mod Numbers
 pub mod Sizes
 pub mod Picking
 pub mod Marked

@@ -15,7 +15,7 @@ use Rattle.quant.specs.declared.refusal.Refusal.{Refusal}
 use Rattle.quant.specs.declared.settings.Settings.{Settings}
 use Rattle.pulse.specs.declared.bin.Bin.{Bin}
 use Rattle.pulse.specs.declared.list.Pulse.{Pulse}
-use Rattle.pulse.specs.Bin.{binOf}
+use Rattle.pulse.specs.Bin.{binOf, numbersOf}
 use Rattle.tables.specs.declared.Tables.{Tables}
 use Rattle.merge.specs.Sum.{together, summedAgain}
 use Rattle.merge.specs.Join.{joined}
@@ -103,16 +103,16 @@ like-more : (st : Rowed) (k most more : ℕ) (o : Out) → most ≤ more → Lik
 like-more st k most more o h l = record { count = λ m e. let less = l .count m e in omega (arith, less, h); i-same = l .i-same; q-same = l .q-same; scratch-same = l .scratch-same }
 
 module _ (s : Settings) (rows : ℕ) where
-  pub pulses-like : (b : Bin) (ps : List Pulse) (k : ℕ) (st : Rowed) → length (st .i) ≤ length (st .scratch) → Like st k (length ps) (ranPulses s b rows ps k st)
+  pub pulses-like : (b : Bin) (numbers : List Float) (ps : List Pulse) (k : ℕ) (st : Rowed) → length (st .i) ≤ length (st .scratch) → Like st k (length ps) (ranPulses s b numbers rows ps k st)
   unfolding ranPulses
-  pulses-like b [] k st h = like-done st k
-  pulses-like b (p ∷ ps) k st h =
-      let d = judged s b p (length (st .i)) in
-      let st' = addedTo s b rows d st in
-      let short : length (st' .i) ≤ length (st' .scratch) = rw (i-length s b rows st d, scratch-length s b rows st h d) h in
-      go d (like-more st k (1 + length ps) (suc (length ps)) _ (omega arith) (like-later st st' k (suc k) 1 (length ps) _ (omega arith) (i-length s b rows st d) (q-length s b rows st d) (scratch-length s b rows st h d) (pulses-like b ps (suc k) st' short)))
+  pulses-like b numbers [] k st h = like-done st k
+  pulses-like b numbers (p ∷ ps) k st h =
+      let d = judged s b numbers p (length (st .i)) in
+      let st' = addedTo s b numbers rows d st in
+      let short : length (st' .i) ≤ length (st' .scratch) = rw (i-length s b numbers rows st d, scratch-length s b numbers rows st h d) h in
+      go d (like-more st k (1 + length ps) (suc (length ps)) _ (omega arith) (like-later st st' k (suc k) 1 (length ps) _ (omega arith) (i-length s b numbers rows st d) (q-length s b numbers rows st d) (scratch-length s b numbers rows st h d) (pulses-like b numbers ps (suc k) st' short)))
     where
-      go : (d : Judged) → Like st k (suc (length ps)) (ranPulses s b rows ps (suc k) (addedTo s b rows (judged s b p (length (st .i))) st)) → Like st k (suc (length ps)) (unlessRefused d k st (ranPulses s b rows ps (suc k) (addedTo s b rows (judged s b p (length (st .i))) st)))
+      go : (d : Judged) → Like st k (suc (length ps)) (ranPulses s b numbers rows ps (suc k) (addedTo s b numbers rows (judged s b numbers p (length (st .i))) st)) → Like st k (suc (length ps)) (unlessRefused d k st (ranPulses s b numbers rows ps (suc k) (addedTo s b numbers rows (judged s b numbers p (length (st .i))) st)))
       go (judgement.Refused r) l = like-refused st k (suc (length ps)) r
       go (judgement.Plateau f) l = l
       go (judgement.Shaped c) l = l
@@ -124,11 +124,11 @@ module _ (s : Settings) (rows : ℕ) where
 
     -- one bin, by what it came to
     module _ (r : List Float) (rs : List (List Float)) (k : ℕ) (st st' : Rowed) where
-      pub bins-on : (m : ℕ) → out (answer.Done m) st' ≡ ranPulses s (binOf r) rows (merged r) k st → ranBins s rows merged (r ∷ rs) k st ≡ ranBins s rows merged rs m st'
+      pub bins-on : (m : ℕ) → out (answer.Done m) st' ≡ ranPulses s (binOf r) (numbersOf r) rows (merged r) k st → ranBins s rows merged (r ∷ rs) k st ≡ ranBins s rows merged rs m st'
       unfolding ranBins
       bins-on m e = ap (λ (o : Out). andThen o (ranBins s rows merged rs)) (sym e)
 
-      pub bins-refused : (why : Refusal) (m : ℕ) → out (answer.Refused why m) st' ≡ ranPulses s (binOf r) rows (merged r) k st → ranBins s rows merged (r ∷ rs) k st ≡ out (answer.Refused why m) st'
+      pub bins-refused : (why : Refusal) (m : ℕ) → out (answer.Refused why m) st' ≡ ranPulses s (binOf r) (numbersOf r) rows (merged r) k st → ranBins s rows merged (r ∷ rs) k st ≡ out (answer.Refused why m) st'
       unfolding ranBins
       bins-refused why m e = ap (λ (o : Out). andThen o (ranBins s rows merged rs)) (sym e)
 
@@ -136,7 +136,7 @@ module _ (s : Settings) (rows : ℕ) where
     pub bins-append : (xs ys : List (List Float)) (k : ℕ) (st : Rowed) → ranBins s rows merged (xs ++ ys) k st ≡ andThen (ranBins s rows merged xs k st) (ranBins s rows merged ys)
     unfolding ranBins
     bins-append [] ys k st = refl
-    bins-append (x ∷ xs) ys k st = let o = ranPulses s (binOf x) rows (merged x) k st in by (o .answer) (o .left) (bins-append xs ys)
+    bins-append (x ∷ xs) ys k st = let o = ranPulses s (binOf x) (numbersOf x) rows (merged x) k st in by (o .answer) (o .left) (bins-append xs ys)
       where
         by : (a : Answer) (l : Rowed) → ((m : ℕ) (st' : Rowed) → ranBins s rows merged (xs ++ ys) m st' ≡ andThen (ranBins s rows merged xs m st') (ranBins s rows merged ys))
             → andThen (out a l) (ranBins s rows merged (xs ++ ys)) ≡ andThen (andThen (out a l) (ranBins s rows merged xs)) (ranBins s rows merged ys)
@@ -148,8 +148,8 @@ module _ (s : Settings) (rows : ℕ) where
     unfolding ranBins
     bins-like few [] k st h = like-more st k 0 (0 * 65536) _ (omega arith) (like-done st k)
     bins-like few (r ∷ rs) k st h =
-        let o = ranPulses s (binOf r) rows (merged r) k st in
-        by (o .answer) (o .left) (pulses-like (binOf r) (merged r) k st h) (bins-like few rs)
+        let o = ranPulses s (binOf r) (numbersOf r) rows (merged r) k st in
+        by (o .answer) (o .left) (pulses-like (binOf r) (numbersOf r) (merged r) k st h) (bins-like few rs)
       where
         by : (a : Answer) (l : Rowed) → Like st k (length (merged r)) (out a l) → ((m : ℕ) (st' : Rowed) → length (st' .i) ≤ length (st' .scratch) → Like st' m (length rs * 65536) (ranBins s rows merged rs m st')) → Like st k (suc (length rs) * 65536) (andThen (out a l) (ranBins s rows merged rs))
         by (answer.Done m) l like rest =
@@ -163,8 +163,8 @@ module _ (s : Settings) (rows : ℕ) where
     unfolding ranBins
     bins-alike other same [] k st = refl
     bins-alike other same (r ∷ rs) k st =
-        let o = ranPulses s (binOf r) rows (other r) k st in
-        ap (λ (ps : List Pulse). andThen (ranPulses s (binOf r) rows ps k st) (ranBins s rows merged rs)) (same r) ∙ by (o .answer) (o .left) (bins-alike other same rs)
+        let o = ranPulses s (binOf r) (numbersOf r) rows (other r) k st in
+        ap (λ (ps : List Pulse). andThen (ranPulses s (binOf r) (numbersOf r) rows ps k st) (ranBins s rows merged rs)) (same r) ∙ by (o .answer) (o .left) (bins-alike other same rs)
       where
         by : (a : Answer) (l : Rowed) → ((m : ℕ) (st' : Rowed) → ranBins s rows merged rs m st' ≡ ranBins s rows other rs m st') → andThen (out a l) (ranBins s rows merged rs) ≡ andThen (out a l) (ranBins s rows other rs)
         by (answer.Done m) l f = f m l
@@ -208,10 +208,10 @@ module _ {s : Settings} {rows : ℕ} {merged : List Float → List Pulse} {befor
   new-is : p < length its → isAmong r (before ++ take p its) ≡ false → ranBins s rows merged (r ∷ behind) n st ≡ all
   new-is h e = ap (λ (rs : List (List Float)). ranBins s rows merged rs n st) (sym (ap (firstsAfter (before ++ take p its)) (drop-cons its p [] h) ∙ firsts-new (before ++ take p its) r (drop (suc p) its) e ∙ ap (λ (rs : List (List Float)). r ∷ rs) (further h))) ∙ l .whole
 
-  pub same-after : length (st₀ .i) ≤ length (st₀ .scratch) → (a : Answer) (st' : Rowed) → out a st' ≡ ranPulses s (binOf r) rows (merged r) n st → Like st n (length (merged r)) (out a st')
-  same-after h a st' e = rw e (pulses-like s rows (binOf r) (merged r) n st (omega (arith, h, l .same-i, l .same-scratch)))
+  pub same-after : length (st₀ .i) ≤ length (st₀ .scratch) → (a : Answer) (st' : Rowed) → out a st' ≡ ranPulses s (binOf r) (numbersOf r) rows (merged r) n st → Like st n (length (merged r)) (out a st')
+  same-after h a st' e = rw e (pulses-like s rows (binOf r) (numbersOf r) (merged r) n st (omega (arith, h, l .same-i, l .same-scratch)))
 
-  pub new-step : length (st₀ .i) ≤ length (st₀ .scratch) → length (merged r) ≤ 65536 → p < length its → isAmong r (before ++ take p its) ≡ false → (m : ℕ) (st' : Rowed) → out (answer.Done m) st' ≡ ranPulses s (binOf r) rows (merged r) n st → Listing s rows merged before its all st₀ added st' m (p + 1)
+  pub new-step : length (st₀ .i) ≤ length (st₀ .scratch) → length (merged r) ≤ 65536 → p < length its → isAmong r (before ++ take p its) ≡ false → (m : ℕ) (st' : Rowed) → out (answer.Done m) st' ≡ ranPulses s (binOf r) (numbersOf r) rows (merged r) n st → Listing s rows merged before its all st₀ added st' m (p + 1)
   new-step short few h new m st' e =
       let like = same-after short (answer.Done m) st' e in
       let less = like .count m refl in
@@ -224,7 +224,7 @@ module _ {s : Settings} {rows : ℕ} {merged : List Float → List Pulse} {befor
         whole = sym (bins-on s rows merged r behind n st st' m e) ∙ new-is h new;
       }
 
-  pub refused-step : p < length its → isAmong r (before ++ take p its) ≡ false → (why : Refusal) (m : ℕ) (st' : Rowed) → out (answer.Refused why m) st' ≡ ranPulses s (binOf r) rows (merged r) n st → out (answer.Refused why m) st' ≡ all
+  pub refused-step : p < length its → isAmong r (before ++ take p its) ≡ false → (why : Refusal) (m : ℕ) (st' : Rowed) → out (answer.Refused why m) st' ≡ ranPulses s (binOf r) (numbersOf r) rows (merged r) n st → out (answer.Refused why m) st' ≡ all
   refused-step h new why m st' e = sym (bins-refused s rows merged r behind n st st' why m e) ∙ new-is h new
 
   pub list-end : length its ≤ p → out (answer.Done n) st ≡ all
@@ -254,6 +254,6 @@ merged-few t bins work marks parts ends r a b c =
 -- what a bin came to, by the runs that were made for it
 pub by-runs : (s : Settings) (t : Tables) (bins work : List (List Float)) (marks : List ℕ) (parts : List Part) (ends : List ℕ) (rows n : ℕ) (row : List Float) (runs : Runs) (o : Out) (st : Rowed)
     → take (runs .count) (runs .runs) ≡ runsForFrom t bins marks row 0 parts ends
-    → o ≡ ranPulses s (binOf row) rows (summedAgain (t .time .0) (joined (runsIn (pulsesIn work marks) runs))) n st
-    → o ≡ ranPulses s (binOf row) rows (mergedIn t bins work marks parts ends row) n st
-by-runs s t bins work marks parts ends rows n row runs o st made e = e ∙ ap (λ (rs : List Run). ranPulses s (binOf row) rows (summedAgain (t .time .0) (joined (map (runIn (pulsesIn work marks)) rs))) n st) made
+    → o ≡ ranPulses s (binOf row) (numbersOf row) rows (summedAgain (t .time .0) (joined (runsIn (pulsesIn work marks) runs))) n st
+    → o ≡ ranPulses s (binOf row) (numbersOf row) rows (mergedIn t bins work marks parts ends row) n st
+by-runs s t bins work marks parts ends rows n row runs o st made e = e ∙ ap (λ (rs : List Run). ranPulses s (binOf row) (numbersOf row) rows (summedAgain (t .time .0) (joined (map (runIn (pulsesIn work marks)) rs))) n st) made

@@ -15,8 +15,9 @@ use Rattle.mixdown.specs.declared.onto.Added.the-variants.{Onto, Refused
 use Rattle.mixdown.specs.Sampled.{partsAt}
 
 -- the envelope at the held offset would leave the scratch as it is, whatever the room
-abbrev pub Holds : Settings → Bin → Held → List Float → Type 0
-Holds s b held scratch = held .some ≡ true → (room : ℕ) → scratchAfter (partsAt s b (held .offset) room) scratch ≡ scratch
+abbrev pub Holds : Settings → Bin → List Float → Held → List Float → Type 0
+Holds s b numbers held scratch =
+    held .some ≡ true → (room : ℕ) → scratchAfter (b .envelope .shape) numbers (partsAt s b (held .offset) room) scratch ≡ scratch
 
 abbrev pub accepted : Judged → Bool
 accepted (judgement.Plateau f) = true
@@ -24,6 +25,6 @@ accepted (judgement.Shaped c) = true
 accepted (judgement.Refused r) = false
 
 -- what the addition of a pulse that was judged tells, with the scratch that it leaves
-abbrev pub Told : Settings → Bin → Judged → Added → List Float → Type 0
-Told s b j (Onto held) scratch = (accepted j ≡ true) × Holds s b held scratch
-Told s b j (Refused r) scratch = j ≡ judgement.Refused r
+abbrev pub Told : Settings → Bin → List Float → Judged → Added → List Float → Type 0
+Told s b numbers j (Onto held) scratch = (accepted j ≡ true) × Holds s b numbers held scratch
+Told s b numbers j (Refused r) scratch = j ≡ judgement.Refused r

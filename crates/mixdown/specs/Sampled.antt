@@ -23,7 +23,7 @@ use Rattle.mix.specs.Plateau.{real, imaginary, carried}
 use Rattle.mix.specs.Envelope.{shapedBy}
 use Rattle.pulse.specs.declared.bin.Bin.{Bin}
 use Rattle.pulse.specs.declared.list.Pulse.{Pulse}
-use Rattle.pulse.specs.Bin.{binOf}
+use Rattle.pulse.specs.Bin.{binOf, numbersOf}
 use Rattle.placing.specs.declared.Flat.{Flat}
 use Rattle.placing.specs.declared.Curved.{Curved}
 use Rattle.placing.specs.declared.Judged.{Judged}
@@ -72,13 +72,14 @@ withPoints rows c i q scratch =
     scratch
 
 -- a shape: its envelope goes to the scratch, and the carrier times the envelope and its slope onto the rows
-abbrev pub withShape : Settings → Bin → ℕ → Curved → Rowed → Rowed
-withShape s b rows c st = withPoints rows c (st .i) (st .q) (scratchAfter (partsAt s b (c .offset) (length (st .i) - c .start)) (st .scratch))
+abbrev pub withShape : Settings → Bin → List Float → ℕ → Curved → Rowed → Rowed
+withShape s b numbers rows c st =
+    withPoints rows c (st .i) (st .q) (scratchAfter (b .envelope .shape) numbers (partsAt s b (c .offset) (length (st .i) - c .start)) (st .scratch))
 
-abbrev pub addedTo : Settings → Bin → ℕ → Judged → Rowed → Rowed
-addedTo s b rows (Plateau f) st = withPlateau rows f st
-addedTo s b rows (Shaped c) st = withShape s b rows c st
-addedTo s b rows (Refused r) st = st
+abbrev pub addedTo : Settings → Bin → List Float → ℕ → Judged → Rowed → Rowed
+addedTo s b numbers rows (Plateau f) st = withPlateau rows f st
+addedTo s b numbers rows (Shaped c) st = withShape s b numbers rows c st
+addedTo s b numbers rows (Refused r) st = st
 
 -- ---- one after another
 
@@ -89,11 +90,11 @@ unlessRefused (Plateau f) k st next = next
 unlessRefused (Shaped c) k st next = next
 
 -- the pulses of a bin
-unfoldable pub ranPulses : Settings → Bin → ℕ → List Pulse → ℕ → Rowed → Out
-ranPulses s b rows [] k st = out (answer.Done k) st
-ranPulses s b rows (p ∷ ps) k st =
-    let j = judged s b p (length (st .i)) in
-    unlessRefused j k st (ranPulses s b rows ps (suc k) (addedTo s b rows j st))
+unfoldable pub ranPulses : Settings → Bin → List Float → ℕ → List Pulse → ℕ → Rowed → Out
+ranPulses s b numbers rows [] k st = out (answer.Done k) st
+ranPulses s b numbers rows (p ∷ ps) k st =
+    let j = judged s b numbers p (length (st .i)) in
+    unlessRefused j k st (ranPulses s b numbers rows ps (suc k) (addedTo s b numbers rows j st))
 
 -- what comes behind a call's first part, unless that was refused
 abbrev pub andThen : Out → (ℕ → Rowed → Out) → Out
@@ -106,7 +107,7 @@ andThen o next = go (o .answer)
 -- the bins in order, each with its pulses
 unfoldable pub ranBins : Settings → ℕ → (List Float → List Pulse) → List (List Float) → ℕ → Rowed → Out
 ranBins s rows merged [] k st = out (answer.Done k) st
-ranBins s rows merged (r ∷ rs) k st = andThen (ranPulses s (binOf r) rows (merged r) k st) (ranBins s rows merged rs)
+ranBins s rows merged (r ∷ rs) k st = andThen (ranPulses s (binOf r) (numbersOf r) rows (merged r) k st) (ranBins s rows merged rs)
 
 -- ---- the whole of it, for anything that is lent
 

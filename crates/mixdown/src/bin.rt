@@ -5,7 +5,7 @@ ghost use Prim.Native.Nat.{_≤_, _<_, _^_};
 ghost use mathlib.Core.Bool.{true};
 ghost use lib.ListN.{length, getD};
 ghost use Rattle.rows.specs.Rows.{rowsFit};
-ghost use Rattle.pulse.specs.Bin.{binOf};
+ghost use Rattle.pulse.specs.Bin.{binOf, numbersOf};
 ghost use Rattle.merge.specs.Sum.{scaledP, summedAgain};
 ghost use Rattle.merge.specs.Join.{joined};
 ghost use Rattle.mixdown.specs.Runs.{Within, noRun, pulseAt, pulsesIn, runsIn};
@@ -29,7 +29,7 @@ use quant::settings::Settings;
 
 pub(crate) fn sample_bin(
     s: Settings,
-    row: [f64; 5],
+    row: [f64; 77],
     tolerance: Time,
     runs: Runs,
     work: &[[f64; 5]],
@@ -42,7 +42,7 @@ pub(crate) fn sample_bin(
 ) -> Answer
     requires { ⌜ (length (now work) ≡ 8192) × (length (now marks) ≡ 8192) × (runs .count ≤ 8) × Within (runs .runs) ⌝ }
     requires { ⌜ (rowsFit rows (length (now i)) (length (now q)) ≡ true) × (length (now i) ≤ length (now scratch)) × (added ≤ 2 ^ 60) ⌝ }
-    ensures { λ r. ⌜ out r (rowed (now (i .exit)) (now (q .exit)) (now (scratch .exit))) ≡ ranPulses s (binOf row) rows (summedAgain (tolerance .0) (joined (runsIn (pulsesIn (now (work .entry)) (now (marks .entry))) runs))) added (rowed (now (i .entry)) (now (q .entry)) (now (scratch .entry))) ⌝ }
+    ensures { λ r. ⌜ out r (rowed (now (i .exit)) (now (q .exit)) (now (scratch .exit))) ≡ ranPulses s (binOf row) (numbersOf row) rows (summedAgain (tolerance .0) (joined (runsIn (pulsesIn (now (work .entry)) (now (marks .entry))) runs))) added (rowed (now (i .entry)) (now (q .entry)) (now (scratch .entry))) ⌝ }
 {
     let mut r = runs;
     let mut p = pick(r, work, marks);
@@ -65,7 +65,7 @@ pub(crate) fn sample_bin(
         if is_near(kept.time, next.time, tolerance) {
             kept = plus(kept, next);
         } else {
-            match add_pulse(s, b, kept, held, rows, i, q, scratch) {
+            match add_pulse(s, b, &row[5..77], kept, held, rows, i, q, scratch) {
                 Added::Onto(h) => {
                     held = h;
                     kept = next;
@@ -77,7 +77,7 @@ pub(crate) fn sample_bin(
             }
         }
     }
-    match add_pulse(s, b, kept, held, rows, i, q, scratch) {
+    match add_pulse(s, b, &row[5..77], kept, held, rows, i, q, scratch) {
         Added::Onto(_) => Answer::Done(n + 1),
         Added::Refused(why) => Answer::Refused(why, n),
     }

@@ -12,6 +12,7 @@ use super::runs::Runs;
 use super::runs::advance;
 use merge::taking::Taking;
 use merge::work::Ends;
+use pulse::bin::head_in;
 use pulse::bin::place;
 use tables::Tables;
 
@@ -35,7 +36,7 @@ pub(crate) fn bins_held(t: Tables, i: usize) -> usize
     64
 }
 
-pub(crate) fn place_in(t: Tables, bins: &[[f64; 5]], i: usize, row: [f64; 5]) -> Target
+pub(crate) fn place_in(t: Tables, bins: &[[f64; 77]], i: usize, row: [f64; 77]) -> Target
     requires { ⌜ length (now bins) ≡ 512 ⌝ }
     ensures { λ r. ⌜ r ≡ targetOf (rowsOf t (now (bins .entry)) i) row ⌝ }
 {
@@ -47,7 +48,7 @@ pub(crate) fn place_in(t: Tables, bins: &[[f64; 5]], i: usize, row: [f64; 5]) ->
         };
     }
     let first = 64 * i;
-    let at = place(row, &bins[first..first + many]);
+    let at = place(head_in(row), &row[5..77], &bins[first..first + many]);
     Target {
         some: at < many,
         place: at,
@@ -58,9 +59,9 @@ pub(crate) fn place_in(t: Tables, bins: &[[f64; 5]], i: usize, row: [f64; 5]) ->
 pub(crate) fn appeared(
     t: Tables,
     taking: Taking,
-    bins: &[[f64; 5]],
+    bins: &[[f64; 77]],
     k: usize,
-    row: [f64; 5],
+    row: [f64; 77],
 ) -> bool
     requires { ⌜ (length (now bins) ≡ 512) × (taking .count ≤ 8) × (k ≤ taking .count) ⌝ }
     ensures { λ r. ⌜ r ≡ isAmong row (allRows t (now (bins .entry)) (take k (partsIn taking))) ⌝ }
@@ -81,9 +82,9 @@ pub(crate) fn runs_for(
     t: Tables,
     taking: Taking,
     ends: Ends,
-    bins: &[[f64; 5]],
+    bins: &[[f64; 77]],
     marks: &[usize],
-    row: [f64; 5],
+    row: [f64; 77],
 ) -> Runs
     requires { ⌜ (length (now bins) ≡ 512) × (length (now marks) ≡ 8192) × (taking .count ≤ 8) × Ended (ends .ends) ⌝ }
     ensures { λ r. ⌜ (take (r .count) (r .runs) ≡ runsForFrom t (now (bins .entry)) (now (marks .entry)) row 0 (partsIn taking) (ends .ends)) × (r .count ≤ 8) × Within (r .runs) ⌝ }

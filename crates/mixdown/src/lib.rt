@@ -25,7 +25,7 @@ pub fn mix_lists(
     t: Tables,
     taking: Taking,
     ends: Ends,
-    bins: &[[f64; 5]],
+    bins: &[[f64; 77]],
     work: &mut [[f64; 5]],
     marks: &mut [usize],
     rows: usize,

@@ -16,6 +16,7 @@ use super::bins::bins_held;
 use super::bins::runs_for;
 use merge::taking::Taking;
 use merge::work::Ends;
+use pulse::bin::head_in;
 use pulse::bin::place;
 use quant::refusal::Answer;
 use quant::settings::Settings;
@@ -26,7 +27,7 @@ pub(crate) fn sample_lists(
     t: Tables,
     taking: Taking,
     ends: Ends,
-    bins: &[[f64; 5]],
+    bins: &[[f64; 77]],
     work: &[[f64; 5]],
     marks: &[usize],
     rows: usize,
@@ -76,7 +77,7 @@ fn sample_list(
     taking: Taking,
     ends: Ends,
     k: usize,
-    bins: &[[f64; 5]],
+    bins: &[[f64; 77]],
     work: &[[f64; 5]],
     marks: &[usize],
     rows: usize,
@@ -118,11 +119,11 @@ fn sample_list(
 fn seen(
     t: Tables,
     taking: Taking,
-    bins: &[[f64; 5]],
+    bins: &[[f64; 77]],
     k: usize,
     at: usize,
     p: usize,
-    row: [f64; 5],
+    row: [f64; 77],
 ) -> bool
     requires { ⌜ (length (now bins) ≡ 512) × (taking .count ≤ 8) × (k ≤ taking .count) × (at < 8) × (p ≤ binsHeld t at) ⌝ }
     ensures { λ r. ⌜ r ≡ isAmong row (allRows t (now (bins .entry)) (take k (partsIn taking)) ++ take p (rowsOf t (now (bins .entry)) at)) ⌝ }
@@ -131,5 +132,5 @@ fn seen(
         return true;
     }
     let first = 64 * at;
-    place(row, &bins[first..first + p]) < p
+    place(head_in(row), &row[5..77], &bins[first..first + p]) < p
 }

@@ -34,6 +34,7 @@ pub enum Added {
 pub(crate) fn add_pulse(
     s: Settings,
     b: Bin,
+    numbers: &[f64],
     p: Pulse,
     held: Held,
     rows: usize,
@@ -41,16 +42,16 @@ pub(crate) fn add_pulse(
     q: &mut [f64],
     scratch: &mut [f64],
 ) -> Added
-    requires { ⌜ (rowsFit rows (length (now i)) (length (now q)) ≡ true) × (length (now i) ≤ length (now scratch)) × Holds s b held (now scratch) ⌝ }
-    ensures { λ r. ⌜ rowed (now (i .exit)) (now (q .exit)) (now (scratch .exit)) ≡ addedTo s b rows (judged s b p (length (now (i .entry)))) (rowed (now (i .entry)) (now (q .entry)) (now (scratch .entry))) ⌝ }
-    ensures { λ r. ⌜ Told s b (judged s b p (length (now (i .entry)))) r (now (scratch .exit)) ⌝ }
+    requires { ⌜ (rowsFit rows (length (now i)) (length (now q)) ≡ true) × (length (now i) ≤ length (now scratch)) × Holds s b (now numbers) held (now scratch) ⌝ }
+    ensures { λ r. ⌜ rowed (now (i .exit)) (now (q .exit)) (now (scratch .exit)) ≡ addedTo s b (now (numbers .entry)) rows (judged s b (now (numbers .entry)) p (length (now (i .entry)))) (rowed (now (i .entry)) (now (q .entry)) (now (scratch .entry))) ⌝ }
+    ensures { λ r. ⌜ Told s b (now (numbers .entry)) (judged s b (now (numbers .entry)) p (length (now (i .entry)))) r (now (scratch .exit)) ⌝ }
 {
-    match judge(s, b, p, i.len()) {
+    match judge(s, b, numbers, p, i.len()) {
         Judged::Plateau(f) => {
             add_plateau(rows, i, q, f.start, f.count, f.carrier, f.rotation);
             Added::Onto(held)
         }
-        Judged::Shaped(c) => Added::Onto(add_shaped(s, b, c, held, rows, i, q, scratch)),
+        Judged::Shaped(c) => Added::Onto(add_shaped(s, b, numbers, c, held, rows, i, q, scratch)),
         Judged::Refused(r) => Added::Refused(r),
     }
 }
@@ -59,6 +60,7 @@ pub(crate) fn add_pulse(
 fn add_shaped(
     s: Settings,
     b: Bin,
+    numbers: &[f64],
     c: Curved,
     held: Held,
     rows: usize,
@@ -66,13 +68,13 @@ fn add_shaped(
     q: &mut [f64],
     scratch: &mut [f64],
 ) -> Held
-    requires { ⌜ (c .start + c .points ≤ length (now i)) × (envelopedOf (partsAt s b (c .offset) (length (now i) - c .start)) ≡ Points (c .points)) × (length (now i) ≤ length (now scratch)) × Holds s b held (now scratch) ⌝ }
-    ensures { λ r. ⌜ rowed (now (i .exit)) (now (q .exit)) (now (scratch .exit)) ≡ withShape s b rows c (rowed (now (i .entry)) (now (q .entry)) (now (scratch .entry))) ⌝ }
-    ensures { λ r. ⌜ Holds s b r (now (scratch .exit)) ⌝ }
+    requires { ⌜ (c .start + c .points ≤ length (now i)) × (envelopedOf (b .envelope .shape) (now numbers) (partsAt s b (c .offset) (length (now i) - c .start)) ≡ Points (c .points)) × (length (now i) ≤ length (now scratch)) × Holds s b (now numbers) held (now scratch) ⌝ }
+    ensures { λ r. ⌜ rowed (now (i .exit)) (now (q .exit)) (now (scratch .exit)) ≡ withShape s b (now (numbers .entry)) rows c (rowed (now (i .entry)) (now (q .entry)) (now (scratch .entry))) ⌝ }
+    ensures { λ r. ⌜ Holds s b (now (numbers .entry)) r (now (scratch .exit)) ⌝ }
 {
     let start = c.start;
     let points = c.points;
-    hold(s, b, c.offset, held, i.len() - start, scratch);
+    hold(s, b, numbers, c.offset, held, i.len() - start, scratch);
     add_envelope(
         rows,
         i,
@@ -91,9 +93,17 @@ fn add_shaped(
 }
 
 // The envelope at an offset into the scratch, unless it is there.
-fn hold(s: Settings, b: Bin, offset: f64, held: Held, room: usize, scratch: &mut [f64])
-    requires { ⌜ (room ≤ length (now scratch)) × Holds s b held (now scratch) ⌝ }
-    ensures { λ r. ⌜ now (scratch .exit) ≡ scratchAfter (partsAt s b offset room) (now (scratch .entry)) ⌝ }
+fn hold(
+    s: Settings,
+    b: Bin,
+    numbers: &[f64],
+    offset: f64,
+    held: Held,
+    room: usize,
+    scratch: &mut [f64],
+)
+    requires { ⌜ (room ≤ length (now scratch)) × Holds s b (now numbers) held (now scratch) ⌝ }
+    ensures { λ r. ⌜ now (scratch .exit) ≡ scratchAfter (b .envelope .shape) (now (numbers .entry)) (partsAt s b offset room) (now (scratch .entry)) ⌝ }
 {
     if held.some {
         if same_offset(held.offset, offset) {
@@ -101,7 +111,18 @@ fn hold(s: Settings, b: Bin, offset: f64, held: Held, room: usize, scratch: &mut
         }
     }
     let e = b.envelope;
-    envelope(e.width, e.plateau, offset, s.rate, s.dt, room, scratch);
+    let shape = e.shape;
+    envelope(
+        shape,
+        numbers,
+        e.width,
+        e.plateau,
+        offset,
+        s.rate,
+        s.dt,
+        room,
+        scratch,
+    );
 }
 
 // Whether two offsets have the same bits. No NaN has.

@@ -28,23 +28,23 @@ abbrev Bins : Type 0
 Bins = List (List Float)
 
 -- no command leaves all as it came, whatever is answered
-none-run : (t : Tables) (bs : Bins) (ps : List Pulse) (r : Tabled) (bs′ : Bins) (zs : List Pulse) → ranTo r bs′ zs ≡ executed t [] bs ps
+none-run : (t : Tables) (fs bs : Bins) (ps : List Pulse) (r : Tabled) (bs′ : Bins) (zs : List Pulse) → ranTo r bs′ zs ≡ executed t fs [] bs ps
     → ranTo (refusedAt (r .tables) WrongSize 0) bs′ zs ≡ ranTo (refusedAt t WrongSize 0) bs ps
 unfolding ran
-none-run t bs ps r bs′ zs e = ap refused e ∙ go (sizesFit 0 (length bs) (length ps))
+none-run t fs bs ps r bs′ zs e = ap refused e ∙ go (sizesFit 0 (length fs) (length bs) (length ps))
   where
     refused : Ran → Ran
     refused x = ranTo (refusedAt (x .result .tables) WrongSize 0) (x .bins) (x .pulses)
 
-    go : (b : Bool) → refused (cond b (ran 0 t [] bs ps) (ranTo (refusedAt t WrongSize 0) bs ps)) ≡ ranTo (refusedAt t WrongSize 0) bs ps
+    go : (b : Bool) → refused (cond b (ran 0 t fs [] bs ps) (ranTo (refusedAt t WrongSize 0) bs ps)) ≡ ranTo (refusedAt t WrongSize 0) bs ps
     go true = refl
     go false = refl
 
-pub as-counted : (t : Tables) (cs : List Arranged) (count : ℕ) (bs : Bins) (ps : List Pulse) (r : Tabled) (bs′ : Bins) (zs : List Pulse)
-    → ranTo r bs′ zs ≡ executed t (take (toRun count) cs) bs ps → ranTo (toldOf count r) bs′ zs ≡ executedOwned t cs count bs ps
-as-counted t cs count bs ps r bs′ zs e = go (leb count 1024) e
+pub as-counted : (t : Tables) (fs : Bins) (cs : List Arranged) (count : ℕ) (bs : Bins) (ps : List Pulse) (r : Tabled) (bs′ : Bins) (zs : List Pulse)
+    → ranTo r bs′ zs ≡ executed t fs (take (toRun count) cs) bs ps → ranTo (toldOf count r) bs′ zs ≡ executedOwned t fs cs count bs ps
+as-counted t fs cs count bs ps r bs′ zs e = go (leb count 1024) e
   where
-    go : (b : Bool) → ranTo r bs′ zs ≡ executed t (take (cond b count 0) cs) bs ps
-        → ranTo (cond b r (refusedAt (r .tables) WrongSize 0)) bs′ zs ≡ cond b (executed t (take count cs) bs ps) (ranTo (refusedAt t WrongSize 0) bs ps)
+    go : (b : Bool) → ranTo r bs′ zs ≡ executed t fs (take (cond b count 0) cs) bs ps
+        → ranTo (cond b r (refusedAt (r .tables) WrongSize 0)) bs′ zs ≡ cond b (executed t fs (take count cs) bs ps) (ranTo (refusedAt t WrongSize 0) bs ps)
     go true q = q
-    go false q = none-run t bs ps r bs′ zs q
+    go false q = none-run t fs bs ps r bs′ zs q

@@ -14,9 +14,9 @@ use Rattle.commands.specs.Run.{Ran, ranTo, refusedAt, executed}
 use Rattle.owned.specs.declared.Executed.{Executed}
 
 -- the first `count` commands; with a count over 1,024 13, at place 0, and all as it came
-abbrev pub executedOwned : Tables → List Arranged → ℕ → List (List Float) → List Pulse → Ran
-executedOwned t commands count bins pulses =
-    cond (leb count 1024) (executed t (take count commands) bins pulses) (ranTo (refusedAt t WrongSize 0) bins pulses)
+abbrev pub executedOwned : Tables → List (List Float) → List Arranged → ℕ → List (List Float) → List Pulse → Ran
+executedOwned t splines commands count bins pulses =
+    cond (leb count 1024) (executed t splines (take count commands) bins pulses) (ranTo (refusedAt t WrongSize 0) bins pulses)
 
 -- how many are handed on, and what is answered: none, and 13, where the count is over 1,024
 abbrev pub toRun : ℕ → ℕ

@@ -19,16 +19,17 @@ pub struct Executed {
 // The first `count` commands. A count over 1,024 is refusal 13: then none runs, so that all stays as it came.
 pub fn execute_owned(
     t: Tables,
+    splines: &[[f64; 72]],
     commands: [Arranged; 1024],
     count: usize,
-    bins: &mut [[f64; 5]],
+    bins: &mut [[f64; 77]],
     pulses: [Pulse; 8192],
 ) -> Executed
-    ensures { λ r. ⌜ ranTo (r .tabled) (now (bins .exit)) (r .pulses) ≡ executedOwned t commands count (now (bins .entry)) pulses ⌝ }
+    ensures { λ r. ⌜ ranTo (r .tabled) (now (bins .exit)) (r .pulses) ≡ executedOwned t (now (splines .entry)) commands count (now (bins .entry)) pulses ⌝ }
 {
     let mut lent = pulses;
     let n = to_run(count);
-    let tabled = execute(t, &commands[..n], bins, &mut lent);
+    let tabled = execute(t, splines, &commands[..n], bins, &mut lent);
     let left = lent;
     with_pulses(count, tabled, left)
 }

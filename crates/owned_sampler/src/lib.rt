@@ -15,7 +15,7 @@ pub fn sample_owned(
     r: Request,
     c: Crosstalk,
     factors: &[f64],
-    bins: &[[f64; 5]],
+    bins: &[[f64; 77]],
     pulses: [Pulse; 8192],
     i: &mut [f64],
     q: &mut [f64],

@@ -5,6 +5,7 @@ use native.Mathlib.Omega.{arith}
 use native.Mathlib.Nat.{le-trans}
 use mathlib.Core.Path.{_≡_, refl, subst}
 use mathlib.Core.Bool.{true, _&&_}
+use mathlib.Core.List.{List}
 use lib.Ieee.{Float}
 use Rattle.quant.specs.declared.aligned.Placed.the-variants as placed
 use Rattle.quant.specs.declared.phaser.Phased.the-variants.{Pair}
@@ -16,8 +17,9 @@ use Rattle.shape.specs.declared.envelope.Enveloped.the-variants as enveloped
 use Rattle.shape.proofs.Envelopes.{points-fit}
 use Rattle.shape.proofs.Filling.{least-left, least-right}
 use Rattle.pulse.specs.declared.bin.Bin.{Bin}
-use Rattle.pulse.specs.declared.envelope.Shape.the-variants.{Plain, Hann}
+use Rattle.pulse.specs.declared.envelope.Shape.the-variants.{Plain}
 use Rattle.pulse.specs.declared.list.Pulse.{Pulse}
+use Rattle.pulse.specs.Envelope.{isShaped}
 use Rattle.placing.specs.declared.Flat.{Flat}
 use Rattle.placing.specs.declared.Curved.{Curved}
 use Rattle.placing.specs.declared.Judged.the-variants.{Plateau, Shaped}
@@ -43,12 +45,13 @@ module _ (s : Settings) (b : Bin) (p : Pulse) (len : ℕ) where
     pub carrier : f .carrier ≡ timesC (startPair s b (f .start) offset) (p .amp)
     pub rotation : f .rotation ≡ rotationPair s b
 
+module _ (s : Settings) (b : Bin) (numbers : List Float) (p : Pulse) (len : ℕ) where
   -- ---- with a shape
   pub record HeldCurved (c : Curved) : Type 0 where
     pub placed : placedAt s p ≡ placed.Start (c .start) (c .offset)
     pub inside : c .start < len
-    pub shape : b .envelope .shape ≡ Hann
-    pub points : measuredAt s b (c .offset) (len - c .start) ≡ enveloped.Points (c .points)
+    pub shape : isShaped (b .envelope .shape) ≡ true
+    pub points : measuredAt s b numbers (c .offset) (len - c .start) ≡ enveloped.Points (c .points)
     pub fits : c .start + c .points ≤ len
     pub few : c .points ≤ 65536
     pub weight : allFinite (weightNumbers p) ≡ true
@@ -61,11 +64,11 @@ module _ (s : Settings) (b : Bin) (p : Pulse) (len : ℕ) where
     pub carrier : c .carrier ≡ startPair s b (c .start) (c .offset)
     pub rotation : c .rotation ≡ rotationPair s b
 
-  pub flat-held : (f : Flat) → judged s b p len ≡ Plateau f → HeldFlat f
-  flat-held f e = by (way s b p len (Plateau f) e)
+  pub flat-held : (f : Flat) → judged s b numbers p len ≡ Plateau f → HeldFlat s b p len f
+  flat-held f e = by (way s b numbers p len (Plateau f) e)
     where
       held : (k : Inside s b p len) → b .envelope .shape ≡ Plain → k .start + countOf s b ≤ len
-          → plainFine s b p (k .start) (k .offset) ≡ true → HeldFlat (flatOf s b p (k .start) (k .offset))
+          → plainFine s b p (k .start) (k .offset) ≡ true → HeldFlat s b p len (flatOf s b p (k .start) (k .offset))
       held k z h m =
           let fine = both (allFinite (weightNumbers p)) (allFinite (phaseNumbers s b (k .start) (k .offset))) m in
           record {
@@ -83,7 +86,7 @@ module _ (s : Settings) (b : Bin) (p : Pulse) (len : ℕ) where
             rotation = refl;
           }
 
-      by : Way s b p len (Plateau f) → HeldFlat f
+      by : Way s b numbers p len (Plateau f) → HeldFlat s b p len f
       by (no-index g e) = let z : _≡_ {A = ℕ} 0 1 = cc in absurd (omega arith)
       by (before g e) = let z : _≡_ {A = ℕ} 0 1 = cc in absurd (omega arith)
       by (beyond g e) = let z : _≡_ {A = ℕ} 0 1 = cc in absurd (omega arith)
@@ -92,18 +95,18 @@ module _ (s : Settings) (b : Bin) (p : Pulse) (len : ℕ) where
       by (over k z h e) = let z : _≡_ {A = ℕ} 0 1 = cc in absurd (omega arith)
       by (plain-rest k z h m e) = let z : _≡_ {A = ℕ} 0 1 = cc in absurd (omega arith)
       by (curved-rest k n z m h e) = let z : _≡_ {A = ℕ} 0 1 = cc in absurd (omega arith)
-      by (flat k z h m e) = let same : flatOf s b p (k .start) (k .offset) ≡ f = cc in subst (λ (q : Flat). HeldFlat q) same (held k z h m)
+      by (flat k z h m e) = let same : flatOf s b p (k .start) (k .offset) ≡ f = cc in subst (λ (q : Flat). HeldFlat s b p len q) same (held k z h m)
       by (curved k n z m h e) = let z : _≡_ {A = ℕ} 0 1 = cc in absurd (omega arith)
 
-  pub curved-held : (c : Curved) → judged s b p len ≡ Shaped c → HeldCurved c
-  curved-held c e = by (way s b p len (Shaped c) e)
+  pub curved-held : (c : Curved) → judged s b numbers p len ≡ Shaped c → HeldCurved c
+  curved-held c e = by (way s b numbers p len (Shaped c) e)
     where
-      held : (k : Inside s b p len) (n : ℕ) → b .envelope .shape ≡ Hann → measuredAt s b (k .offset) (len - k .start) ≡ enveloped.Points n
+      held : (k : Inside s b p len) (n : ℕ) → isShaped (b .envelope .shape) ≡ true → measuredAt s b numbers (k .offset) (len - k .start) ≡ enveloped.Points n
           → curvedFine s b p (k .start) (k .offset) ≡ true → HeldCurved (curvedOf s b p (k .start) (k .offset) n)
       held k n z m h =
           let fine = both (allFinite (weightNumbers p) && allFinite (dragNumbers s p)) (allFinite (phaseNumbers s b (k .start) (k .offset))) h in
           let weights = both (allFinite (weightNumbers p)) (allFinite (dragNumbers s p)) (fine .0) in
-          let room = points-fit _ _ _ _ _ _ n m in
+          let room = points-fit (b .envelope .shape) numbers _ _ _ _ _ _ n m in
           record {
             placed = k .placed;
             inside = k .inside;
@@ -122,7 +125,7 @@ module _ (s : Settings) (b : Bin) (p : Pulse) (len : ℕ) where
             rotation = refl;
           }
 
-      by : Way s b p len (Shaped c) → HeldCurved c
+      by : Way s b numbers p len (Shaped c) → HeldCurved c
       by (no-index g e) = let z : _≡_ {A = ℕ} 0 1 = cc in absurd (omega arith)
       by (before g e) = let z : _≡_ {A = ℕ} 0 1 = cc in absurd (omega arith)
       by (beyond g e) = let z : _≡_ {A = ℕ} 0 1 = cc in absurd (omega arith)

@@ -2,6 +2,7 @@
 use Prim.Native.Nat.{ℕ}
 use native.Mathlib.Omega.{arith}
 use mathlib.Core.Path.{_≡_}
+use mathlib.Core.List.{List}
 use lib.Ieee.{Float}
 use Rattle.quant.specs.declared.aligned.Aligned.{Aligned}
 use Rattle.quant.specs.declared.aligned.Aligned.the-variants as aligned
@@ -19,6 +20,7 @@ use Rattle.shape.specs.declared.parts.Parted.the-variants as parted
 use Rattle.shape.specs.Parts.{partedAnswer}
 use Rattle.shape.specs.Envelope.{envelopedOf, envelopedAnswer}
 use Rattle.pulse.specs.declared.bin.Bin.{Bin}
+use Rattle.pulse.specs.declared.envelope.Shape.{Shape}
 use Rattle.pulse.specs.declared.list.Pulse.{Pulse}
 use Rattle.placing.specs.Judged.{shapedAt, judgedAt, judgedAnswer}
 
@@ -33,13 +35,13 @@ pub start-handed : (a : Aligned) → Handed (alignedAnswer a) (placedAnswer (pla
 start-handed (aligned.Index x) = accepted 0 (placedAnswer (placedOf (aligned.Index x)))
 start-handed aligned.NotFinite = λ r k e. e
 
-pub points-handed : (x : Parted) → Handed (partedAnswer x) (envelopedAnswer (envelopedOf x))
-points-handed (parted.Within p) = accepted 0 (envelopedAnswer (envelopedOf (parted.Within p)))
-points-handed (parted.Refused r) = λ q k e. e
+pub points-handed : (shape : Shape) (numbers : List Float) (x : Parted) → Handed (partedAnswer x) (envelopedAnswer (envelopedOf shape numbers x))
+points-handed shape numbers (parted.Within p) = accepted 0 (envelopedAnswer (envelopedOf shape numbers (parted.Within p)))
+points-handed shape numbers (parted.Refused r) = λ q k e. e
 
-module _ (s : Settings) (b : Bin) (p : Pulse) where
-  pub judged-handed : (len : ℕ) (x : Placed) → Handed (placedAnswer x) (judgedAnswer (judgedAt s b p len x))
-  judged-handed len (placed.Start start offset) = accepted 0 (judgedAnswer (judgedAt s b p len (placed.Start start offset)))
+module _ (s : Settings) (b : Bin) (numbers : List Float) (p : Pulse) where
+  pub judged-handed : (len : ℕ) (x : Placed) → Handed (placedAnswer x) (judgedAnswer (judgedAt s b numbers p len x))
+  judged-handed len (placed.Start start offset) = accepted 0 (judgedAnswer (judgedAt s b numbers p len (placed.Start start offset)))
   judged-handed len placed.NotFinite = λ r k e. e
   judged-handed len placed.Before = λ r k e. e
   judged-handed len placed.Beyond = λ r k e. e

@@ -6,7 +6,8 @@ use Prim.Native.Nat.{ℕ, _+_, _-_, _*_, _^_, _≤_, _<_}
 use native.Mathlib.Omega.{arith}
 use native.Mathlib.Nat.{mul-assoc, mul-comm, mul-pos, mul-le-mul-right, le-of-lt}
 use mathlib.Core.Path.{_≡_, refl, sym, ap, subst, _∙_}
-use mathlib.Core.Bool.{Bool, true, false, _&&_}
+use mathlib.Core.Bool.{Bool, true, false, _&&_, true≢false}
+use mathlib.Core.List.{List}
 use lib.Dec.{T}
 use lib.IntN.{pos, negsuc}
 use lib.Pow.{pow-pos}
@@ -35,30 +36,29 @@ use Rattle.shape.proofs.Filling.{least-left, least-right}
 use Rattle.shape.proofs.Laying.{past-row}
 use Rattle.shape.proofs.Twelve.{Measurable, twelve}
 use Rattle.pulse.specs.declared.bin.Bin.{Bin}
-use Rattle.pulse.specs.declared.envelope.Shape.{Shape}
-use Rattle.pulse.specs.declared.envelope.Shape.the-variants.{Plain, Hann}
 use Rattle.pulse.specs.declared.list.Pulse.{Pulse}
 use Rattle.pulse.specs.Bin.{GoodBin}
+use Rattle.pulse.specs.Envelope.{isShaped}
 use Rattle.placing.specs.declared.Judged.the-variants.{Refused}
 use Rattle.placing.specs.Judged.{countOf, measuredAt, judged}
-use Rattle.placing.proofs.Ways.{Inside, Way, no-index, before, beyond, past, unshaped, over, plain-rest, curved-rest, flat, curved, way, way-given}
+use Rattle.placing.proofs.Ways.{Inside, Way, no-index, before, beyond, past, unshaped, over, plain-rest, curved-rest, flat, curved, plain-only, way, way-given}
 
 -- ---- the end index
 
 -- how many samples a pulse has: ceil(plateau*rate) without a shape; with one its envelope's, ceil(t3*rate)
-abbrev pub samplesOf : Settings → Bin → Float → Shape → ℕ
-samplesOf s b offset Plain = countOf s b
-samplesOf s b offset Hann = indexAt (t3 (b .envelope .width .0) (b .envelope .plateau .0) offset (s .rate .0) (s .dt .0)) (s .rate .0)
+abbrev pub samplesOf : Settings → Bin → Float → Bool → ℕ
+samplesOf s b offset false = countOf s b
+samplesOf s b offset true = indexAt (t3 (b .envelope .width .0) (b .envelope .plateau .0) offset (s .rate .0) (s .dt .0)) (s .rate .0)
 
 -- it starts within the row, meets no 11, and its end index is over the row length
 pub record Over (s : Settings) (b : Bin) (p : Pulse) (len : ℕ) : Type 0 where
   pub at : Inside s b p len
-  pub reaches : b .envelope .shape ≡ Hann → lt (t1 (b .envelope .width .0) (b .envelope .plateau .0) (at .offset) (s .rate .0) (s .dt .0)) nought ≡ false
-  pub over : len < at .start + samplesOf s b (at .offset) (b .envelope .shape)
+  pub reaches : isShaped (b .envelope .shape) ≡ true → lt (t1 (b .envelope .width .0) (b .envelope .plateau .0) (at .offset) (s .rate .0) (s .dt .0)) nought ≡ false
+  pub over : len < at .start + samplesOf s b (at .offset) (isShaped (b .envelope .shape))
 
 -- ---- it is given there
-pub twelve-given : (s : Settings) (b : Bin) (p : Pulse) (len : ℕ) → Over s b p len → judged s b p len ≡ Refused EndPastRow
-twelve-given s b p len h = by (b .envelope .shape) refl (h .over)
+pub twelve-given : (s : Settings) (b : Bin) (numbers : List Float) (p : Pulse) (len : ℕ) → Over s b p len → judged s b numbers p len ≡ Refused EndPastRow
+twelve-given s b numbers p len h = by (isShaped (b .envelope .shape)) refl (h .over)
   where
     k : Inside s b p len
     k = h .at
@@ -66,13 +66,13 @@ twelve-given s b p len h = by (b .envelope .shape) refl (h .over)
     room : ℕ
     room = least (len - k .start) 65536
 
-    by : (z : Shape) → b .envelope .shape ≡ z → len < k .start + samplesOf s b (k .offset) z → judged s b p len ≡ Refused EndPastRow
-    by Plain z o = way-given s b p len (Refused EndPastRow) (over k z o refl)
-    by Hann z o =
-        let n = samplesOf s b (k .offset) Hann in
+    by : (z : Bool) → isShaped (b .envelope .shape) ≡ z → len < k .start + samplesOf s b (k .offset) z → judged s b numbers p len ≡ Refused EndPastRow
+    by false z o = way-given s b numbers p len (Refused EndPastRow) (over k (plain-only (b .envelope .shape) z) o refl)
+    by true z o =
+        let n = samplesOf s b (k .offset) true in
         let less = least-left (len - k .start) 65536 in
         let parted = past-row (b .envelope .width .0) (b .envelope .plateau .0) (k .offset) (s .rate .0) (s .dt .0) room (h .reaches z) n refl (lt-ltb room n (omega (arith, less, o, k .inside))) in
-        way-given s b p len (Refused EndPastRow) (unshaped k EndPastRow z (sym (ap envelopedOf parted)) refl)
+        way-given s b numbers p len (Refused EndPastRow) (unshaped k EndPastRow z (sym (ap (envelopedOf (b .envelope .shape) numbers) parted)) refl)
 
 -- ---- an offset in time is finite
 
@@ -148,8 +148,8 @@ ends left len start n few inside is more =
     let whole : least left 65536 ≡ left = rw (le-leb left 65536 (omega arith)) in
     omega (arith, whole)
 
-module _ (s : Settings) (b : Bin) (p : Pulse) (len : ℕ) (h : Judgeable s b len) where
-  measurable : (k : Inside s b p len) → b .envelope .shape ≡ Hann → Measurable (b .envelope .width .0) (b .envelope .plateau .0) (k .offset) (s .rate .0) (s .dt .0)
+module _ (s : Settings) (b : Bin) (numbers : List Float) (p : Pulse) (len : ℕ) (h : Judgeable s b len) where
+  measurable : (k : Inside s b p len) → isShaped (b .envelope .shape) ≡ true → Measurable (b .envelope .width .0) (b .envelope .plateau .0) (k .offset) (s .rate .0) (s .dt .0)
   measurable k z =
       let c = clock s (h .fit) in
       let o = place-exact (add binary64 (p .time .0) (s .delay .0)) (s .rate .0) (s .level) (k .start) (k .offset) (c .low) (c .high) (k .placed) in
@@ -171,21 +171,21 @@ module _ (s : Settings) (b : Bin) (p : Pulse) (len : ℕ) (h : Judgeable s b len
       }
 
   -- an envelope that has no room
-  past-end : (k : Inside s b p len) → b .envelope .shape ≡ Hann → measuredAt s b (k .offset) (len - k .start) ≡ enveloped.Refused EndPastRow → Over s b p len
+  past-end : (k : Inside s b p len) → isShaped (b .envelope .shape) ≡ true → measuredAt s b numbers (k .offset) (len - k .start) ≡ enveloped.Refused EndPastRow → Over s b p len
   past-end k z e =
       let room = least (len - k .start) 65536 in
       let few = least-right (len - k .start) 65536 in
-      let r = twelve (b .envelope .width .0) (b .envelope .plateau .0) (k .offset) (s .rate .0) (s .dt .0) (measurable k z) room (omega (arith, few)) e in
+      let r = twelve (b .envelope .width .0) (b .envelope .plateau .0) (k .offset) (s .rate .0) (s .dt .0) (measurable k z) (b .envelope .shape) numbers room (omega (arith, few)) e in
       record {
         at = k;
         reaches = λ _. r .reaches;
-        over = subst (λ (x : Shape). len < k .start + samplesOf s b (k .offset) x) (sym z) (ends (len - k .start) len (k .start) (samplesOf s b (k .offset) Hann) (h .row) (k .inside) refl (r .past));
+        over = subst (λ (x : Bool). len < k .start + samplesOf s b (k .offset) x) (sym z) (ends (len - k .start) len (k .start) (samplesOf s b (k .offset) true) (h .row) (k .inside) refl (r .past));
       }
 
-  pub only-twelve : judged s b p len ≡ Refused EndPastRow → Over s b p len
-  only-twelve e = by (way s b p len (Refused EndPastRow) e)
+  pub only-twelve : judged s b numbers p len ≡ Refused EndPastRow → Over s b p len
+  only-twelve e = by (way s b numbers p len (Refused EndPastRow) e)
     where
-      by : Way s b p len (Refused EndPastRow) → Over s b p len
+      by : Way s b numbers p len (Refused EndPastRow) → Over s b p len
       by (no-index g e) = let z : _≡_ {A = ℕ} 0 1 = cc in absurd (omega arith)
       by (before g e) = let z : _≡_ {A = ℕ} 0 1 = cc in absurd (omega arith)
       by (beyond g e) = let z : _≡_ {A = ℕ} 0 1 = cc in absurd (omega arith)
@@ -194,8 +194,8 @@ module _ (s : Settings) (b : Bin) (p : Pulse) (len : ℕ) (h : Judgeable s b len
       by (over k z o e) =
           record {
             at = k;
-            reaches = λ y. let x : Plain ≡ Hann = sym z ∙ y in let w : _≡_ {A = ℕ} 0 1 = cc in absurd (omega arith);
-            over = subst (λ (x : Shape). len < k .start + samplesOf s b (k .offset) x) (sym z) o;
+            reaches = λ y. absurd (true≢false (sym y ∙ ap isShaped z));
+            over = subst (λ (x : Bool). len < k .start + samplesOf s b (k .offset) x) (sym (ap isShaped z)) o;
           }
       by (plain-rest k z h m e) = let z : _≡_ {A = ℕ} 0 1 = cc in absurd (omega arith)
       by (curved-rest k n z m h e) = let z : _≡_ {A = ℕ} 0 1 = cc in absurd (omega arith)

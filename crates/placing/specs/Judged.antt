@@ -21,8 +21,7 @@ use Rattle.shape.specs.declared.envelope.Enveloped.the-variants as enveloped
 use Rattle.shape.specs.Parts.{indexAt, partedOf}
 use Rattle.shape.specs.Envelope.{least, envelopedOf}
 use Rattle.pulse.specs.declared.bin.Bin.{Bin}
-use Rattle.pulse.specs.declared.envelope.Shape.{Shape}
-use Rattle.pulse.specs.declared.envelope.Shape.the-variants.{Plain, Hann}
+use Rattle.pulse.specs.Envelope.{isShaped}
 use Rattle.pulse.specs.declared.list.Pulse.{Pulse}
 use Rattle.placing.specs.declared.Flat.{Flat}
 use Rattle.placing.specs.declared.Curved.{Curved}
@@ -71,7 +70,7 @@ plainAt s b p start offset room =
     cond (ltb room (countOf s b)) (Refused EndPastRow)
     (cond (plainFine s b p start offset) (Plateau (flatOf s b p start offset)) (Refused NotFinite))
 
--- ---- Hann: the envelope's points
+-- ---- a shape: the envelope's points
 abbrev pub curvedOf : Settings → Bin → Pulse → ℕ → Float → ℕ → Curved
 curvedOf s b p start offset points =
     record {
@@ -94,31 +93,27 @@ shapedAt s b p start offset (enveloped.Points points) = curvedAt s b p start off
 shapedAt s b p start offset (enveloped.Refused r) = Refused r
 
 -- rows have at most 65,536 samples; for a longer one that is the limit of an envelope
-abbrev pub measuredAt : Settings → Bin → Float → ℕ → Enveloped
-measuredAt s b offset room =
-    envelopedOf (partedOf (b .envelope .width .0) (b .envelope .plateau .0) offset (s .rate .0) (s .dt .0) (least room 65536))
+abbrev pub measuredAt : Settings → Bin → List Float → Float → ℕ → Enveloped
+measuredAt s b numbers offset room =
+    envelopedOf (b .envelope .shape) numbers (partedOf (b .envelope .width .0) (b .envelope .plateau .0) offset (s .rate .0) (s .dt .0) (least room 65536))
 
-abbrev pub hannAt : Settings → Bin → Pulse → ℕ → Float → ℕ → Judged
-hannAt s b p start offset room = shapedAt s b p start offset (measuredAt s b offset room)
-
-abbrev pub formedAt : Shape → Settings → Bin → Pulse → ℕ → Float → ℕ → Judged
-formedAt Plain s b p start offset room = plainAt s b p start offset room
-formedAt Hann s b p start offset room = hannAt s b p start offset room
+abbrev pub formedAt : Settings → Bin → List Float → Pulse → ℕ → Float → ℕ → Judged
+formedAt s b numbers p start offset room =
+    cond (isShaped (b .envelope .shape)) (shapedAt s b p start offset (measuredAt s b numbers offset room)) (plainAt s b p start offset room)
 
 -- ---- of a start and an offset, in a row of `len` samples: 10 where the start is not below the row length
-abbrev pub startedAt : Settings → Bin → Pulse → ℕ → ℕ → Float → Judged
-startedAt s b p len start offset =
-    cond (ltb start len) (formedAt (b .envelope .shape) s b p start offset (len - start)) (Refused StartPastRow)
+abbrev pub startedAt : Settings → Bin → List Float → Pulse → ℕ → ℕ → Float → Judged
+startedAt s b numbers p len start offset = cond (ltb start len) (formedAt s b numbers p start offset (len - start)) (Refused StartPastRow)
 
-abbrev pub judgedAt : Settings → Bin → Pulse → ℕ → Placed → Judged
-judgedAt s b p len (placed.Start start offset) = startedAt s b p len start offset
-judgedAt s b p len placed.NotFinite = Refused NotFinite
-judgedAt s b p len placed.Before = Refused BeforeRow
-judgedAt s b p len placed.Beyond = Refused StartPastRow
+abbrev pub judgedAt : Settings → Bin → List Float → Pulse → ℕ → Placed → Judged
+judgedAt s b numbers p len (placed.Start start offset) = startedAt s b numbers p len start offset
+judgedAt s b numbers p len placed.NotFinite = Refused NotFinite
+judgedAt s b numbers p len placed.Before = Refused BeforeRow
+judgedAt s b numbers p len placed.Beyond = Refused StartPastRow
 
--- ---- a pulse of bin b
-unfoldable pub judged : Settings → Bin → Pulse → ℕ → Judged
-judged s b p len = judgedAt s b p len (placedAt s p)
+-- ---- a pulse of bin b, with the numbers of its spline
+unfoldable pub judged : Settings → Bin → List Float → Pulse → ℕ → Judged
+judged s b numbers p len = judgedAt s b numbers p len (placedAt s p)
 
 -- what the cases answer
 abbrev pub judgedAnswer : Judged → Answer

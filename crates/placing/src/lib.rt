@@ -1,7 +1,8 @@
 // One pulse of a sampling call: where it goes and with what carrier, or its refusal, before any sample changes. The Rust's `sample_pulse_list`.
 ghost use mathlib.Core.Path.{_≡_};
 ghost use Rattle.rows.specs.Rows.{allFinite};
-ghost use Rattle.placing.specs.Judged.{weightNumbers, judged, startedAt, plainAt, curvedAt, hannAt};
+ghost use Rattle.pulse.specs.Envelope.{isShaped};
+ghost use Rattle.placing.specs.Judged.{weightNumbers, judged, startedAt, plainAt, curvedAt, measuredAt, shapedAt};
 
 mod phases;
 
@@ -47,30 +48,49 @@ pub enum Judged {
     Refused(Refusal),
 }
 
-// A pulse of bin b, in a row of `len` samples.
-pub fn judge(s: Settings, b: Bin, p: Pulse, len: usize) -> Judged
-    ensures { λ r. ⌜ r ≡ judged s b p len ⌝ }
+// A pulse of bin b, with the numbers of its spline beside it, in a row of `len` samples.
+pub fn judge(s: Settings, b: Bin, numbers: &[f64], p: Pulse, len: usize) -> Judged
+    ensures { λ r. ⌜ r ≡ judged s b (now (numbers .entry)) p len ⌝ }
 {
     let time = p.time;
     match place(time.add(s.delay), s.rate, s.level) {
-        Placed::Start(start, offset) => from_start(s, b, p, start, offset, len),
+        Placed::Start(start, offset) => from_start(s, b, numbers, p, start, offset, len),
         Placed::NotFinite => Judged::Refused(Refusal::NotFinite),
         Placed::Before => Judged::Refused(Refusal::BeforeRow),
         Placed::Beyond => Judged::Refused(Refusal::StartPastRow),
     }
 }
 
-fn from_start(s: Settings, b: Bin, p: Pulse, start: usize, offset: f64, len: usize) -> Judged
-    ensures { λ r. ⌜ r ≡ startedAt s b p len start offset ⌝ }
+fn from_start(
+    s: Settings,
+    b: Bin,
+    numbers: &[f64],
+    p: Pulse,
+    start: usize,
+    offset: f64,
+    len: usize,
+) -> Judged
+    ensures { λ r. ⌜ r ≡ startedAt s b (now (numbers .entry)) p len start offset ⌝ }
 {
     if len <= start {
         return Judged::Refused(Refusal::StartPastRow);
     }
     let e = b.envelope;
     let shape = e.shape;
+    if is_shaped(shape) {
+        return shaped(s, b, numbers, p, start, offset, len - start);
+    }
+    plain(s, b, p, start, offset, len - start)
+}
+
+// Whether there is a shape. Asked here, so that `shaped` is called in one place.
+fn is_shaped(shape: Shape) -> bool
+    ensures { λ r. ⌜ r ≡ isShaped shape ⌝ }
+{
     match shape {
-        Shape::Plain => plain(s, b, p, start, offset, len - start),
-        Shape::Hann => hann(s, b, p, start, offset, len - start),
+        Shape::Plain => false,
+        Shape::Hann => true,
+        Shape::Spline => true,
     }
 }
 
@@ -97,11 +117,30 @@ fn plain(s: Settings, b: Bin, p: Pulse, start: usize, offset: f64, room: usize) 
     }
 }
 
-fn hann(s: Settings, b: Bin, p: Pulse, start: usize, offset: f64, room: usize) -> Judged
-    ensures { λ r. ⌜ r ≡ hannAt s b p start offset room ⌝ }
+// With a shape: Hann or a spline.
+fn shaped(
+    s: Settings,
+    b: Bin,
+    numbers: &[f64],
+    p: Pulse,
+    start: usize,
+    offset: f64,
+    room: usize,
+) -> Judged
+    ensures { λ r. ⌜ r ≡ shapedAt s b p start offset (measuredAt s b (now (numbers .entry)) offset room) ⌝ }
 {
     let e = b.envelope;
-    match measure(e.width, e.plateau, offset, s.rate, s.dt, room) {
+    let shape = e.shape;
+    match measure(
+        shape,
+        numbers,
+        e.width,
+        e.plateau,
+        offset,
+        s.rate,
+        s.dt,
+        room,
+    ) {
         Enveloped::Points(points) => with_points(s, b, p, start, offset, points),
         Enveloped::Refused(r) => Judged::Refused(r),
     }

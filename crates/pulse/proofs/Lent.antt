@@ -26,9 +26,15 @@ use denote.Slice.{sliceVal, MutSlice, heres, Room, finally, at-slice, codedHoley
 use denote.Lend.{Held, lends-slice, slice-back}
 use denote.Index.{row, whole-out, whole-in, opens-slice, closes-slice}
 
--- a bin or a work row: five numbers
+-- a work row: five numbers; a bin: 77; a shape's row: 72
 abbrev pub Row : RattleType
 Row = Array f64 5
+
+abbrev pub BinRow : RattleType
+BinRow = Array f64 77
+
+abbrev pub Numbers : RattleType
+Numbers = Array f64 72
 
 -- what a `&α mut [T]` owns, at the list ys, with the count n
 abbrev pub Own : (R : RattleType) → ℕ → ℕ → ℕ → Lft → GName → List (R .Denot) → Fml

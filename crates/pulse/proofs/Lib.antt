@@ -1,4 +1,6 @@
 -- What is proved of no one function.
+pub mod Envelopes
+pub mod Filled
 pub mod Lent
 pub mod Order
 pub mod Place

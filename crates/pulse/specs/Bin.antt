@@ -1,32 +1,42 @@
--- Document 01, "Lists and merging": "A bin is envelope, global and local frequency, compared by value". A bin lies in a row of five
--- numbers: the shape's code, width, plateau, global and local frequency. Definitions only.
+-- Document 01, "Lists and merging": "A bin is envelope, global and local frequency, compared by value"; request P1: "two splines are the same shape when
+-- all their numbers are equal". A bin lies in a row of 77 numbers: its head (the shape's code, width, plateau, global and local frequency), and the 72
+-- numbers of its spline, zeros for another shape. Definitions only.
 use Prim.Native.Nat.{ℕ, suc}
 use mathlib.Core.Path.{_≡_}
-use mathlib.Core.Bool.{Bool, true, false, _&&_, cond}
-use mathlib.Core.List.{List, [], _∷_}
+use mathlib.Core.Bool.{Bool, true, false, not, _&&_, _||_, cond}
+use mathlib.Core.List.{List, [], _∷_, _++_}
 use lib.Ieee.{Float, eq, lt, nan}
 use lib.Ieee.Scale.{finite}
-use lib.ListN.{getD}
-use Rattle.exact.specs.Doubles.{nought, one}
+use lib.ListN.{getD, take, drop, replicate}
+use Rattle.exact.specs.Doubles.{nought, one, two}
+use Rattle.spline.specs.Same.{sameNumbers}
 use Rattle.pulse.specs.declared.bin.Bin.{Bin}
 use Rattle.pulse.specs.declared.envelope.Shape.{Shape}
-use Rattle.pulse.specs.declared.envelope.Shape.the-variants.{Plain, Hann}
-use Rattle.pulse.specs.Envelope.{parts}
+use Rattle.pulse.specs.declared.envelope.Shape.the-variants.{Plain, Hann, Spline}
+use Rattle.pulse.specs.Envelope.{parts, isShaped}
 
--- no shape is 0, Hann 1
+-- no shape is 0, Hann 1, a spline 2
 abbrev pub codeOf : Shape → Float
 codeOf Plain = nought
 codeOf Hann = one
+codeOf Spline = two
 
 -- any other code is no shape
 abbrev pub shapeOf : Float → Shape
-shapeOf x = cond (eq x one) Hann Plain
+shapeOf x = cond (eq x one) Hann (cond (eq x two) Spline Plain)
 
--- a bin's row
-abbrev pub rowOf : Bin → List Float
-rowOf b = codeOf (b .envelope .shape) ∷ b .envelope .width .0 ∷ b .envelope .plateau .0 ∷ b .global .0 ∷ b .local .0 ∷ []
+-- the numbers of a shape that is no spline
+abbrev pub noNumbers : List Float
+noNumbers = replicate 72 nought
 
--- the bin that a row stands for
+-- a bin's head, and its row
+abbrev pub headOf : Bin → List Float
+headOf b = codeOf (b .envelope .shape) ∷ b .envelope .width .0 ∷ b .envelope .plateau .0 ∷ b .global .0 ∷ b .local .0 ∷ []
+
+abbrev pub rowOf : Bin → List Float → List Float
+rowOf b numbers = headOf b ++ numbers
+
+-- the bin that a row stands for, and the numbers of its spline
 abbrev pub binOf : List Float → Bin
 binOf row =
     record {
@@ -35,12 +45,16 @@ binOf row =
       local = record { 0 = getD row 4 nan };
     }
 
--- compared by value: each number with the double's own equality, so that 0 and -0 are one
+abbrev pub numbersOf : List Float → List Float
+numbersOf row = drop 5 row
+
+-- what a name stands for, by its row of 72 numbers: a spline has controls
+abbrev pub kindOf : List Float → Shape
+kindOf numbers = cond (eq (getD numbers 1 nan) nought) Hann Spline
+
+-- compared by value: each number of the head with the double's own equality, so that 0 and -0 are one; of a spline each of its numbers too
 unfoldable pub sameRow : List Float → List Float → Bool
-sameRow [] [] = true
-sameRow [] (y ∷ ys) = false
-sameRow (x ∷ xs) [] = false
-sameRow (x ∷ xs) (y ∷ ys) = eq x y && sameRow xs ys
+sameRow a b = sameNumbers (take 5 a) (take 5 b) && (not (eq (getD b 0 nan) two) || sameNumbers (numbersOf a) (numbersOf b))
 
 -- how many rows stand before the first that is the same; all of them where none is
 unfoldable pub placeOf : List Float → List (List Float) → ℕ
@@ -56,4 +70,4 @@ pub record GoodBin (b : Bin) : Type 0 where
   pub finite-local : finite (b .local .0) ≡ true
   pub width : lt (b .envelope .width .0) nought ≡ false
   pub plateau : lt (b .envelope .plateau .0) nought ≡ false
-  pub shaped : b .envelope .shape ≡ Hann → eq (b .envelope .width .0) nought ≡ false
+  pub shaped : isShaped (b .envelope .shape) ≡ true → eq (b .envelope .width .0) nought ≡ false

@@ -34,6 +34,8 @@ pub enum Refusal {
     Crosstalk,
     // 15: a sheet breaks its layout
     Layout,
+    // 16: a spline's knots fall, or its counts are wrong
+    WrongSpline,
 }
 
 // The count of commands run or pulses added; or the refusal and its place. `replyOf` gives number, place and count.
@@ -61,6 +63,7 @@ pub fn number(r: Refusal) -> usize
         Refusal::WrongSize => 13,
         Refusal::Crosstalk => 14,
         Refusal::Layout => 15,
+        Refusal::WrongSpline => 16,
     }
 }
 

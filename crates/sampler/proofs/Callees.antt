@@ -36,7 +36,7 @@ use Rattle.quant.proofs.refusal.Answer.Laws as N′
 use Rattle.quant.proofs.settings.Settings as S
 use Rattle.quant.proofs.settings.Settings.Laws as S′
 use Rattle.pulse.specs.declared.list.Pulse.{Pulse}
-use Rattle.pulse.proofs.Lent.{Row, Own}
+use Rattle.pulse.proofs.Lent.{Row, BinRow, Own}
 use Rattle.pulse.proofs.Records.{has-word}
 use Rattle.pulse.proofs.list.Pulse as P
 use Rattle.tables.specs.declared.Tables.{Tables}
@@ -99,7 +99,7 @@ abbrev pub sliceF : Lifetime → Ty
 sliceF ℓ = sliceTy (tyRef ℓ imm (pointee (f64 .written)))
 
 abbrev pub sliceB : Lifetime → Ty
-sliceB ℓ = sliceTy (tyRef ℓ imm (pointee (Row .written)))
+sliceB ℓ = sliceTy (tyRef ℓ imm (pointee (BinRow .written)))
 
 abbrev pub valN : Answer → Val
 valN = EL.val N.the-type N′.the-laws
@@ -310,7 +310,7 @@ module _ {M : Type 1} (𝓤 : URA M) (H : Heap 𝓤) (A : Atoms 𝓤) (mem : Mem
     tokens = token xB ⊛ (token xW ⊛ (token xM ⊛ (token xI ⊛ (token xQ ⊛ (token xS ⊛ ‵ ftrue)))))
 
     abbrev slices : Item 𝓤
-    slices = ‵ (shared Row xB bs) ⊛ (‵ (held Row xW nW ws) ⊛ (‵ (held usize xM nM ms) ⊛ (‵ (held f64 xI nI is) ⊛ (‵ (held f64 xQ nQ qs) ⊛ ‵ (held f64 xS nS ss)))))
+    slices = ‵ (shared BinRow xB bs) ⊛ (‵ (held Row xW nW ws) ⊛ (‵ (held usize xM nM ms) ⊛ (‵ (held f64 xI nI is) ⊛ (‵ (held f64 xQ nQ qs) ⊛ ‵ (held f64 xS nS ss)))))
 
     pub goes-mix : (W : Given 𝓤 H A) → IsSettings s → IsTables t → IsTaking taking → IsEnds ends → rows < 2 ^ 64 → ent 𝓤 (mean 𝓤 H A (tokens ⊛ slices)) (Mixes .pre to-mix)
     goes-mix W gs gt gl ge gn =

@@ -17,7 +17,7 @@ use denote.Signature.{plain, typesAt}
 use denote.Struct.Laws as LL
 use denote.Triple.Walked.{Stays, stay-none-slice, gave-slice, stay-none, AllGo, goes-none-slice, goes-gave-slice, goes-none}
 use denote.Exit.{yes}
-use Rattle.pulse.proofs.Lent.{Row}
+use Rattle.pulse.proofs.Lent.{Row, BinRow}
 use Rattle.pulse.specs.declared.list.Pulse.{Pulse}
 use Rattle.pulse.proofs.list.Pulse as P
 use Rattle.tables.specs.declared.Tables.{Tables}
@@ -49,7 +49,7 @@ stayed = (
       (
         stay-none-slice (0 ∷ []) tt (plain (λ _. f64)) yes,
         (
-          stay-none-slice (1 ∷ []) tt (ArrayOf (plain (λ _. f64)) (λ _. tt) 5) yes,
+          stay-none-slice (1 ∷ []) tt (ArrayOf (plain (λ _. f64)) (λ _. tt) 77) yes,
           (
             stay-none-slice (2 ∷ []) tt (plain (λ _. P.the-row)) yes,
             (
@@ -106,7 +106,7 @@ all-tell κs = (
       (
         shr-slice-tells (named 0) (κs .0) f64,
         (
-          shr-slice-tells (named 1) (κs .1 .0) Row,
+          shr-slice-tells (named 1) (κs .1 .0) BinRow,
           (
             shr-slice-tells (named 2) (κs .1 .1 .0) P.the-row,
             (
@@ -136,7 +136,7 @@ all-go 𝓤 H A W = (
       (
         goes-none-slice 𝓤 H A W 8 (0 ∷ []) tt (plain (λ _. f64)) yes,
         (
-          goes-none-slice 𝓤 H A W 8 (1 ∷ []) tt (ArrayOf (plain (λ _. f64)) (λ _. tt) 5) yes,
+          goes-none-slice 𝓤 H A W 8 (1 ∷ []) tt (ArrayOf (plain (λ _. f64)) (λ _. tt) 77) yes,
           (
             goes-none-slice 𝓤 H A W 8 (2 ∷ []) tt (plain (λ _. P.the-row)) yes,
             (

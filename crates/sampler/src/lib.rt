@@ -50,7 +50,7 @@ pub fn sample(
     r: Request,
     c: Crosstalk,
     factors: &[f64],
-    bins: &[[f64; 5]],
+    bins: &[[f64; 77]],
     pulses: &[Pulse],
     i: &mut [f64],
     q: &mut [f64],

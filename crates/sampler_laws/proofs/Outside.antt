@@ -45,13 +45,13 @@ module _ (rows s n k : ℕ) (i q : List Float) (f : List Float → List Float) (
       go true e false g x h = refl
       go false e d g x h = refl
 
-module _ (s : Settings) (b : Bin) (rows k : ℕ) (st : Rowed) where
-  pub outside-i : (d : Judged) → Outside (fromOf d) (lengthOf d) k → getD (addedTo s b rows d st .i) k nan ≡ getD (st .i) k nan
+module _ (s : Settings) (b : Bin) (numbers : List Float) (rows k : ℕ) (st : Rowed) where
+  pub outside-i : (d : Judged) → Outside (fromOf d) (lengthOf d) k → getD (addedTo s b numbers rows d st .i) k nan ≡ getD (st .i) k nan
   outside-i (Plateau f) o = first-stays rows (f .start) (f .count) k (st .i) (st .q) _ (carried-length _ _ _) o
   outside-i (Shaped c) o = first-stays rows (c .start) (c .points) k (st .i) (st .q) _ (λ xs. shaped-length _ _ _ _ _ _ _ xs) o
   outside-i (Refused r) o = refl
 
-  pub outside-q : (d : Judged) → Outside (fromOf d) (lengthOf d) k → getD (addedTo s b rows d st .q) k nan ≡ getD (st .q) k nan
+  pub outside-q : (d : Judged) → Outside (fromOf d) (lengthOf d) k → getD (addedTo s b numbers rows d st .q) k nan ≡ getD (st .q) k nan
   outside-q (Plateau f) o = second-stays rows (f .start) (f .count) k (st .i) (st .q) _ (carried-length _ _ _) o
   outside-q (Shaped c) o = second-stays rows (c .start) (c .points) k (st .i) (st .q) _ (λ xs. shaped-length _ _ _ _ _ _ _ xs) o
   outside-q (Refused r) o = refl

@@ -14,12 +14,13 @@ use borrow.Rule.Slice.PartMut.{midOf, putMid, post-is, mid-len}
 use Rattle.exact.specs.Doubles.{nought, one}
 use Rattle.exact.proofs.Truth.{both}
 use Rattle.quant.specs.declared.refusal.Refusal.the-variants.{ShapeTooShort, EndPastRow, NotFinite}
+use Rattle.pulse.specs.declared.envelope.Shape.{Shape}
 use Rattle.shape.specs.declared.parts.Parts.{Parts}
 use Rattle.shape.specs.declared.parts.Parted.the-variants as parted
 use Rattle.shape.specs.declared.envelope.Enveloped.the-variants.{Points, Refused}
 use Rattle.shape.specs.Segment.{values}
 use Rattle.shape.specs.Parts.{indexAt, t1, t3, unbroken, broken, inOrder, partedOf}
-use Rattle.shape.specs.Envelope.{least, limitOf, shapeOf, finitePoints, filledOf, scratchFilled, Fitting}
+use Rattle.shape.specs.Envelope.{least, limitOf, shapeOf, finePoints, filledOf, scratchFilled, Fitting}
 
 -- ys are put into the place from a to e of a scratch that holds `front` and then what it held from a on
 pub laid : (old xs front ys : List Float) (a e : ℕ) → xs ≡ front ++ drop a old → length front ≡ a → a ≤ e → putMid a (e - a) xs ys ≡ (front ++ ys) ++ drop e old
@@ -33,10 +34,10 @@ laid old xs front ys a e is size h =
     ∙ ap (λ (n : ℕ). drop n old) at in
     rw (post-is a e xs h, past, is, take-at front (drop a old) a size) (sym (append-assoc front ys (drop e old)))
 
-pub values-length : (n i : ℕ) (x dx : Float) → length (values n i x dx) ≡ n
+pub values-length : (shape : Shape) (numbers : List Float) (n i : ℕ) (x dx : Float) → length (values shape numbers n i x dx) ≡ n
 unfolding values
-values-length zero i x dx = refl
-values-length (suc n) i x dx = ap suc (values-length n (suc i) x dx)
+values-length shape numbers zero i x dx = refl
+values-length shape numbers (suc n) i x dx = ap suc (values-length shape numbers n (suc i) x dx)
 
 -- a scratch in which nothing but the first a samples changed has as many as before
 sized : (old xs front : List Float) (a : ℕ) → xs ≡ front ++ drop a old → length front ≡ a → a ≤ length old → length xs ≡ length old
@@ -45,25 +46,25 @@ sized old xs front a is size h =
     ap length is ∙ lengths ∙ (omega (arith, size))
 
 -- ---- head, plateau and tail, in this order
-module _ (p : Parts) (old : List Float) (fit : Fitting p (length old)) (head ones tail : List Float) where
+module _ (shape : Shape) (numbers : List Float) (p : Parts) (old : List Float) (fit : Fitting p (length old)) (head ones tail : List Float) where
   abbrev after-head : List Float
   after-head = putMid 0 (p .start - 0) old head
 
   abbrev after-ones : List Float
   after-ones = putMid (p .start) (p .end - p .start) after-head ones
 
-  module _ (a : head ≡ values (length (midOf 0 (p .start - 0) old)) 0 (p .x0) (p .dx)) (b : ones ≡ replicate (length (midOf (p .start) (p .end - p .start) after-head)) one) (c : tail ≡ values (length (midOf (p .end) (p .length - p .end) after-ones)) 0 (p .x2) (p .dx)) where
+  module _ (a : head ≡ values shape numbers (length (midOf 0 (p .start - 0) old)) 0 (p .x0) (p .dx)) (b : ones ≡ replicate (length (midOf (p .start) (p .end - p .start) after-head)) one) (c : tail ≡ values shape numbers (length (midOf (p .end) (p .length - p .end) after-ones)) 0 (p .x2) (p .dx)) where
     start-within : p .start ≤ length old
     start-within = omega (arith, fit .head, fit .tail, fit .room)
 
     end-within : p .end ≤ length old
     end-within = omega (arith, fit .tail, fit .room)
 
-    head-is : head ≡ values (p .start) 0 (p .x0) (p .dx)
-    head-is = a ∙ ap (λ (n : ℕ). values n 0 (p .x0) (p .dx)) (mid-len 0 (p .start) old start-within ∙ (omega arith))
+    head-is : head ≡ values shape numbers (p .start) 0 (p .x0) (p .dx)
+    head-is = a ∙ ap (λ (n : ℕ). values shape numbers n 0 (p .x0) (p .dx)) (mid-len 0 (p .start) old start-within ∙ (omega arith))
 
     head-length : length head ≡ p .start
-    head-length = ap length head-is ∙ values-length (p .start) 0 (p .x0) (p .dx)
+    head-length = ap length head-is ∙ values-length shape numbers (p .start) 0 (p .x0) (p .dx)
 
     head-laid : after-head ≡ head ++ drop (p .start) old
     head-laid = laid old old [] head 0 (p .start) refl refl (omega arith)
@@ -85,10 +86,10 @@ module _ (p : Parts) (old : List Float) (fit : Fitting p (length old)) (head one
     ones-sized : length after-ones ≡ length old
     ones-sized = sized old after-ones (head ++ ones) (p .end) ones-laid both-length end-within
 
-    tail-is : tail ≡ values (p .length - p .end) 0 (p .x2) (p .dx)
-    tail-is = c ∙ ap (λ (n : ℕ). values n 0 (p .x2) (p .dx)) (mid-len (p .end) (p .length) after-ones (omega (arith, ones-sized, fit .room)))
+    tail-is : tail ≡ values shape numbers (p .length - p .end) 0 (p .x2) (p .dx)
+    tail-is = c ∙ ap (λ (n : ℕ). values shape numbers n 0 (p .x2) (p .dx)) (mid-len (p .end) (p .length) after-ones (omega (arith, ones-sized, fit .room)))
 
-    pub all-laid : putMid (p .end) (p .length - p .end) after-ones tail ≡ shapeOf p ++ drop (p .length) old
+    pub all-laid : putMid (p .end) (p .length - p .end) after-ones tail ≡ shapeOf shape numbers p ++ drop (p .length) old
     unfolding shapeOf
     all-laid =
         laid old after-ones (head ++ ones) tail (p .end) (p .length) ones-laid both-length (fit .tail)
@@ -96,11 +97,11 @@ module _ (p : Parts) (old : List Float) (fit : Fitting p (length old)) (head one
         ∙ (rw (head-is, ones-is, tail-is))
 
 -- ---- what the call answers and leaves
-module _ (p : Parts) (old : List Float) where
-  pub refused : finitePoints p ≡ false → (Refused NotFinite ≡ filledOf p) × (old ≡ scratchFilled p old)
+module _ (shape : Shape) (numbers : List Float) (p : Parts) (old : List Float) where
+  pub refused : finePoints shape numbers p ≡ false → (Refused NotFinite ≡ filledOf shape numbers p) × (old ≡ scratchFilled shape numbers p old)
   refused e = (rw e, rw e)
 
-  pub filled : finitePoints p ≡ true → (xs : List Float) → xs ≡ shapeOf p ++ drop (p .length) old → (Points (p .length) ≡ filledOf p) × (xs ≡ scratchFilled p old)
+  pub filled : finePoints shape numbers p ≡ true → (xs : List Float) → xs ≡ shapeOf shape numbers p ++ drop (p .length) old → (Points (p .length) ≡ filledOf shape numbers p) × (xs ≡ scratchFilled shape numbers p old)
   filled e xs is = (rw e, rw (e, is))
 
 -- ---- parts that are within a room

@@ -1,6 +1,6 @@
-pub mod Turns
 pub mod Tests
 pub mod Near
+pub mod Shapes
 pub mod Laying
 pub mod Filling
 pub mod Envelopes

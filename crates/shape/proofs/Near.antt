@@ -5,7 +5,7 @@ use native.Mathlib.Omega.{arith}
 use native.Mathlib.Nat.{le-trans, le-of-eq, lt-of-le-of-lt, lt-of-lt-of-le, lt-of-mul-lt-mul-right, mul-pos, mul-le-mul, add-zero, zero-add}
 use mathlib.Core.Path.{_≡_, refl, sym, ap, _∙_, subst}
 use mathlib.Core.Bool.{false}
-use mathlib.Core.List.{List, _∷_, map}
+use mathlib.Core.List.{_∷_, map}
 use lib.Dec.{lit≤}
 use lib.ListN.{length, getD}
 use lib.Pow.{pow-pos}
@@ -25,7 +25,7 @@ use Rattle.trig.specs.Reduce.{TAU}
 use Rattle.trig.specs.Trig.{cosineAt, cosineOf}
 use Rattle.trig.proofs.Reducing.{reduced-near}
 use Rattle.shape.specs.Hann.{hannOf, hannWrapped}
-use Rattle.shape.specs.Segment.{values, Near, EndsNear}
+use Rattle.shape.specs.Segment.{Near, EndsNear}
 
 -- ---- between near ends
 near-shrinks : Shrinks Near
@@ -74,11 +74,6 @@ module _ (z : Float) (n : Near z) where
       (sym (reduced-near angle (mul-fits binary64 TAU z) (value-finite angle (unlike false (signOf z)) (sized .size) (sized .value)) angle-small))
 
 -- ---- the values
-pub each-valued : (n i : ℕ) (x dx : Float) → map hannOf (points n i x dx) ≡ values n i x dx
-unfolding points values
-each-valued zero i x dx = refl
-each-valued (suc n) i x dx = ap (λ (l : List Float). hannOf (pointAt x dx i) ∷ l) (each-valued n (suc i) x dx)
-
 all-near : (n i : ℕ) (x dx : Float) → ((k : ℕ) → k < n → Near (pointAt x dx (i + k))) → map hannWrapped (points n i x dx) ≡ map hannOf (points n i x dx)
 unfolding points
 all-near zero i x dx h = refl
@@ -86,8 +81,8 @@ all-near (suc n) i x dx h =
     let here : Near (pointAt x dx i) = subst (λ (k : ℕ). Near (pointAt x dx k)) (add-zero i) (h 0 (omega arith)) in
     λ j. near-hann (pointAt x dx i) here j ∷ all-near n (suc i) x dx (λ k l. subst (λ (m : ℕ). Near (pointAt x dx m)) (omega arith) (h (suc k) (omega arith))) j
 
-pub near-valued : (n : ℕ) (x dx : Float) → EndsNear (points n 0 x dx) → map hannWrapped (points n 0 x dx) ≡ values n 0 x dx
-near-valued n x dx e = all-near n 0 x dx each ∙ each-valued n 0 x dx
+pub near-valued : (n : ℕ) (x dx : Float) → EndsNear (points n 0 x dx) → map hannWrapped (points n 0 x dx) ≡ map hannOf (points n 0 x dx)
+near-valued n x dx e = all-near n 0 x dx each
   where
     long : length (points n 0 x dx) ≡ n
     long = points-length n 0 x dx

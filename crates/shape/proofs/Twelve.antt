@@ -4,6 +4,7 @@ use Prim.Native.Nat.{ℕ, _+_, _^_, _<_}
 use native.Mathlib.Omega.{arith}
 use mathlib.Core.Path.{_≡_, refl, sym, subst, _∙_}
 use mathlib.Core.Bool.{Bool, true, false, cond, true≢false}
+use mathlib.Core.List.{List}
 use lib.Dec.{T, ltb}
 use lib.Pow.{pow-pos}
 use lib.Ieee.{Float, binary64, mul, lt, eq, fits}
@@ -15,12 +16,13 @@ use Rattle.exact.specs.Value.{Units, signOf, unitsOf}
 use Rattle.exact.proofs.Compare.{lt-is, above, some}
 use Rattle.exact.proofs.Value.{own}
 use Rattle.quant.specs.declared.refusal.Refusal.the-variants.{ShapeTooShort, EndPastRow, NotFinite}
+use Rattle.pulse.specs.declared.envelope.Shape.{Shape}
 use Rattle.shape.specs.declared.parts.Parts.{Parts}
 use Rattle.shape.specs.declared.parts.Parted.{Parted}
 use Rattle.shape.specs.declared.parts.Parted.the-variants.{Within, Refused}
 use Rattle.shape.specs.declared.envelope.Enveloped.the-variants as enveloped
 use Rattle.shape.specs.Parts.{indexAt, t1, t2, t3, unbroken, broken, inOrder, partedOf}
-use Rattle.shape.specs.Envelope.{finitePoints, envelopedOf}
+use Rattle.shape.specs.Envelope.{finePoints, envelopedOf}
 use Rattle.shape.proofs.Rising.{last, zero-size, in-order}
 
 -- a double that is neither below 0 nor 0
@@ -35,9 +37,9 @@ above-zero x f t low apart = by (signOf x) (own x f t)
         absurd (omega (arith, none, more))
 
 -- an envelope that is refused by 12 has parts that are
-parts-past : (q : Parted) → envelopedOf q ≡ enveloped.Refused EndPastRow → q ≡ Refused EndPastRow
-parts-past (Refused r) e = cc
-parts-past (Within p) e = by (finitePoints p) e
+parts-past : (shape : Shape) (numbers : List Float) (q : Parted) → envelopedOf shape numbers q ≡ enveloped.Refused EndPastRow → q ≡ Refused EndPastRow
+parts-past shape numbers (Refused r) e = cc
+parts-past shape numbers (Within p) e = by (finePoints shape numbers p) e
   where
     by : (b : Bool) → cond b (enveloped.Points (p .length)) (enveloped.Refused NotFinite) ≡ enveloped.Refused EndPastRow → Within p ≡ Refused EndPastRow
     by true f = let z : _≡_ {A = ℕ} 0 1 = cc in absurd (omega arith)
@@ -93,5 +95,5 @@ module _ (w p o rate dt : Float) (m : Measurable w p o rate dt) where
       by u v false false false false f g j k e = absurd (true≢false (sym (parts-ordered j f (omega (arith, ltb-false room n g))) ∙ k))
 
   -- that it is given there is `past-row` of proofs/Laying.antt
-  pub twelve : (room : ℕ) → room < last → envelopedOf (partedOf w p o rate dt room) ≡ enveloped.Refused EndPastRow → PastRoom w p o rate dt room
-  twelve room h e = parts-twelve room h (parts-past (partedOf w p o rate dt room) e)
+  pub twelve : (shape : Shape) (numbers : List Float) (room : ℕ) → room < last → envelopedOf shape numbers (partedOf w p o rate dt room) ≡ enveloped.Refused EndPastRow → PastRoom w p o rate dt room
+  twelve shape numbers room h e = parts-twelve room h (parts-past shape numbers (partedOf w p o rate dt room) e)

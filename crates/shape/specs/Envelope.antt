@@ -17,7 +17,9 @@ use Rattle.shape.specs.declared.parts.Parted.the-variants as parted
 use Rattle.shape.specs.declared.envelope.Enveloped.{Enveloped}
 use Rattle.shape.specs.declared.envelope.Enveloped.the-variants.{Points, Refused}
 use Rattle.points.specs.Points.{points}
-use Rattle.shape.specs.Segment.{values}
+use Rattle.pulse.specs.declared.envelope.Shape.{Shape}
+use Rattle.pulse.specs.declared.envelope.Shape.the-variants.{Spline}
+use Rattle.shape.specs.Segment.{values, allFine}
 
 -- the smaller of two
 abbrev pub least : ℕ → ℕ → ℕ
@@ -28,28 +30,43 @@ least a b = cond (leb a b) a b
 abbrev pub limitOf : ℕ → ℕ → ℕ
 limitOf room n = least (least room n) 65536
 
--- the envelope: its head, the plateau of ones, its tail
-unfoldable pub shapeOf : Parts → List Float
-shapeOf p = values (p .start) 0 (p .x0) (p .dx) ++ (replicate (p .end - p .start) one ++ values (p .length - p .end) 0 (p .x2) (p .dx))
-
 -- each point taken is finite
 unfoldable pub finitePoints : Parts → Bool
 finitePoints p = allFinite (points (p .start) 0 (p .x0) (p .dx)) && allFinite (points (p .length - p .end) 0 (p .x2) (p .dx))
 
-abbrev pub filledOf : Parts → Enveloped
-filledOf p = cond (finitePoints p) (Points (p .length)) (Refused NotFinite)
+-- of a spline every step at each point taken
+abbrev pub stepsFine : List Float → Parts → Bool
+stepsFine numbers p =
+    allFine Spline numbers (points (p .start) 0 (p .x0) (p .dx)) && allFine Spline numbers (points (p .length - p .end) 0 (p .x2) (p .dx))
 
-abbrev pub scratchFilled : Parts → List Float → List Float
-scratchFilled p old = cond (finitePoints p) (shapeOf p ++ drop (p .length) old) old
+-- ---- of a shape, with the numbers of a spline beside it
+module _ (shape : Shape) (numbers : List Float) where
+  -- the envelope: its head, the plateau of ones, its tail
+  unfoldable pub shapeOf : Parts → List Float
+  shapeOf p =
+      values shape numbers (p .start) 0 (p .x0) (p .dx)
+      ++ (replicate (p .end - p .start) one ++ values shape numbers (p .length - p .end) 0 (p .x2) (p .dx))
 
--- what the call answers, and the scratch afterwards; refused, it stays as it came
-abbrev pub envelopedOf : Parted → Enveloped
-envelopedOf (parted.Within p) = filledOf p
-envelopedOf (parted.Refused r) = Refused r
+  -- each point taken is finite, and so is every step on the way to its value
+  unfoldable pub finePoints : Parts → Bool
+  finePoints p =
+      finitePoints p
+      && (allFine shape numbers (points (p .start) 0 (p .x0) (p .dx)) && allFine shape numbers (points (p .length - p .end) 0 (p .x2) (p .dx)))
 
-abbrev pub scratchAfter : Parted → List Float → List Float
-scratchAfter (parted.Within p) old = scratchFilled p old
-scratchAfter (parted.Refused r) old = old
+  abbrev pub filledOf : Parts → Enveloped
+  filledOf p = cond (finePoints p) (Points (p .length)) (Refused NotFinite)
+
+  abbrev pub scratchFilled : Parts → List Float → List Float
+  scratchFilled p old = cond (finePoints p) (shapeOf p ++ drop (p .length) old) old
+
+  -- what the call answers, and the scratch afterwards; refused, it stays as it came
+  abbrev pub envelopedOf : Parted → Enveloped
+  envelopedOf (parted.Within p) = filledOf p
+  envelopedOf (parted.Refused r) = Refused r
+
+  abbrev pub scratchAfter : Parted → List Float → List Float
+  scratchAfter (parted.Within p) old = scratchFilled p old
+  scratchAfter (parted.Refused r) old = old
 
 -- what the cases answer
 abbrev pub envelopedAnswer : Enveloped → Answer

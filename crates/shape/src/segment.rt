@@ -7,14 +7,19 @@ ghost use lib.ListN.{length, replicate};
 ghost use Rattle.exact.specs.Doubles.{one};
 ghost use Rattle.rows.specs.Rows.{allFinite};
 ghost use Rattle.points.specs.Points.{points};
+ghost use Rattle.pulse.specs.declared.envelope.Shape.the-variants.{Spline};
+ghost use Rattle.spline.specs.Value.{valueIn};
 ghost use Rattle.shape.specs.Hann.{hannOf, hannWrapped};
-ghost use Rattle.shape.specs.Segment.{values, Moderate, Near, EndsNear};
+ghost use Rattle.shape.specs.Segment.{values, allFine, Moderate, Near, EndsNear};
 use super::hann::hann;
 use super::hann::hann_wrapped;
 use ieee::finite::is_finite;
 use points::lay;
 use points::point;
+use pulse::envelope::Shape;
 use quant::judge::both;
+use spline::over::over;
+use spline::value::is_fine;
 
 // Whether the first `count` points from x on are finite. So they are where x and dx are no larger than 2^100. Else they lie between the first and the last, and
 // these two are judged.
@@ -46,9 +51,35 @@ fn is_moderate(z: f64) -> bool
     false
 }
 
-// The values at the points from x on, for every sample of a part: first the points, then their values.
-pub(crate) fn sample(part: &mut [f64], x: f64, dx: f64)
-    ensures { λ r. ⌜ now (part .exit) ≡ values (length (now (part .entry))) 0 x dx ⌝ }
+// Whether no step at the first `count` points from x on meets 8, point by point.
+pub(crate) fn all_fine(numbers: &[f64], x: f64, dx: f64, count: usize) -> bool
+    requires { ⌜ count ≤ 65536 ⌝ }
+    ensures { λ r. ⌜ r ≡ allFine Spline (now (numbers .entry)) (points count 0 x dx) ⌝ }
+{
+    let mut i: usize = 0;
+    while i < count {
+        if !is_fine(numbers, point(x, dx, i)) {
+            return false;
+        }
+        i += 1;
+    }
+    true
+}
+
+// The values at the points from x on, for every sample of a part.
+pub(crate) fn sample(shape: Shape, numbers: &[f64], part: &mut [f64], x: f64, dx: f64)
+    ensures { λ r. ⌜ now (part .exit) ≡ values shape (now (numbers .entry)) (length (now (part .entry))) 0 x dx ⌝ }
+{
+    match shape {
+        Shape::Plain => hold(part),
+        Shape::Hann => sample_hann(part, x, dx),
+        Shape::Spline => sample_spline(numbers, part, x, dx),
+    }
+}
+
+// First the points, then their values.
+fn sample_hann(part: &mut [f64], x: f64, dx: f64)
+    ensures { λ r. ⌜ now (part .exit) ≡ map hannOf (points (length (now (part .entry))) 0 x dx) ⌝ }
 {
     lay(part, x, dx);
     if ends_near(part) {
@@ -56,6 +87,13 @@ pub(crate) fn sample(part: &mut [f64], x: f64, dx: f64)
         return;
     }
     value_each(part);
+}
+
+fn sample_spline(numbers: &[f64], part: &mut [f64], x: f64, dx: f64)
+    ensures { λ r. ⌜ now (part .exit) ≡ map (valueIn (now (numbers .entry))) (points (length (now (part .entry))) 0 x dx) ⌝ }
+{
+    lay(part, x, dx);
+    over(part, numbers);
 }
 
 // Whether the first and the last of points are at most 7/8 in size. All points lie between them.

@@ -24,14 +24,18 @@ use Rattle.quant.specs.declared.refusal.Answer.{Answer}
 use Rattle.quant.specs.Refusal.{codeOf}
 use Rattle.shape.specs.Hann.{hannOf}
 use Rattle.points.specs.Points.{points}
-use Rattle.shape.specs.Segment.{values}
+use Rattle.spline.specs.Spline.{inDomain, spanTo, blendOf, dAt}
+use Rattle.spline.specs.Row as spline-row
+use Rattle.spline.specs.Value.{wholeOf, splineAt, valueIn}
+use Rattle.spline.specs.Same.{sameNumbers}
+use Rattle.shape.specs.Segment.{valueOf, pointFine, values, allFine}
 use Rattle.shape.specs.Parts.{indexAt, partedOf}
-use Rattle.shape.specs.Envelope.{shapeOf, finitePoints, limitOf, envelopedOf, scratchAfter}
+use Rattle.shape.specs.Envelope.{shapeOf, finitePoints, finePoints, envelopedOf, scratchAfter}
 use Rattle.pulse.specs.Bin.{sameRow, placeOf}
 use Rattle.pulse.specs.Envelope.{envelopeOf}
 use Rattle.placing.specs.Phases.{phase0, dphase, startPair, rotationPair, phaseNumbers}
 use Rattle.placing.specs.Judged.{judged}
-use Rattle.tables.specs.Tables.{foundFrom, isIn, settled, settledShape}
+use Rattle.tables.specs.Tables.{foundFrom, shapeFrom, settled, settledShape}
 use Rattle.merge.specs.Sum.{keptFrom, summedBy}
 use Rattle.merge.specs.Join.{joined, joinedTwo}
 use Rattle.merge.specs.Work.{Gathered, over, inOne, endsFrom}
@@ -48,9 +52,10 @@ use Rattle.commands.specs.Command.{good, required}
 use Rattle.commands.specs.Run as run
 use Rattle.sampler.specs.Sampler.{sampled}
 use Rattle.sampler_laws.specs.Added.{countIn}
+use Rattle.bench_table.specs.Numbers as numbers
 use Rattle.system.specs.System as system
 use Rattle.stand_ins.specs.Whole.{anything, iq-numbers, offset-numbers, iir-numbers, fir-numbers, bin-alone, bin-pair, pulse-alone, pulse-pair, pulse-of-each}
-use Rattle.stand_ins.specs.ByValue.{always, partsFor}
+use Rattle.stand_ins.specs.ByValue.{always}
 use Rattle.stand_ins.specs.Buffers as lent
 use Rattle.stand_ins.specs.Inputs as given
 use Rattle.stand_ins.specs.Table.{itself, stepLeft, stepCame, bothLeft, mixedLeft, mixedCame, firstSummed, firstMixed, firstBinMixed, Buffers}
@@ -115,8 +120,8 @@ only-envelope x z p = λ j. record { i = p .0 j; q = p .1 j }
 -- of an envelope's points
 abbrev pointsLeft : lent.Laying → lent.Points
 pointsLeft x =
-    let parts = partsFor (x .curve) (limitOf (x .curve .room) (length (x .scratch))) in
-    record { answer = envelopedOf parts; scratch = scratchAfter parts (x .scratch) }
+    let b = x .bent in
+    record { answer = envelopedOf (b .shape) (b .numbers) (lent.partsLaid x); scratch = scratchAfter (b .shape) (b .numbers) (lent.partsLaid x) (x .scratch) }
 
 only-points : (x : lent.Laying) → Only lent.envelope x (pointsLeft x)
 only-points x z p = λ j. record { answer = p .0 j; scratch = p .1 j }
@@ -141,7 +146,7 @@ twoEnd : Gathered → Bool
 twoEnd g = eqb (getD (g .ends .ends) 0 0) 2
 
 pub buffers : Buffers
-unfolding isOne isOneRow twoEnd isTwo mixedDown endsFit runsForFrom pulsesIn pickedFrom passed over inOne endsFrom add sub mul div rem neg lt eq le sum round ofBits ofInt ceiling cutOf exp2Of fma wrapped reduced horner cosineAt sineAt cosineOf sineOf allFinite nameByte every lowBytes bytesOfWord sixteen bytesOf pastEnd isName sameName mixedRow raisedRow ran sectionsFrom finiteSections given pipelined turns doubled tapAt sumTo filteredFrom points values indexAt partedOf shapeOf finitePoints hannOf sameRow placeOf envelopeOf phase0 dphase startPair rotationPair phaseNumbers judged foundFrom isIn settled settledShape keptFrom summedBy joined joinedTwo packed zipped allNames doubledFrom allKnown rowFrom partOf partsAt planned onPart carried shaped ofMark allRows firstsAfter good required run.acted run.ran ranPulses ranBins sampled
+unfolding isOne isOneRow twoEnd isTwo mixedDown endsFit runsForFrom pulsesIn pickedFrom passed over inOne endsFrom add sub mul div rem neg lt eq le sum round ofBits ofInt ceiling cutOf exp2Of fma wrapped reduced horner cosineAt sineAt cosineOf sineOf allFinite nameByte every lowBytes bytesOfWord sixteen bytesOf pastEnd isName sameName mixedRow raisedRow ran sectionsFrom finiteSections given pipelined turns doubled tapAt sumTo filteredFrom points inDomain spanTo blendOf dAt spline-row.rowOf wholeOf splineAt valueIn valueOf pointFine values allFine indexAt partedOf shapeOf finitePoints finePoints hannOf sameNumbers sameRow placeOf envelopeOf phase0 dphase startPair rotationPair phaseNumbers judged foundFrom shapeFrom settled settledShape keptFrom summedBy joined joinedTwo packed zipped allNames doubledFrom allKnown rowFrom partOf partsAt planned onPart carried shaped ofMark allRows firstsAfter good required run.acted run.ran ranPulses ranBins sampled
 buffers =
     record {
       iq-c = not-all-refused lent.iq-c _ _ (only-iq (given.stepping iq-numbers 1)) refl;
@@ -160,6 +165,8 @@ buffers =
       lists-move = both-rows-move lent.mix-lists mixedLeft mixedCame _ _ _ _ (only-mixed (given.mixing 1 bin-alone pulse-alone)) (only-mixed (given.mixing 0 bin-alone pulse-alone)) refl refl refl refl refl refl refl refl refl refl;
       part-laid = not-always lent.lay itself (λ (x : lent.Part). x .part) isOneRow (given.parting one) _ (λ z p. p) refl refl refl;
       part-moves = varies _ always itself (λ (x : lent.Part). length (x .part)) isOneRow (given.parting one) (given.parting nought) refl refl refl refl refl;
+      spline-laid = not-always lent.spline-over itself (λ (x : lent.Bends). x .part) isOneRow (given.bends nought) _ (λ z p. p) refl refl refl;
+      spline-moves = varies _ always itself (λ (x : lent.Bends). length (x .part)) isOneRow (given.bends nought) (given.bends (numbers.over 5 10)) refl refl refl refl refl;
       scratch-filled = not-always lent.envelope (λ (y : lent.Points). y .scratch) (λ (x : lent.Laying). x .scratch) isOneRow given.laying _ (only-points given.laying) refl refl refl;
       first-summed = not-always lent.sum-lists itself firstSummed twoEnd (given.summing bin-alone pulse-pair) _ (λ z p. p) refl refl refl;
       first-mixed = not-always lent.mix-lists (λ (y : lent.Mixed). y .out .left) firstMixed (λ (r : Rowed). isTwo (r .i)) _ _ (only-mixed (given.mixing 0 bin-alone pulse-pair)) refl refl refl;

@@ -18,6 +18,8 @@ use Rattle.mix.proofs.add_plateau as add-plateau
 use Rattle.host.proofs.skierralu_add_plateau as add-plateau-c
 use Rattle.mix.proofs.add_envelope as add-envelope
 use Rattle.points.proofs.lay as lay
+use Rattle.spline.proofs.over.over as spline-over
+use Rattle.host.proofs.skierralu_spline as spline-c
 use Rattle.shape.proofs.envelope.envelope as envelope
 use Rattle.merge.proofs.work.sum_lists as sum-lists
 use Rattle.mixdown.proofs.mix_lists as mix-lists
@@ -55,9 +57,15 @@ module _ {M : Type 1} (𝓤 : URA M) (H : Heap 𝓤) (A : Atoms 𝓤) (mem : Mem
   pub lay-says : Says 𝓤 lay.ended (lay.clauses 𝓤 H A mem run) (λ κs a r e. call.lay .Promise (record { part = now (a .0); start = a .1 .0; step = a .1 .1 .0 }) (now (e .0)))
   lay-says κs a g r e = (refl, refl)
 
+  pub spline-over-says : Says 𝓤 spline-over.ended (spline-over.clauses 𝓤 H A mem run) (λ κs a r e. call.spline-over .Promise (record { part = now (a .0); row = now (a .1 .0) }) (now (e .0)))
+  spline-over-says κs a g r e = (refl, refl)
+
+  pub spline-c-says : Says 𝓤 spline-c.ended (spline-c.clauses 𝓤 H A mem run) (λ κs a r e. call.spline-over .Promise (record { part = now (a .0); row = now (a .1 .0) }) (now (e .0)))
+  spline-c-says κs a g r e = (refl, refl)
+
   pub envelope-says : SaysTwo 𝓤 envelope.ended (envelope.clauses 𝓤 H A mem run)
-      (λ κs a r e. call.PointsAnswer (record { curve = record { width = a .0 .0; plateau = a .1 .0 .0; offset = a .1 .1 .0; rate = a .1 .1 .1 .0 .0; dt = a .1 .1 .1 .1 .0 .0; room = a .1 .1 .1 .1 .1 .0 }; scratch = now (a .1 .1 .1 .1 .1 .1 .0) }) (record { answer = r; scratch = now (e .1 .1 .1 .1 .1 .1 .0) }))
-      (λ κs a r e. call.PointsLaid (record { curve = record { width = a .0 .0; plateau = a .1 .0 .0; offset = a .1 .1 .0; rate = a .1 .1 .1 .0 .0; dt = a .1 .1 .1 .1 .0 .0; room = a .1 .1 .1 .1 .1 .0 }; scratch = now (a .1 .1 .1 .1 .1 .1 .0) }) (record { answer = r; scratch = now (e .1 .1 .1 .1 .1 .1 .0) }))
+      (λ κs a r e. call.PointsAnswer (record { bent = record { shape = a .0; numbers = now (a .1 .0); curve = record { width = a .1 .1 .0 .0; plateau = a .1 .1 .1 .0 .0; offset = a .1 .1 .1 .1 .0; rate = a .1 .1 .1 .1 .1 .0 .0; dt = a .1 .1 .1 .1 .1 .1 .0 .0; room = a .1 .1 .1 .1 .1 .1 .1 .0 } }; scratch = now (a .1 .1 .1 .1 .1 .1 .1 .1 .0) }) (record { answer = r; scratch = now (e .1 .1 .1 .1 .1 .1 .1 .1 .0) }))
+      (λ κs a r e. call.PointsLaid (record { bent = record { shape = a .0; numbers = now (a .1 .0); curve = record { width = a .1 .1 .0 .0; plateau = a .1 .1 .1 .0 .0; offset = a .1 .1 .1 .1 .0; rate = a .1 .1 .1 .1 .1 .0 .0; dt = a .1 .1 .1 .1 .1 .1 .0 .0; room = a .1 .1 .1 .1 .1 .1 .1 .0 } }; scratch = now (a .1 .1 .1 .1 .1 .1 .1 .1 .0) }) (record { answer = r; scratch = now (e .1 .1 .1 .1 .1 .1 .1 .1 .0) }))
   envelope-says κs a g r e = (refl, refl)
 
   pub sum-lists-says : Says 𝓤 sum-lists.ended (sum-lists.clauses 𝓤 H A mem run) (λ κs a r e. call.sum-lists .Promise (record { tables = a .0; taking = a .1 .0; pulses = now (a .1 .1 .0); work = now (a .1 .1 .1 .0); marks = now (a .1 .1 .1 .1 .0) }) (gathered (now (e .1 .1 .1 .0)) (now (e .1 .1 .1 .1 .0)) r))

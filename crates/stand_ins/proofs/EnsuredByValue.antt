@@ -39,6 +39,10 @@ use Rattle.shape.proofs.envelope.measure as measure
 use Rattle.placing.proofs.judge as judge
 use Rattle.tables.proofs.state as state
 use Rattle.tables.proofs.find as find
+use Rattle.tables.proofs.find_shape as find-shape
+use Rattle.spline.proofs.check.check as spline-check
+use Rattle.spline.proofs.value.value as spline-value
+use Rattle.spline.proofs.value.is_fine as spline-fine
 use Rattle.crosstalk.proofs.plan as plan
 use Rattle.rows.proofs.answer as answer
 use Rattle.stand_ins.specs.ByValue as call
@@ -123,10 +127,10 @@ module _ {M : Type 1} (𝓤 : URA M) (H : Heap 𝓤) (A : Atoms 𝓤) (mem : Mem
   pub lay-out-says : Says 𝓤 lay-out.ended (lay-out.clauses 𝓤 H A mem run) (λ κs a r e. call.lay-out .Promise (record { width = a .0 .0; plateau = a .1 .0 .0; offset = a .1 .1 .0; rate = a .1 .1 .1 .0 .0; dt = a .1 .1 .1 .1 .0 .0; room = a .1 .1 .1 .1 .1 .0 }) r)
   lay-out-says κs a g r e = (refl, refl)
 
-  pub measure-says : Says 𝓤 measure.ended (measure.clauses 𝓤 H A mem run) (λ κs a r e. call.measure .Promise (record { width = a .0 .0; plateau = a .1 .0 .0; offset = a .1 .1 .0; rate = a .1 .1 .1 .0 .0; dt = a .1 .1 .1 .1 .0 .0; room = a .1 .1 .1 .1 .1 .0 }) r)
+  pub measure-says : Says 𝓤 measure.ended (measure.clauses 𝓤 H A mem run) (λ κs a r e. call.measure .Promise (record { shape = a .0; numbers = now (a .1 .0); curve = record { width = a .1 .1 .0 .0; plateau = a .1 .1 .1 .0 .0; offset = a .1 .1 .1 .1 .0; rate = a .1 .1 .1 .1 .1 .0 .0; dt = a .1 .1 .1 .1 .1 .1 .0 .0; room = a .1 .1 .1 .1 .1 .1 .1 .0 } }) r)
   measure-says κs a g r e = (refl, refl)
 
-  pub judge-says : Says 𝓤 judge.ended (judge.clauses 𝓤 H A mem run) (λ κs a r e. call.judge .Promise (record { settings = a .0; bin = a .1 .0; pulse = a .1 .1 .0; len = a .1 .1 .1 .0 }) r)
+  pub judge-says : Says 𝓤 judge.ended (judge.clauses 𝓤 H A mem run) (λ κs a r e. call.judge .Promise (record { settings = a .0; bin = a .1 .0; numbers = now (a .1 .1 .0); pulse = a .1 .1 .1 .0; len = a .1 .1 .1 .1 .0 }) r)
   judge-says κs a g r e = (refl, refl)
 
   pub state-says : Says 𝓤 state.ended (state.clauses 𝓤 H A mem run) (λ κs a r e. call.state .Promise (record { tables = a .0; name = a .1 .0 }) r)
@@ -134,6 +138,18 @@ module _ {M : Type 1} (𝓤 : URA M) (H : Heap 𝓤) (A : Atoms 𝓤) (mem : Mem
 
   pub find-says : Says 𝓤 find.ended (find.clauses 𝓤 H A mem run) (λ κs a r e. call.find .Promise (record { tables = a .0; name = a .1 .0 }) r)
   find-says κs a g r e = (refl, refl)
+
+  pub find-shape-says : Says 𝓤 find-shape.ended (find-shape.clauses 𝓤 H A mem run) (λ κs a r e. call.find-shape .Promise (record { tables = a .0; name = a .1 .0 }) r)
+  find-shape-says κs a g r e = (refl, refl)
+
+  pub spline-check-says : Says 𝓤 spline-check.ended (spline-check.clauses 𝓤 H A mem run) (λ κs a r e. call.spline-check .Promise (record { degree = a .0; controls = a .1 .0; knots = now (a .1 .1 .0) }) r)
+  spline-check-says κs a g r e = (refl, refl)
+
+  pub spline-value-says : Says 𝓤 spline-value.ended (spline-value.clauses 𝓤 H A mem run) (λ κs a r e. call.spline-value .Promise (record { row = now (a .0); at = a .1 .0 }) r)
+  spline-value-says κs a g r e = (refl, refl)
+
+  pub spline-fine-says : Says 𝓤 spline-fine.ended (spline-fine.clauses 𝓤 H A mem run) (λ κs a r e. call.spline-fine .Promise (record { row = now (a .0); at = a .1 .0 }) r)
+  spline-fine-says κs a g r e = (refl, refl)
 
   pub plan-says : Says 𝓤 plan.ended (plan.clauses 𝓤 H A mem run) (λ κs a r e. call.plan .Promise (record { tables = a .0; channel = a .1 .0; cross = a .1 .1 .0; factors = now (a .1 .1 .1 .0) }) r)
   plan-says κs a g r e = (refl, refl)

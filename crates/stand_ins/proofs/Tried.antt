@@ -17,14 +17,18 @@ use Rattle.fir.specs.Fir.{doubled, tapAt, sumTo, filteredFrom}
 use Rattle.quant.specs.declared.refusal.Answer.the-variants.{Done}
 use Rattle.shape.specs.Hann.{hannOf}
 use Rattle.points.specs.Points.{points}
-use Rattle.shape.specs.Segment.{values}
+use Rattle.spline.specs.Spline.{notFalling, isSpline, inDomain, spanTo, blendOf, fineStep, dAt, fineAt}
+use Rattle.spline.specs.Row as spline-row
+use Rattle.spline.specs.Value.{wholeOf, splineAt, splineFine, valueIn, fineIn}
+use Rattle.spline.specs.Same.{sameNumbers}
+use Rattle.shape.specs.Segment.{valueOf, pointFine, values, allFine}
 use Rattle.shape.specs.Parts.{indexAt, partedOf}
-use Rattle.shape.specs.Envelope.{shapeOf, finitePoints}
+use Rattle.shape.specs.Envelope.{shapeOf, finitePoints, finePoints}
 use Rattle.pulse.specs.Bin.{sameRow, placeOf}
 use Rattle.pulse.specs.Envelope.{envelopeOf}
 use Rattle.placing.specs.Phases.{phase0, dphase, startPair, rotationPair, phaseNumbers}
 use Rattle.placing.specs.Judged.{judged}
-use Rattle.tables.specs.Tables.{foundFrom, isIn, settled, settledShape}
+use Rattle.tables.specs.Tables.{foundFrom, shapeFrom, settled, settledShape}
 use Rattle.merge.specs.Sum.{keptFrom, summedBy}
 use Rattle.merge.specs.Join.{joined, joinedTwo}
 use Rattle.merge.specs.Taking.{packed, zipped}
@@ -41,7 +45,7 @@ use Rattle.sampler.specs.Sampler.{sampled}
 use Rattle.sampler_laws.specs.Added.{duesOf, allDues, withAll}
 use Rattle.system.specs.System.{outcome}
 use Rattle.bench_table.specs.Numbers.{whole}
-use Rattle.stand_ins.specs.Whole.{plateau, hann, iq, offset, iir, fir, make, add-channel, add-shape, execute, no-command, no-pulse, two-pulses, two-bins, Try, Trial, ones, noughts, also, tryOf, samplingOf, firstPulse, firstBin}
+use Rattle.stand_ins.specs.Whole.{plateau, hann, spline, iq, offset, iir, fir, make, add-channel, add-shape, add-spline, execute, no-command, no-pulse, two-pulses, two-bins, Try, Trial, ones, noughts, also, tryOf, samplingOf, firstPulse, firstBin}
 
 pub record Tried (t : Try) : Type 0 where
   pub answer : outcome (t .asking .state) (t .asking .call) .answer ≡ Done (t .count)
@@ -58,18 +62,20 @@ pub record All : Type 0 where
   pub first : TriedFirst
 
 pub tried : All
-unfolding outcome add sub mul div rem neg lt eq le sum round ofBits ofInt ceiling cutOf exp2Of fma wrapped reduced horner cosineAt sineAt cosineOf sineOf allFinite nameByte every lowBytes bytesOfWord sixteen bytesOf pastEnd isName sameName mixedRow raisedRow ran sectionsFrom finiteSections given pipelined turns doubled tapAt sumTo filteredFrom points values indexAt partedOf shapeOf finitePoints hannOf sameRow placeOf envelopeOf phase0 dphase startPair rotationPair phaseNumbers judged foundFrom isIn settled settledShape keptFrom summedBy joined joinedTwo packed zipped allNames doubledFrom allKnown rowFrom partOf partsAt planned onPart carried shaped ofMark allRows firstsAfter good required run.acted run.ran ranPulses ranBins sampled duesOf allDues withAll
+unfolding outcome add sub mul div rem neg lt eq le sum round ofBits ofInt ceiling cutOf exp2Of fma wrapped reduced horner cosineAt sineAt cosineOf sineOf allFinite nameByte every lowBytes bytesOfWord sixteen bytesOf pastEnd isName sameName mixedRow raisedRow ran sectionsFrom finiteSections given pipelined turns doubled tapAt sumTo filteredFrom points notFalling isSpline inDomain spanTo blendOf fineStep dAt fineAt spline-row.rowOf wholeOf splineAt splineFine valueIn fineIn valueOf pointFine values allFine indexAt partedOf shapeOf finitePoints finePoints hannOf sameNumbers sameRow placeOf envelopeOf phase0 dphase startPair rotationPair phaseNumbers judged foundFrom shapeFrom settled settledShape keptFrom summedBy joined joinedTwo packed zipped allNames doubledFrom allKnown rowFrom partOf partsAt planned onPart carried shaped ofMark allRows firstsAfter good required run.acted run.ran ranPulses ranBins sampled duesOf allDues withAll
 tried = record { each = each; first = record { pulse = refl; bin = refl } }
   where
     each : (t : Trial) → Tried (tryOf t)
     each (ones plateau) = record { answer = refl; i = refl; q = refl }
     each (ones hann) = record { answer = refl; i = refl; q = refl }
+    each (ones spline) = record { answer = refl; i = refl; q = refl }
     each (ones iq) = record { answer = refl; i = refl; q = refl }
     each (ones offset) = record { answer = refl; i = refl; q = refl }
     each (ones iir) = record { answer = refl; i = refl; q = refl }
     each (ones fir) = record { answer = refl; i = refl; q = refl }
     each (noughts plateau) = record { answer = refl; i = refl; q = refl }
     each (noughts hann) = record { answer = refl; i = refl; q = refl }
+    each (noughts spline) = record { answer = refl; i = refl; q = refl }
     each (noughts iq) = record { answer = refl; i = refl; q = refl }
     each (noughts offset) = record { answer = refl; i = refl; q = refl }
     each (noughts iir) = record { answer = refl; i = refl; q = refl }
@@ -77,6 +83,7 @@ tried = record { each = each; first = record { pulse = refl; bin = refl } }
     each (also make) = record { answer = refl; i = refl; q = refl }
     each (also add-channel) = record { answer = refl; i = refl; q = refl }
     each (also add-shape) = record { answer = refl; i = refl; q = refl }
+    each (also add-spline) = record { answer = refl; i = refl; q = refl }
     each (also execute) = record { answer = refl; i = refl; q = refl }
     each (also no-command) = record { answer = refl; i = refl; q = refl }
     each (also no-pulse) = record { answer = refl; i = refl; q = refl }

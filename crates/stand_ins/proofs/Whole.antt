@@ -1,4 +1,4 @@
--- No program for the nine calls of `system` that keeps their promises is a stand-in: each promise allows one outcome (`only`, of `system`), and at the calls that
+-- No program for the ten calls of `system` that keeps their promises is a stand-in: each promise allows one outcome (`only`, of `system`), and at the calls that
 -- are tried it is another than the stand-in's. Assumes nothing.
 use Prim.Native.Nat.{ℕ, _+_, _*_}
 use mathlib.Core.Path.{_≡_, refl, ap, _∙_}
@@ -14,7 +14,7 @@ use Rattle.system.specs.System.{Outcome, outcome}
 use Rattle.system.proofs.Promised as promised
 use Rattle.stand_ins.specs.StandIns.{NotAllRefused, NotAlways, NotFixed, Row, I, Q, RowsMove}
 use Rattle.stand_ins.specs.Whole.{Asking, isDone, whole-system, rowLeft, answerOf, rowCame, anything, sampling-call, rowsLeft, firstPulse, firstBin, Sampling, askingOf, OnRows, plateau, sort, on, execute, no-command, no-pulse, two-pulses, two-bins, else, samplingOf, Trial, ones, noughts, also, tryOf}
-use Rattle.stand_ins.specs.Table.{NineCalls}
+use Rattle.stand_ins.specs.Table.{TenCalls}
 use Rattle.stand_ins.proofs.StandIns.{Only, not-all-refused, not-always, not-fixed, isTwo, one-is-not, rows-move}
 use Rattle.stand_ins.proofs.Tried.{tried}
 
@@ -51,7 +51,7 @@ came n k Q = refl
 all-refused : (t : Trial) → NotAllRefused whole-system (tryOf t .asking)
 all-refused t = not-all-refused whole-system (tryOf t .asking) (comesTo (tryOf t .asking)) (only (tryOf t .asking)) (takes t)
 
--- ---- of the calls on rows, a sampling of a plateau, one of Hann's shape and the four steps, in I and in Q
+-- ---- of the calls on rows, a sampling of a plateau, one of Hann's shape, one of a spline and the four steps, in I and in Q
 
 moves : (k : OnRows) → RowsMove whole-system rowLeft rowCame (on 1 k .asking) (on 0 k .asking)
 moves k =
@@ -93,8 +93,8 @@ commands-counted = counted (also execute) (also no-command) refl refl
 pulses-counted : NotFixed whole-system answerOf anything (on 0 plateau .asking) (else no-pulse .asking)
 pulses-counted = counted (noughts plateau) (also no-pulse) refl refl
 
-pub nine-calls : NineCalls
-nine-calls =
+pub ten-calls : TenCalls
+ten-calls =
     record {
       all-refused = all-refused;
       rows-move = moves;

@@ -17,6 +17,8 @@ use Rattle.mix.specs.Part.{firstRow, secondRow}
 use Rattle.mix.specs.Plateau.{carried, real, imaginary}
 use Rattle.mix.specs.Envelope.{shapedBy}
 use Rattle.points.specs.Points.{points}
+use Rattle.spline.specs.Value.{valueIn}
+use Rattle.shape.specs.declared.parts.Parted.{Parted}
 use Rattle.shape.specs.declared.envelope.Enveloped.{Enveloped}
 use Rattle.shape.specs.Envelope.{limitOf, envelopedOf, scratchAfter}
 use Rattle.pulse.specs.declared.list.Pulse.{Pulse}
@@ -33,7 +35,7 @@ use Rattle.mixdown.specs.Sampled.{Rowed, Out, mixedDown}
 use Rattle.system.specs.System.{State}
 use Rattle.stand_ins.specs.StandIns.{Call, equation}
 use Rattle.stand_ins.specs.Whole.{isDone}
-use Rattle.stand_ins.specs.ByValue.{always, Curve, partsFor, hasPoints}
+use Rattle.stand_ins.specs.ByValue.{always, Bent, partsFor, hasPoints}
 
 -- ---- the steps over the C border: one or two rows, numbers; a code, 0 or the refusal's number
 
@@ -129,22 +131,35 @@ pub record Part : Type 0 where
 abbrev pub lay : Call
 lay = equation (λ (x : Part). points (length (x .part)) 0 (x .start) (x .step)) always
 
+-- ---- a spline's values at the points of a part
+
+pub record Bends : Type 0 where
+  pub part : List Float
+  pub row : List Float
+
+abbrev pub spline-over : Call
+spline-over = equation (λ (x : Bends). map (valueIn (x .row)) (x .part)) always
+
 -- ---- an envelope's points in the scratch
 
 pub record Laying : Type 0 where
-  pub curve : Curve
+  pub bent : Bent
   pub scratch : List Float
 
 pub record Points : Type 0 where
   pub answer : Enveloped
   pub scratch : List Float
 
+-- its parts, in the room that row and scratch leave
+abbrev pub partsLaid : Laying → Parted
+partsLaid x = partsFor (x .bent .curve) (limitOf (x .bent .curve .room) (length (x .scratch)))
+
 module _ (x : Laying) (y : Points) where
   abbrev pub PointsAnswer : Type 0
-  PointsAnswer = y .answer ≡ envelopedOf (partsFor (x .curve) (limitOf (x .curve .room) (length (x .scratch))))
+  PointsAnswer = y .answer ≡ envelopedOf (x .bent .shape) (x .bent .numbers) (partsLaid x)
 
   abbrev pub PointsLaid : Type 0
-  PointsLaid = y .scratch ≡ scratchAfter (partsFor (x .curve) (limitOf (x .curve .room) (length (x .scratch)))) (x .scratch)
+  PointsLaid = y .scratch ≡ scratchAfter (x .bent .shape) (x .bent .numbers) (partsLaid x) (x .scratch)
 
 abbrev pub envelope : Call
 envelope = record { Given = Laying; Left = Points; Promise = λ x y. PointsAnswer x y × PointsLaid x y; accepted = λ y. hasPoints (y .answer) }
@@ -226,7 +241,7 @@ pub record Owning : Type 0 where
   pub count : ℕ
 
 abbrev pub ranOwned : Owning → Ran
-ranOwned x = executedOwned (x .state .tables) (x .commands) (x .count) (x .state .bins) (x .state .pulses)
+ranOwned x = executedOwned (x .state .tables) (x .state .splines) (x .commands) (x .count) (x .state .bins) (x .state .pulses)
 
 abbrev pub isRun : Ran → Bool
 isRun r = isDone (r .result .answer)

@@ -23,7 +23,10 @@ use Rattle.executor.specs.declared.osc.OscState.{OscState}
 use Rattle.executor.specs.declared.osc.Moved.{Moved}
 use Rattle.executor.specs.declared.osc.Swapped.{Swapped}
 use Rattle.executor.specs.Osc.{shiftedPhase, setPhaseTo, shiftedFreq, setFreqTo, swappedPhases, movedAnswer, swappedAnswer}
+use Rattle.spline.specs.Spline.{isSpline}
+use Rattle.spline.specs.Value.{valueIn, fineIn}
 use Rattle.pulse.specs.declared.bin.Bin.{Bin}
+use Rattle.pulse.specs.declared.envelope.Shape.{Shape}
 use Rattle.pulse.specs.declared.list.Pulse.{Pulse}
 use Rattle.pulse.specs.declared.weight.Weighed.{Weighed}
 use Rattle.pulse.specs.Weight.{weighedOf, weighedAnswer}
@@ -53,6 +56,9 @@ use Rattle.stand_ins.specs.Whole.{isDone}
 
 abbrev pub always : {A : Type 0} → A → Bool
 always x = true
+
+abbrev pub isTrue : Bool → Bool
+isTrue b = b
 
 abbrev pub cosine : Call
 cosine = equation cosineOf always
@@ -185,12 +191,19 @@ lay-out = equation (λ (x : Curve). partsFor x (x .room)) isWithin
 abbrev pub hasPoints : Enveloped → Bool
 hasPoints y = isDone (envelopedAnswer y)
 
+-- of a shape, with the numbers of a spline beside it
+pub record Bent : Type 0 where
+  pub shape : Shape
+  pub numbers : List Float
+  pub curve : Curve
+
 abbrev pub measure : Call
-measure = equation (λ (x : Curve). envelopedOf (partsFor x (least (x .room) 65536))) hasPoints
+measure = equation (λ (x : Bent). envelopedOf (x .shape) (x .numbers) (partsFor (x .curve) (least (x .curve .room) 65536))) hasPoints
 
 pub record Pulsed : Type 0 where
   pub settings : Settings
   pub bin : Bin
+  pub numbers : List Float
   pub pulse : Pulse
   pub len : ℕ
 
@@ -198,9 +211,29 @@ abbrev pub isPlaced : Judged → Bool
 isPlaced y = isDone (judgedAnswer y)
 
 abbrev pub judge : Call
-judge = equation (λ (x : Pulsed). judged (x .settings) (x .bin) (x .pulse) (x .len)) isPlaced
+judge = equation (λ (x : Pulsed). judged (x .settings) (x .bin) (x .numbers) (x .pulse) (x .len)) isPlaced
 
--- ---- the tables: a channel's state, its place; the plan of a sampling
+-- ---- a spline: of any row of numbers its value, and whether the way to it is fine; whether degree, controls and knots are one's
+
+pub record Bending : Type 0 where
+  pub row : List Float
+  pub at : Float
+
+abbrev pub spline-value : Call
+spline-value = equation (λ (x : Bending). valueIn (x .row) (x .at)) always
+
+abbrev pub spline-fine : Call
+spline-fine = equation (λ (x : Bending). fineIn (x .row) (x .at)) isTrue
+
+pub record Knotted : Type 0 where
+  pub degree : ℕ
+  pub controls : ℕ
+  pub knots : List Float
+
+abbrev pub spline-check : Call
+spline-check = equation (λ (x : Knotted). isSpline (x .degree) (x .controls) (x .knots)) isTrue
+
+-- ---- the tables: a channel's state, its place, a shape's place; the plan of a sampling
 
 pub record Looking : Type 0 where
   pub tables : Tables
@@ -218,6 +251,9 @@ isThere found.Nowhere = false
 
 abbrev pub find : Call
 find = equation (λ (x : Looking). tables.found (x .tables) (x .name)) isThere
+
+abbrev pub find-shape : Call
+find-shape = equation (λ (x : Looking). tables.shapeFound (x .tables) (x .name)) isThere
 
 pub record Planning : Type 0 where
   pub tables : Tables

@@ -1,6 +1,6 @@
 -- The inputs that the other calls are tried on. Definitions only.
 use Prim.Native.Nat.{ℕ}
-use mathlib.Core.Bool.{true}
+use mathlib.Core.Bool.{true, false}
 use mathlib.Core.List.{List, [], _∷_, map}
 use lib.IntN.{pos}
 use lib.Ieee.{Float}
@@ -8,17 +8,17 @@ use lib.ListN.{take, replicate}
 use Rattle.exact.specs.Doubles.{nought, one}
 use Rattle.naming.specs.declared.Name.{Name}
 use Rattle.quant.specs.declared.complex.Complex.{Complex}
-use Rattle.pulse.specs.declared.bin.Bin.{Bin}
 use Rattle.pulse.specs.declared.list.Pulse.{Pulse}
-use Rattle.pulse.specs.declared.envelope.Shape.the-variants.{Plain}
-use Rattle.tables.specs.Tables.{atRest, noName}
+use Rattle.pulse.specs.declared.envelope.Shape.the-variants.{Plain, Hann}
+use Rattle.pulse.specs.Bin.{noNumbers}
+use Rattle.tables.specs.Tables.{atRest, noName, fresh}
 use Rattle.merge.specs.declared.taking.Taking.{Taking}
 use Rattle.sheet.specs.Sheet.{sheetText}
 use Rattle.bench_table.specs.Numbers.{over, whole}
 use Rattle.bench_table.specs.Call.{channel, clock, binWith, pulseAt, noCrosstalk}
-use Rattle.stand_ins.specs.Whole.{tablesOf, holding, barrier}
-use Rattle.stand_ins.specs.ByValue.{Pointing, Timed, Clocked, Turning, Swapping, Weighing, Curve, Pulsed, Looking, Planning, Verdict}
-use Rattle.stand_ins.specs.Buffers.{Step, Plateau, Envelope, Part, Laying, Summing, gatheredFor, Mixing, Owning}
+use Rattle.stand_ins.specs.Whole.{tablesOf, holding, rising, barrier}
+use Rattle.stand_ins.specs.ByValue.{Pointing, Timed, Clocked, Turning, Swapping, Weighing, Curve, Bent, Pulsed, Bending, Knotted, Looking, Planning, Verdict}
+use Rattle.stand_ins.specs.Buffers.{Step, Plateau, Envelope, Part, Bends, Laying, Summing, gatheredFor, Mixing, Owning}
 use Rattle.stand_ins.specs.Texts.{Place, Field, Fields, Sheet, Printing, Answering, Behind}
 
 -- ---- by value: time 0 at rate 1 and level 0, an oscillator at rest, amplitude 1, a width of 1 at an offset of 0.5
@@ -41,11 +41,38 @@ weighing = record { amplitude = whole 1; phase = whole 0; drag = whole 0 }
 abbrev pub curve : Curve
 curve = record { width = whole 1; plateau = whole 0; offset = over 5 10; rate = whole 1; dt = whole 1; room = 1 }
 
+abbrev pub bent : Bent
+bent = record { shape = Hann; numbers = noNumbers; curve = curve }
+
 abbrev pub pulsed : Pulsed
-pulsed = record { settings = clock (pos 0); bin = binWith Plain (whole 0) (whole 1); pulse = pulseAt (whole 0); len = 1 }
+pulsed = record { settings = clock (pos 0); bin = binWith Plain (whole 0) (whole 1); numbers = noNumbers; pulse = pulseAt (whole 0); len = 1 }
 
 abbrev pub looking : Looking
 looking = record { tables = tablesOf 0 0; name = channel }
+
+-- the spline at x; a degree of 0, with one control and two knots
+abbrev pub bending : Float → Bending
+bending x = record { row = rising; at = x }
+
+abbrev pub knotted : Knotted
+knotted = record { degree = 0; controls = 1; knots = whole 0 ∷ whole 1 ∷ [] }
+
+-- tables with the one shape `q`
+abbrev pub shape-looking : Looking
+shape-looking =
+    record {
+      tables =
+          record {
+            amp = record { 0 = whole 0 };
+            time = record { 0 = whole 0 };
+            oversize = false;
+            channels = replicate 8 (fresh noName atRest);
+            count = 0;
+            shapes = channel ∷ replicate 7 noName;
+            named = 1;
+          };
+      name = channel;
+    }
 
 abbrev pub planning : Planning
 planning = record { tables = tablesOf 0 0; channel = channel; cross = noCrosstalk; factors = [] }
@@ -159,21 +186,25 @@ pointing i = record { start = whole 0; step = whole 1; index = i }
 abbrev pub parting : Float → Part
 parting x = record { part = whole 0 ∷ []; start = x; step = whole 1 }
 
+-- a part of the one point x
+abbrev pub bends : Float → Bends
+bends x = record { part = x ∷ []; row = rising }
+
 -- a scratch of one sample
 abbrev pub laying : Laying
-laying = record { curve = curve; scratch = whole 0 ∷ [] }
+laying = record { bent = bent; scratch = whole 0 ∷ [] }
 
 -- ---- the list of `q` takes part, with the factor 1: its bins, and its pulses summed
 
 abbrev pub taking : Taking
 taking = record { count = 1; places = replicate 8 0; factors = whole 1 ∷ replicate 7 (whole 0) }
 
-abbrev pub summing : List Bin → List Pulse → Summing
+abbrev pub summing : List (List Float) → List Pulse → Summing
 summing bins pulses =
     let s = holding (whole 0) bins pulses in
     record { tables = s .tables; taking = taking; pulses = s .pulses; work = s .work; marks = s .marks }
 
-abbrev pub mixing : ℕ → List Bin → List Pulse → Mixing
+abbrev pub mixing : ℕ → List (List Float) → List Pulse → Mixing
 mixing x bins pulses =
     let s = holding (whole x) bins pulses in
     let g = gatheredFor (summing bins pulses) in

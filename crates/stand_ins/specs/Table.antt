@@ -20,12 +20,12 @@ use Rattle.stand_ins.specs.Inputs as given
 abbrev pub itself : {A : Type 0} → A → A
 itself x = x
 
--- ---- the nine calls of `system`
+-- ---- the ten calls of `system`
 
-pub record NineCalls : Type 1 where
+pub record TenCalls : Type 1 where
   -- "all calls refused": of each call
   pub all-refused : (t : Trial) → NotAllRefused whole-system (tryOf t .asking)
-  -- "rows untouched", "one fixed row": a sampling of a plateau, one of Hann's shape, and the four steps
+  -- "rows untouched", "one fixed row": a sampling of a plateau, one of Hann's shape, one of a spline, and the four steps
   pub rows-move : (k : OnRows) → RowsMove whole-system rowLeft rowCame (on 1 k .asking) (on 0 k .asking)
   -- "only the first pulse or bin sampled"
   pub first-pulse : NotAlways sampling-call rowsLeft firstPulse (samplingOf two-pulses)
@@ -42,6 +42,7 @@ pub record ByValue : Type 1 where
   pub sine : NotFixed value.sine itself anything nought one
   pub cosine-wrapped : NotFixed value.cosine-wrapped itself anything nought one
   pub hann : NotFixed value.hann itself anything nought (over 5 10)
+  pub spline-value : NotFixed value.spline-value itself anything (given.bending nought) (given.bending (over 5 10))
   pub point : NotFixed value.point itself anything (given.pointing 1) (given.pointing 0)
   pub both-cosine : NotFixed value.both (λ (y : Float × Float). y .0) anything nought one
   pub both-sine : NotFixed value.both (λ (y : Float × Float). y .1) anything nought one
@@ -60,10 +61,13 @@ pub record ByValue : Type 1 where
   pub swap-phase : NotAllRefused value.swap-phase given.swapping
   pub weigh : NotAllRefused value.weigh given.weighing
   pub lay-out : NotAllRefused value.lay-out given.curve
-  pub measure : NotAllRefused value.measure given.curve
+  pub measure : NotAllRefused value.measure given.bent
   pub judge : NotAllRefused value.judge given.pulsed
   pub state : NotAllRefused value.state given.looking
   pub find : NotAllRefused value.find given.looking
+  pub find-shape : NotAllRefused value.find-shape given.shape-looking
+  pub spline-check : NotAllRefused value.spline-check given.knotted
+  pub spline-fine : NotAllRefused value.spline-fine (given.bending nought)
   pub plan : NotAllRefused value.plan given.planning
   pub answer : NotAllRefused value.answer given.fine
 
@@ -155,6 +159,8 @@ pub record Buffers : Type 1 where
   pub lists-move : RowsMove lent.mix-lists mixedLeft mixedCame (given.mixing 1 bin-alone pulse-alone) (given.mixing 0 bin-alone pulse-alone)
   pub part-laid : NotAlways lent.lay itself (λ (x : lent.Part). x .part) (given.parting one)
   pub part-moves : NotFixed lent.lay itself (λ (x : lent.Part). length (x .part)) (given.parting one) (given.parting nought)
+  pub spline-laid : NotAlways lent.spline-over itself (λ (x : lent.Bends). x .part) (given.bends nought)
+  pub spline-moves : NotFixed lent.spline-over itself (λ (x : lent.Bends). length (x .part)) (given.bends nought) (given.bends (over 5 10))
   pub scratch-filled : NotAlways lent.envelope (λ (y : lent.Points). y .scratch) (λ (x : lent.Laying). x .scratch) given.laying
   -- "only the first pulse or bin sampled"
   pub first-summed : NotAlways lent.sum-lists itself firstSummed (given.summing bin-alone pulse-pair)

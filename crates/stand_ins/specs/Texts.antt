@@ -184,6 +184,7 @@ isLine line.Syntax = false
 isLine (line.Tables amp time oversize) = true
 isLine (line.Channel n osc) = true
 isLine (line.Shape n) = true
+isLine (line.Spline n d c k) = true
 isLine (line.Command c) = true
 isLine line.Run = true
 isLine line.States = true

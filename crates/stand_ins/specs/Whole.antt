@@ -1,22 +1,22 @@
--- The nine calls of `system` as one call, what a stand-in of it would show, and what stand-ins are tried on: rows of one sample each, a channel `q` with a
+-- The ten calls of `system` as one call, what a stand-in of it would show, and what stand-ins are tried on: rows of one sample each, a channel `q` with a
 -- pulse or two of amplitude 1 + i, one command. Definitions only.
 use Prim.Native.Nat.{ℕ, _+_, _-_, _*_}
 use mathlib.Core.Bool.{Bool, true, false, cond}
-use mathlib.Core.List.{List, [], _∷_, _++_, map}
+use mathlib.Core.List.{List, [], _∷_, _++_}
 use lib.IntN.{ℤ, pos, negsuc}
 use lib.Ieee.{Float, neg}
 use lib.ListN.{length, take, replicate}
 use Rattle.quant.specs.declared.refusal.Answer.{Answer}
 use Rattle.quant.specs.declared.refusal.Answer.the-variants.{Done, Refused}
-use Rattle.pulse.specs.declared.bin.Bin.{Bin}
-use Rattle.pulse.specs.declared.envelope.Shape.the-variants.{Plain, Hann}
+use Rattle.spline.specs.Row as spline-row
+use Rattle.pulse.specs.declared.envelope.Shape.the-variants.{Plain, Hann, Spline}
 use Rattle.pulse.specs.declared.list.Pulse.{Pulse}
-use Rattle.pulse.specs.Bin.{rowOf}
+use Rattle.pulse.specs.Bin.{noNumbers, rowOf}
 use Rattle.tables.specs.declared.Tables.{Tables}
 use Rattle.tables.specs.Tables.{noName, atRest, fresh}
 use Rattle.commands.specs.declared.command.Command.the-variants.{Barrier}
 use Rattle.commands.specs.declared.command.Arranged.{Arranged}
-use Rattle.commands.specs.Step.{noRow}
+use Rattle.commands.specs.Step.{noHead}
 use Rattle.crosstalk.specs.declared.names.Crosstalk.{Crosstalk}
 use Rattle.mixdown.specs.Bins.{binsBy, mergedOf}
 use Rattle.mixdown.specs.Sampled.{Rowed, rowed}
@@ -30,7 +30,7 @@ use Rattle.system.specs.System as system
 use Rattle.system.specs.Said.{partsOf, withPulses}
 use Rattle.stand_ins.specs.StandIns.{Call, Row, I, Q}
 
--- ---- the call: a state and one of the nine, with what it is given
+-- ---- the call: a state and one of the ten, with what it is given
 
 pub record Asking : Type 0 where
   pub state : State
@@ -98,7 +98,7 @@ firstBin x =
     let parts = partsOf s (x .request) (x .cross) (x .factors) in
     withAll (settingsOf (x .request)) (x .request .rows) (allDues (mergedOf (s .tables) (s .bins) (s .pulses) parts) (take 1 (binsBy (s .tables) (s .bins) parts))) (s .rows)
 
--- ---- the states: rows that hold x; the channel's bins and its pulses, each by its bin and its time
+-- ---- the states: rows that hold x; the rows of the channel's bins, and its pulses, each by its bin and its time
 
 abbrev pub pulseOf : ℕ → Float → Pulse
 pulseOf bin time = record { bin = bin; time = record { 0 = time }; amp = record { re = whole 1; im = whole 1 }; drag = record { re = whole 0; im = whole 0 } }
@@ -115,23 +115,31 @@ tablesOf bins pulses =
       named = 0;
     }
 
-abbrev pub holding : Float → List Bin → List Pulse → State
+abbrev pub holding : Float → List (List Float) → List Pulse → State
 holding x bins pulses =
     record {
       tables = tablesOf (length bins) (length pulses);
-      bins = map rowOf bins ++ replicate (512 - length bins) noRow;
+      splines = replicate 8 noNumbers;
+      bins = bins ++ replicate (512 - length bins) (noHead ++ noNumbers);
       pulses = pulsesLent pulses;
       rows = rowed (x ∷ []) (x ∷ []) (whole 0 ∷ []);
-      work = replicate 8192 noRow;
+      work = replicate 8192 noHead;
       marks = replicate 8192 0;
     }
 
--- a plateau as long, and Hann's shape as wide, as the numbers say
-abbrev pub plain : Float → Bin
-plain plateau = binWith Plain (whole 0) plateau
+-- a spline's numbers: of degree 1 from 0 at -1 to 2 at 1, so that at 0 it is 1, and at 0.5 1.5
+abbrev pub rising : List Float
+rising = spline-row.rowOf 1 (wholes (0 ∷ 2 ∷ [])) (neg (whole 1) ∷ neg (whole 1) ∷ whole 1 ∷ whole 1 ∷ [])
 
-abbrev pub curved : Float → Bin
-curved width = binWith Hann width (whole 0)
+-- the row of a plateau as long, and of Hann's shape and that spline as wide, as the numbers say
+abbrev pub plain : Float → List Float
+plain plateau = rowOf (binWith Plain (whole 0) plateau) noNumbers
+
+abbrev pub curved : Float → List Float
+curved width = rowOf (binWith Hann width (whole 0)) noNumbers
+
+abbrev pub bending : Float → List Float
+bending width = rowOf (binWith Spline width (whole 0)) rising
 
 -- ---- the calls
 
@@ -159,7 +167,7 @@ abbrev pub fir-numbers : List Float
 fir-numbers = wholes (2 ∷ [])
 
 -- a bin, and a pulse of it at 0; two pulses of it, at -0.5 and at 0: both start at sample 0
-abbrev pub bin-alone : List Bin
+abbrev pub bin-alone : List (List Float)
 bin-alone = plain (whole 1) ∷ []
 
 abbrev pub pulse-alone : List Pulse
@@ -169,7 +177,7 @@ abbrev pub pulse-pair : List Pulse
 pulse-pair = pulseOf 0 (neg (over 5 10)) ∷ pulseOf 0 (whole 0) ∷ []
 
 -- two bins, plateaus of 1 and of 0.5, one sample each; a pulse of each at 0
-abbrev pub bin-pair : List Bin
+abbrev pub bin-pair : List (List Float)
 bin-pair = plain (whole 1) ∷ plain (over 5 10) ∷ []
 
 abbrev pub pulse-of-each : List Pulse
@@ -185,13 +193,13 @@ pub record Try : Type 0 where
 abbrev pub trying : State → system.Call → ℕ → ℕ → Try
 trying s c count sample = record { asking = record { state = s; call = c }; count = count; sample = sample }
 
--- those that change rows, a sampling of a plateau and one of Hann's shape
+-- those that change rows, a sampling of a plateau, one of Hann's shape and one of a spline
 pub data OnRows : Type 0 where
-  plateau hann iq offset iir fir : OnRows
+  plateau hann spline iq offset iir fir : OnRows
 
--- the bin and the time of the one pulse that is stored; the call; its count; whether it leaves one more than the sample, or twice the sample
+-- the bin's row and the time of the one pulse that is stored; the call; its count; whether it leaves one more than the sample, or twice the sample
 pub record Sort : Type 0 where
-  pub bin : Bin
+  pub bin : List Float
   pub time : Float
   pub call : system.Call
   pub count : ℕ
@@ -200,8 +208,9 @@ pub record Sort : Type 0 where
 abbrev pub sort : OnRows → Sort
 -- one sample at 0
 sort plateau = record { bin = plain (whole 1); time = whole 0; call = sampleAt (pos 0); count = 1; adds = true }
--- width 1 at 0.5 and level -1: the one sample is the middle of the shape
+-- width 1 at 0.5 and level -1: the one sample is the middle of the shape; so too of the spline
 sort hann = record { bin = curved (whole 1); time = over 5 10; call = sampleAt (negsuc 0); count = 1; adds = true }
+sort spline = record { bin = bending (whole 1); time = over 5 10; call = sampleAt (negsuc 0); count = 1; adds = true }
 sort iq = record { bin = plain (whole 1); time = whole 0; call = system.iq 2 iq-numbers; count = 0; adds = false }
 sort offset = record { bin = plain (whole 1); time = whole 0; call = system.offset 2 offset-numbers; count = 0; adds = true }
 sort iir = record { bin = plain (whole 1); time = whole 0; call = system.iir 2 iir-numbers; count = 0; adds = false }
@@ -213,12 +222,13 @@ on x k = trying (holding (whole x) (sort k .bin ∷ []) (pulseOf 0 (sort k .time
 
 -- the other calls; a list of no command; no pulse; two pulses in a bin; two bins with a pulse each
 pub data Else : Type 0 where
-  make add-channel add-shape execute no-command no-pulse two-pulses two-bins : Else
+  make add-channel add-shape add-spline execute no-command no-pulse two-pulses two-bins : Else
 
 abbrev pub else : Else → Try
 else make = trying (holding (whole 0) [] []) (system.make (whole 0) (whole 0) false) 0 0
 else add-channel = trying (holding (whole 0) [] []) (system.add-channel channel atRest) 0 0
 else add-shape = trying (holding (whole 0) [] []) (system.add-shape channel) 0 0
+else add-spline = trying (holding (whole 0) [] []) (system.add-spline channel 0 (wholes (1 ∷ [])) (wholes (0 ∷ 1 ∷ []))) 0 0
 else execute = trying (holding (whole 0) [] []) (system.execute (barrier ∷ [])) 1 0
 else no-command = trying (holding (whole 0) [] []) (system.execute []) 0 0
 else no-pulse = trying (holding (whole 0) [] []) (sampleAt (pos 0)) 0 0

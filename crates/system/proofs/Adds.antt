@@ -1,25 +1,23 @@
--- Making tables and adding to them: accepted, the count is 0; refused, with 1, or with 2 or 3, the place is 0 and all is as it came. By
--- the tests of each call. Assumes nothing.
-use Prim.Native.Nat.{_+_}
-use mathlib.Core.Path.{refl}
+-- Making tables and adding to them: accepted, the count is 0; refused, with 1, of a channel with 2 or 3, of a shape with 13, 2 or 3, of a spline with
+-- 13, 2, 16 or 3, the place is 0 and all is as it came, the shapes' rows too. By the ways in which a call ends. Assumes nothing.
+use Prim.Native.Nat.{ℕ}
+use mathlib.Core.Path.{_≡_, refl}
 use mathlib.Core.Bool.{Bool, true, false, _&&_, cond}
-use lib.Dec.{ltb}
+use mathlib.Core.List.{List}
 use lib.Ieee.{Float}
-use lib.ListN.{set}
 use Rattle.exact.specs.Doubles.{nought}
 use Rattle.exact.specs.Among.{among}
 use Rattle.naming.specs.declared.Name.{Name}
-use Rattle.quant.specs.declared.refusal.Refusal.the-variants.{Unfit, Malformed, Full}
-use Rattle.naming.specs.Name.{isName}
+use Rattle.quant.specs.declared.refusal.Refusal.{Refusal}
+use Rattle.quant.specs.declared.refusal.Refusal.the-variants.{Unfit, Malformed, Full, WrongSize, WrongSpline}
+use Rattle.quant.specs.Refusal.{numberOf}
 use Rattle.quant.specs.Settings.{isTolerance}
 use Rattle.executor.specs.declared.osc.OscState.{OscState}
-use Rattle.tables.specs.declared.Channel.{Channel}
 use Rattle.tables.specs.declared.Tabled.{Tabled}
-use Rattle.tables.specs.declared.Found.{Found}
-use Rattle.tables.specs.declared.Found.the-variants.{At, Nowhere}
-use Rattle.tables.specs.Tables.{found, isIn, shapesIn, empty, done, refused, fresh, made, finiteOsc, withChannels, settled, withAdded, withShape, settledShape, withAddedShape}
-use Rattle.system.specs.System.{State, tabled, remade}
-use Rattle.system.specs.Said.{MakeSaid, AddSaid}
+use Rattle.tables.specs.Tables.{Formed, formed, empty, done, refused, made, withAdded, withAddedShape, withAddedSpline}
+use Rattle.system.specs.System.{State, tabled, hasFormed, remade}
+use Rattle.system.specs.Said.{MakeSaid, AddSaid, channelNumbers, shapeNumbers, splineNumbers}
+use Rattle.system.proofs.Added.{channel-by, shape-by, spline-by}
 
 module _ (s : State) where
   pub make-said : (amp time : Float) (oversize : Bool) → let o = remade s (made amp time oversize) in MakeSaid s (o .answer) (o .after)
@@ -30,40 +28,36 @@ module _ (s : State) where
       go true = refl
       go false = record { number = refl; place = refl; left = refl }
 
-  abbrev Said : Tabled → Type 0
-  Said x = AddSaid s (tabled s x .answer) (tabled s x .after)
+  -- ---- refused with one of some numbers, at place 0: all is as it came
+  module _ (numbers : List ℕ) where
+    abbrev Said : Tabled → Type 0
+    Said x = AddSaid numbers s (tabled s x .answer) (tabled s x .after)
 
-  one-of : (b : Bool) (x y : Tabled) → Said x → Said y → Said (cond b x y)
-  one-of true x y h k = h
-  one-of false x y h k = k
+    abbrev SaidForm : Formed → Type 0
+    SaidForm x = AddSaid numbers s (hasFormed s x .answer) (hasFormed s x .after)
 
-  malformed : Said (refused Malformed (s .tables))
+    came : (why : Refusal) → among numbers (numberOf why) ≡ true → Said (refused why (s .tables))
+    came why number = record { number = number; place = refl; left = refl }
+
+    came-form : (why : Refusal) → among numbers (numberOf why) ≡ true → SaidForm (formed (refused why (s .tables)) (s .splines))
+    came-form why number = record { number = number; place = refl; left = refl }
+
+  pub channel-said : (n : Name) (o : OscState) → Said channelNumbers (withAdded (s .tables) n o)
   unfolding among
-  malformed = record { number = refl; place = refl; left = refl }
-
-  full : Said (refused Full (s .tables))
-  unfolding among
-  full = record { number = refl; place = refl; left = refl }
-
-  settled-said : (f : Found) (c : Channel) → Said (settled (s .tables) f c)
-  unfolding settled
-  settled-said (At i) c = refl
-  settled-said Nowhere c =
-      let t = s .tables in
-      one-of (ltb (t .count) 8) (done (withChannels t (set (t .channels) (t .count) c) (t .count + 1))) (refused Full t) refl full
-
-  settled-shape-said : (b : Bool) (n : Name) → Said (settledShape (s .tables) b n)
-  unfolding settledShape
-  settled-shape-said true n = refl
-  settled-shape-said false n = one-of (ltb (s .tables .named) 8) (done (withShape (s .tables) n)) (refused Full (s .tables)) refl full
-
-  pub channel-said : (n : Name) (o : OscState) → Said (withAdded (s .tables) n o)
   channel-said n o =
-      let t = s .tables in
-      one-of (isName n && finiteOsc o) (settled t (found t n) (fresh n o)) (refused Malformed t) (settled-said (found t n) (fresh n o)) malformed
+      let l = channelNumbers in
+      channel-by (Said l) (s .tables) n o (λ i e. refl) refl (came l Malformed refl) (came l Full refl)
 
-  pub shape-said : (n : Name) → Said (withAddedShape (s .tables) n)
+  pub shape-said : (n : Name) → SaidForm shapeNumbers (withAddedShape (s .tables) n (s .splines))
+  unfolding among
   shape-said n =
-      let t = s .tables in
-      let known = isIn n (shapesIn t) in
-      one-of (isName n) (settledShape t known n) (refused Malformed t) (settled-shape-said known n) malformed
+      let l = shapeNumbers in
+      shape-by (SaidForm l) (s .tables) (s .splines) n (λ i row. refl) (λ row. refl) (came-form l WrongSize refl) (came-form l Malformed refl) (came-form l Full refl)
+
+  pub spline-said : (n : Name) (degree : ℕ) (controls knots : List Float)
+      → SaidForm splineNumbers (withAddedSpline (s .tables) n degree controls knots (s .splines))
+  unfolding among
+  spline-said n degree controls knots =
+      let l = splineNumbers in
+      spline-by (SaidForm l) (s .tables) (s .splines) n (λ i row. refl) (λ row. refl) (came-form l WrongSize refl) (came-form l Malformed refl) (came-form l Full refl) degree
+      controls knots (came-form l WrongSpline refl)

@@ -12,7 +12,7 @@ use Rattle.exact.specs.Doubles.{nought, one}
 use Rattle.naming.specs.declared.Name.{Name}
 use Rattle.pulse.specs.declared.bin.Bin.{Bin}
 use Rattle.pulse.specs.declared.list.Pulse.{Pulse}
-use Rattle.pulse.specs.Bin.{binOf}
+use Rattle.pulse.specs.Bin.{binOf, numbersOf}
 use Rattle.tables.specs.declared.Tables.{Tables}
 use Rattle.tables.specs.declared.Found.{Found}
 use Rattle.tables.specs.declared.Found.the-variants.{At, Nowhere}
@@ -116,12 +116,12 @@ module _ (P : List Float → Type 0) (Q : Bin → Type 0) (holds : (row : List F
   abbrev pub OfBin : Due → Type 0
   OfBin d = Q (d .bin)
 
-  of-each : (b : Bin) (ps : List Pulse) → Q b → Each OfBin (duesOf b ps)
+  of-each : (b : Bin) (numbers : List Float) (ps : List Pulse) → Q b → Each OfBin (duesOf b numbers ps)
   unfolding duesOf
-  of-each b [] h = tt
-  of-each b (p ∷ ps) h = (h, of-each b ps h)
+  of-each b numbers [] h = tt
+  of-each b numbers (p ∷ ps) h = (h, of-each b numbers ps h)
 
   pub dues-each : (merged : List Float → List Pulse) (rs : List (List Float)) → Each P rs → Each OfBin (allDues merged rs)
   unfolding allDues
   dues-each merged [] h = tt
-  dues-each merged (r ∷ rs) h = each-append OfBin (duesOf (binOf r) (merged r)) (allDues merged rs) (of-each (binOf r) (merged r) (holds r (h .0))) (dues-each merged rs (h .1))
+  dues-each merged (r ∷ rs) h = each-append OfBin (duesOf (binOf r) (numbersOf r) (merged r)) (allDues merged rs) (of-each (binOf r) (numbersOf r) (merged r) (holds r (h .0))) (dues-each merged rs (h .1))

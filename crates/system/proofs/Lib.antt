@@ -1,4 +1,5 @@
 pub mod Promised
+pub mod Added
 pub mod Adds
 pub mod Steps
 pub mod Numbers
@@ -8,3 +9,5 @@ pub mod Sampling
 pub mod Bins
 pub mod Twelve
 pub mod System
+pub mod KeptRows
+pub mod Kept

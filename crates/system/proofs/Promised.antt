@@ -4,7 +4,7 @@ use mathlib.Core.List.{List}
 use lib.Ieee.{Float}
 use Rattle.quant.specs.declared.refusal.Answer.{Answer}
 use Rattle.tables.specs.Tables.{made}
-use Rattle.system.specs.System.{State, Call, make, add-channel, add-shape, execute, sample, iq, offset, iir, fir, Outcome, told, withTables, withRows, Contract, written, adopted, held, Promised, tabled, remade, hasRun, hasSampled, outcome}
+use Rattle.system.specs.System.{State, Call, make, add-channel, add-shape, add-spline, execute, sample, iq, offset, iir, fir, Outcome, told, withTables, withRows, Contract, written, adopted, held, Promised, tabled, hasFormed, remade, hasRun, hasSampled, outcome}
 
 module _ (s : State) where
   -- a contract is an equation, and so it holds of what it gives
@@ -13,6 +13,7 @@ module _ (s : State) where
   answered (make amp time oversize) = record { left = withTables s (made amp time oversize .tables); contract = refl; rest = refl; after = refl }
   answered (add-channel n x) = record { left = _; contract = refl; rest = refl; after = refl }
   answered (add-shape n) = record { left = _; contract = refl; rest = refl; after = refl }
+  answered (add-spline n p c t) = record { left = _; contract = refl; rest = refl; after = refl }
   answered (execute commands) = record { left = _; contract = refl; rest = refl; after = refl }
   answered (sample r c factors) = record { left = _; contract = refl; rest = refl; after = refl }
   answered (iq n m) = record { left = _; contract = record { answer = refl; first = refl; second = refl }; rest = refl; after = refl }
@@ -29,7 +30,8 @@ module _ (s : State) where
   unfolding outcome Contract written held
   only (make amp time oversize) o p = ap (told (o .answer)) (p .after ∙ ap (adopted (o .answer) s) (p .rest)) ∙ ap (remade s) (p .contract)
   only (add-channel n x) o p = ap (told (o .answer)) (p .after ∙ p .rest) ∙ ap (tabled s) (p .contract)
-  only (add-shape n) o p = ap (told (o .answer)) (p .after ∙ p .rest) ∙ ap (tabled s) (p .contract)
+  only (add-shape n) o p = ap (told (o .answer)) (p .after ∙ p .rest) ∙ ap (hasFormed s) (p .contract)
+  only (add-spline n d c t) o p = ap (told (o .answer)) (p .after ∙ p .rest) ∙ ap (hasFormed s) (p .contract)
   only (execute commands) o p = ap (told (o .answer)) (p .after ∙ p .rest) ∙ ap (hasRun s) (p .contract)
   only (sample r c factors) o p = ap (told (o .answer)) (p .after ∙ p .rest) ∙ ap (hasSampled s) (p .contract)
   only (iq n m) o p = step-only o _ _ _ _ (p .after) (p .rest) (p .contract .answer) (p .contract .first) (p .contract .second)

@@ -12,10 +12,10 @@ use Rattle.tables.specs.Tables.{made}
 use Rattle.commands_laws.specs.Sound.{Reached}
 use Rattle.commands_laws.specs.Sound as reached
 use Rattle.commands_laws.proofs.Sound.{sound}
-use Rattle.system.specs.System.{State, Call, make, add-channel, add-shape, execute, sample, iq, offset, iir, fir, Event, calls, lends, withTables, withLent, adopted, remade, iqStep, offsetStep, iirStep, firStep, outcome}
+use Rattle.system.specs.System.{State, Call, make, add-channel, add-shape, add-spline, execute, sample, iq, offset, iir, fir, Event, calls, lends, withTables, withLent, adopted, remade, iqStep, offsetStep, iirStep, firStep, outcome}
 use Rattle.system.specs.Said.{AsSaid, Holds, EveryCall}
 use Rattle.system.proofs.Promised.{answered, only}
-use Rattle.system.proofs.Adds.{make-said, channel-said, shape-said}
+use Rattle.system.proofs.Adds.{make-said, channel-said, shape-said, spline-said}
 use Rattle.system.proofs.Steps.{step-said}
 use Rattle.system.proofs.Commands.{commands-said}
 use Rattle.system.proofs.Sampling.{sample-said}
@@ -27,6 +27,7 @@ unfolding AsSaid outcome
 said s (make amp time oversize) = make-said s amp time oversize
 said s (add-channel n osc) = channel-said s n osc
 said s (add-shape n) = shape-said s n
+said s (add-spline n p c t) = spline-said s n p c t
 said s (execute commands) = commands-said s commands
 said s (sample r c factors) = sample-said s r c factors
 said s (iq n m) = step-said s (iqStep (s .rows) n m)
@@ -40,25 +41,27 @@ holds s c = record { answered = answered s c; only = only s c; said = said s c }
 -- ---- what is reached
 
 abbrev Known : State → Type 0
-Known s = Reached (s .tables) (s .bins) (s .pulses)
+Known s = Reached (s .tables) (s .splines) (s .bins) (s .pulses)
 
 -- tables made anew, or, refused, those before
-remade-known : (s : State) (x : Tabled) → Known s → Reached (x .tables) (s .bins) (s .pulses) → Known (remade s x .after)
+remade-known : (s : State) (x : Tabled) → Known s → Reached (x .tables) (s .splines) (s .bins) (s .pulses) → Known (remade s x .after)
 remade-known s x old new = by (x .answer)
   where
     by : (a : Answer) → Known (adopted a s (withTables s (x .tables)))
     by (Done k) = new
     by (Refused why k) = old
 
--- making and adding write to the tables, command calls to the tables, the bins and the pulses, and no other call to any of these
+-- making and adding write to the tables, adding a shape to the shapes' rows too, command calls to the tables, the bins and the pulses, and no other
+-- call to any of these
 next : (s : State) (c : Call) → Known s → Known (outcome s c .after)
 unfolding outcome
 next s (make amp time oversize) h =
-    let known = sound (s .tables) (s .bins) (s .pulses) h in
-    remade-known s (made amp time oversize) h (reached.start amp time oversize (s .bins) (s .pulses) (known .rows) (known .records))
-next s (add-channel n osc) h = reached.channel (s .tables) (s .bins) (s .pulses) n osc h
-next s (add-shape n) h = reached.shape (s .tables) (s .bins) (s .pulses) n h
-next s (execute commands) h = reached.call (s .tables) (s .bins) (s .pulses) commands h
+    let known = sound (s .tables) (s .splines) (s .bins) (s .pulses) h in
+    remade-known s (made amp time oversize) h (reached.start amp time oversize (s .splines) (s .bins) (s .pulses) (known .rows) (known .records))
+next s (add-channel n osc) h = reached.channel (s .tables) (s .splines) (s .bins) (s .pulses) n osc h
+next s (add-shape n) h = reached.shape (s .tables) (s .splines) (s .bins) (s .pulses) n h
+next s (add-spline n p c t) h = reached.spline (s .tables) (s .splines) (s .bins) (s .pulses) n p c t h
+next s (execute commands) h = reached.call (s .tables) (s .splines) (s .bins) (s .pulses) commands h
 next s (sample r c factors) h = h
 next s (iq n m) h = h
 next s (offset n m) h = h
@@ -69,7 +72,7 @@ next s (fir n taps) h = h
 
 one-more : (s : State) (c : Call) (more : List Event) → Known (outcome s c .after) → EveryCall (outcome s c .after) more → EveryCall s (calls c ∷ more)
 unfolding EveryCall
-one-more s c more h later = let u = outcome s c .after in (holds s c, sound (u .tables) (u .bins) (u .pulses) h, later)
+one-more s c more h later = let u = outcome s c .after in (holds s c, sound (u .tables) (u .splines) (u .bins) (u .pulses) h, later)
 
 every-call : (s : State) (events : List Event) → Known s → EveryCall s events
 unfolding EveryCall
@@ -83,7 +86,7 @@ pub whole : (amp time : Float) (oversize : Bool) (lent : State) (events : List E
     → length (lent .pulses) ≡ 8192 → EveryCall lent (calls (make amp time oversize) ∷ events)
 unfolding outcome
 whole amp time oversize lent events fit rows records =
-    let start = reached.start amp time oversize (lent .bins) (lent .pulses) rows records in
+    let start = reached.start amp time oversize (lent .splines) (lent .bins) (lent .pulses) rows records in
     let c = make amp time oversize in
     let after : Known (outcome lent c .after) = subst (λ (a : Answer). Known (adopted a lent (withTables lent (made amp time oversize .tables)))) (sym fit) start in
     one-more lent c events after (every-call (outcome lent c .after) events after)

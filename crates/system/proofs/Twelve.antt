@@ -148,9 +148,9 @@ module _ (s : State) (r : Request) (c : Crosstalk) (factors : List Float) where
       judgeable before behind d are =
           record { bin = pulse-kept before behind d are; fit = a .fit; rate-fits = rate; row = short }
 
-      pub pulse-twelve : (before behind : List Due) (d : Due) → pulsesOf s r c factors ≡ before ++ (d ∷ behind) → judged (settingsOf r) (d .bin) (d .pulse) len ≡ judgement.Refused why.EndPastRow
+      pub pulse-twelve : (before behind : List Due) (d : Due) → pulsesOf s r c factors ≡ before ++ (d ∷ behind) → judged (settingsOf r) (d .bin) (d .numbers) (d .pulse) len ≡ judgement.Refused why.EndPastRow
           → Over (settingsOf r) (d .bin) (d .pulse) len
-      pulse-twelve before behind d are e = one.only-twelve (settingsOf r) (d .bin) (d .pulse) len (judgeable before behind d are) e
+      pulse-twelve before behind d are e = one.only-twelve (settingsOf r) (d .bin) (d .numbers) (d .pulse) len (judgeable before behind d are) e
 
     -- ---- it is given nowhere else
     pub only-twelve : (k : ℕ) → Answers (Refused why.EndPastRow k) → EndsPast k
@@ -171,8 +171,8 @@ module _ (s : State) (r : Request) (c : Crosstalk) (factors : List Float) where
   twelve-given k h =
       let p = h .pulse in
       verdict-told (h .heard)
-      ∙ first-told (settingsOf r) len why.EndPastRow (pulsesOf s r c factors) 0 k (record { pulse = p; refused = one.twelve-given (settingsOf r) (p .this .bin) (p .this .pulse) len (h .over) })
+      ∙ first-told (settingsOf r) len why.EndPastRow (pulsesOf s r c factors) 0 k (record { pulse = p; refused = one.twelve-given (settingsOf r) (p .this .bin) (p .this .numbers) (p .this .pulse) len (h .over) })
 
 -- ---- from made tables, after any run of adds and command calls, accepted or refused: no other call writes tables, bins or pulses
-pub from-made : (s : State) (r : Request) (c : Crosstalk) (factors : List Float) → Reached (s .tables) (s .bins) (s .pulses) → Doubles (s .bins) → T (fits binary64 (r .rate .0)) → (k : ℕ) → Answers s r c factors (Refused why.EndPastRow k) → EndsPast s r c factors k
-from-made s r c factors h doubles rate k e = only-twelve s r c factors (sound (s .tables) (s .bins) (s .pulses) h) doubles rate k e
+pub from-made : (s : State) (r : Request) (c : Crosstalk) (factors : List Float) → Reached (s .tables) (s .splines) (s .bins) (s .pulses) → Doubles (s .bins) → T (fits binary64 (r .rate .0)) → (k : ℕ) → Answers s r c factors (Refused why.EndPastRow k) → EndsPast s r c factors k
+from-made s r c factors h doubles rate k e = only-twelve s r c factors (sound (s .tables) (s .splines) (s .bins) (s .pulses) h) doubles rate k e

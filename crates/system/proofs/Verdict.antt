@@ -18,7 +18,7 @@ use Rattle.quant.specs.declared.settings.Settings.{Settings}
 use Rattle.quant.specs.Refusal.{numberOf}
 use Rattle.pulse.specs.declared.bin.Bin.{Bin}
 use Rattle.pulse.specs.declared.list.Pulse.{Pulse}
-use Rattle.pulse.specs.Bin.{binOf}
+use Rattle.pulse.specs.Bin.{binOf, numbersOf}
 use Rattle.shape.specs.Envelope.{least}
 use Rattle.shape.proofs.Envelopes.{refused-by}
 use Rattle.placing.specs.declared.Judged.{Judged}
@@ -45,17 +45,17 @@ module _ (why : Refusal) where
   shaped x (inr (inl e)) = subst Numbered (sym e) refl
   shaped x (inr (inr e)) = subst Numbered (sym e) refl
 
-  pub judged-number : (s : Settings) (b : Bin) (p : Pulse) (len : ℕ) → judged s b p len ≡ judgement.Refused why → Numbered why
+  pub judged-number : (s : Settings) (b : Bin) (numbers : List Float) (p : Pulse) (len : ℕ) → judged s b numbers p len ≡ judgement.Refused why → Numbered why
   unfolding among
-  judged-number s b p len e = by (way s b p len (judgement.Refused why) e)
+  judged-number s b numbers p len e = by (way s b numbers p len (judgement.Refused why) e)
     where
-      by : Way s b p len (judgement.Refused why) → Numbered why
+      by : Way s b numbers p len (judgement.Refused why) → Numbered why
       by (no-index g f) = same NotFinite refl f
       by (before g f) = same BeforeRow refl f
       by (beyond g f) = same StartPastRow refl f
       by (past w o g h f) = same StartPastRow refl f
       by (unshaped k r z m f) =
-          same r (shaped r (refused-by (b .envelope .width .0) (b .envelope .plateau .0) (k .offset) (s .rate .0) (s .dt .0) (least (len - k .start) 65536) r m)) f
+          same r (shaped r (refused-by (b .envelope .shape) numbers (b .envelope .width .0) (b .envelope .plateau .0) (k .offset) (s .rate .0) (s .dt .0) (least (len - k .start) 65536) r m)) f
       by (over k z h f) = same EndPastRow refl f
       by (plain-rest k z h m f) = same NotFinite refl f
       by (curved-rest k n z m h f) = same NotFinite refl f
@@ -73,17 +73,17 @@ module _ (s : Settings) (len : ℕ) where
   pub fewer : (ds : List Due) (k : ℕ) (why : Refusal) (n : ℕ) → verdict s len ds k ≡ Refused why n → Fewer ds k why n
   unfolding verdict
   fewer [] k why n e = let z : _≡_ {A = ℕ} 0 1 = cc in absurd (omega arith)
-  fewer (d ∷ ds) k why n e = go (judged s (d .bin) (d .pulse) len) refl (fewer ds (suc k) why n) e
+  fewer (d ∷ ds) k why n e = go (judged s (d .bin) (d .numbers) (d .pulse) len) refl (fewer ds (suc k) why n) e
     where
       one-more : Fewer ds (suc k) why n → Fewer (d ∷ ds) k why n
       one-more f = record { place = let h = f .place in omega (arith, h); number = f .number }
 
-      go : (j : Judged) → judged s (d .bin) (d .pulse) len ≡ j → (verdict s len ds (suc k) ≡ Refused why n → Fewer ds (suc k) why n)
+      go : (j : Judged) → judged s (d .bin) (d .numbers) (d .pulse) len ≡ j → (verdict s len ds (suc k) ≡ Refused why n → Fewer ds (suc k) why n)
           → unless (judgedAnswer j) k (verdict s len ds (suc k)) ≡ Refused why n → Fewer (d ∷ ds) k why n
       go (judgement.Refused r) h later f =
           let is : r ≡ why = cc in
           let at : k ≡ n = cc in
-          record { place = omega (arith, at); number = judged-number why s (d .bin) (d .pulse) len (h ∙ ap judgement.Refused is) }
+          record { place = omega (arith, at); number = judged-number why s (d .bin) (d .numbers) (d .pulse) len (h ∙ ap judgement.Refused is) }
       go (judgement.Plateau x) h later f = one-more (later f)
       go (judgement.Shaped x) h later f = one-more (later f)
 
@@ -96,7 +96,7 @@ module _ (s : Settings) (len : ℕ) where
   verdict-append : (ds es : List Due) (k : ℕ) → verdict s len (ds ++ es) k ≡ onward (verdict s len ds k) (verdict s len es)
   unfolding verdict
   verdict-append [] es k = refl
-  verdict-append (d ∷ ds) es k = go (judged s (d .bin) (d .pulse) len) (verdict-append ds es (suc k))
+  verdict-append (d ∷ ds) es k = go (judged s (d .bin) (d .numbers) (d .pulse) len) (verdict-append ds es (suc k))
     where
       go : (j : Judged) → verdict s len (ds ++ es) (suc k) ≡ onward (verdict s len ds (suc k)) (verdict s len es)
           → unless (judgedAnswer j) k (verdict s len (ds ++ es) (suc k)) ≡ onward (unless (judgedAnswer j) k (verdict s len ds (suc k))) (verdict s len es)
@@ -118,12 +118,12 @@ pub record PulseAt (s : Settings) (len : ℕ) (ds : List Due) (j k : ℕ) : Type
 module _ (s : Settings) (len : ℕ) (why : Refusal) where
   pub record FirstRefused (ds : List Due) (j k : ℕ) : Type 0 where
     pub pulse : PulseAt s len ds j k
-    pub refused : judged s (pulse .this .bin) (pulse .this .pulse) len ≡ judgement.Refused why
+    pub refused : judged s (pulse .this .bin) (pulse .this .numbers) (pulse .this .pulse) len ≡ judgement.Refused why
 
   pub first-refused : (ds : List Due) (j k : ℕ) → verdict s len ds j ≡ Refused why k → FirstRefused ds j k
   unfolding verdict
   first-refused [] j k e = let z : _≡_ {A = ℕ} 0 1 = cc in absurd (omega arith)
-  first-refused (d ∷ ds) j k e = go (judged s (d .bin) (d .pulse) len) refl (first-refused ds (suc j) k) e
+  first-refused (d ∷ ds) j k e = go (judged s (d .bin) (d .numbers) (d .pulse) len) refl (first-refused ds (suc j) k) e
     where
       later : ((ys : List Due) → verdict s len (d ∷ ys) j ≡ verdict s len ys (suc j)) → FirstRefused ds (suc j) k → FirstRefused (d ∷ ds) j k
       later passed f =
@@ -141,7 +141,7 @@ module _ (s : Settings) (len : ℕ) (why : Refusal) where
             refused = f .refused;
           }
 
-      go : (x : Judged) → judged s (d .bin) (d .pulse) len ≡ x → (verdict s len ds (suc j) ≡ Refused why k → FirstRefused ds (suc j) k) → unless (judgedAnswer x) j (verdict s len ds (suc j)) ≡ Refused why k → FirstRefused (d ∷ ds) j k
+      go : (x : Judged) → judged s (d .bin) (d .numbers) (d .pulse) len ≡ x → (verdict s len ds (suc j) ≡ Refused why k → FirstRefused ds (suc j) k) → unless (judgedAnswer x) j (verdict s len ds (suc j)) ≡ Refused why k → FirstRefused (d ∷ ds) j k
       go (judgement.Refused r) h more f =
           let is : r ≡ why = cc in
           let at : j ≡ k = cc in
@@ -161,30 +161,30 @@ module _ (s : Settings) (len : ℕ) (why : Refusal) where
 -- ---- the pulses of a bin
 module _ (s : Settings) (rows : ℕ) where
   -- one pulse, and then others
-  abbrev later : Bin → List Pulse → ℕ → Rowed → Judged → Out
-  later b ps k st j = ranPulses s b rows ps (suc k) (addedTo s b rows j st)
+  abbrev later : Bin → List Float → List Pulse → ℕ → Rowed → Judged → Out
+  later b numbers ps k st j = ranPulses s b numbers rows ps (suc k) (addedTo s b numbers rows j st)
 
-  pulses-long : (b : Bin) (ps : List Pulse) (k : ℕ) (st : Rowed) → length (ranPulses s b rows ps k st .left .i) ≡ length (st .i)
+  pulses-long : (b : Bin) (numbers : List Float) (ps : List Pulse) (k : ℕ) (st : Rowed) → length (ranPulses s b numbers rows ps k st .left .i) ≡ length (st .i)
   unfolding ranPulses
-  pulses-long b [] k st = refl
-  pulses-long b (p ∷ ps) k st = let j = judged s b p (length (st .i)) in go j (i-length s b rows st j) (pulses-long b ps (suc k) (addedTo s b rows j st))
+  pulses-long b numbers [] k st = refl
+  pulses-long b numbers (p ∷ ps) k st = let j = judged s b numbers p (length (st .i)) in go j (i-length s b numbers rows st j) (pulses-long b numbers ps (suc k) (addedTo s b numbers rows j st))
     where
-      go : (j : Judged) → length (addedTo s b rows j st .i) ≡ length (st .i) → length (later b ps k st j .left .i) ≡ length (addedTo s b rows j st .i)
-          → length (unlessRefused j k st (later b ps k st j) .left .i) ≡ length (st .i)
+      go : (j : Judged) → length (addedTo s b numbers rows j st .i) ≡ length (st .i) → length (later b numbers ps k st j .left .i) ≡ length (addedTo s b numbers rows j st .i)
+          → length (unlessRefused j k st (later b numbers ps k st j) .left .i) ≡ length (st .i)
       go (judgement.Refused r) e h = refl
       go (judgement.Plateau f) e h = h ∙ e
       go (judgement.Shaped f) e h = h ∙ e
 
-  pulses-verdict : (b : Bin) (ps : List Pulse) (k : ℕ) (st : Rowed) → ranPulses s b rows ps k st .answer ≡ verdict s (length (st .i)) (duesOf b ps) k
+  pulses-verdict : (b : Bin) (numbers : List Float) (ps : List Pulse) (k : ℕ) (st : Rowed) → ranPulses s b numbers rows ps k st .answer ≡ verdict s (length (st .i)) (duesOf b numbers ps) k
   unfolding ranPulses duesOf verdict
-  pulses-verdict b [] k st = refl
-  pulses-verdict b (p ∷ ps) k st = let j = judged s b p (length (st .i)) in go j (i-length s b rows st j) (pulses-verdict b ps (suc k) (addedTo s b rows j st))
+  pulses-verdict b numbers [] k st = refl
+  pulses-verdict b numbers (p ∷ ps) k st = let j = judged s b numbers p (length (st .i)) in go j (i-length s b numbers rows st j) (pulses-verdict b numbers ps (suc k) (addedTo s b numbers rows j st))
     where
-      go : (j : Judged) → length (addedTo s b rows j st .i) ≡ length (st .i) → later b ps k st j .answer ≡ verdict s (length (addedTo s b rows j st .i)) (duesOf b ps) (suc k)
-          → unlessRefused j k st (later b ps k st j) .answer ≡ unless (judgedAnswer j) k (verdict s (length (st .i)) (duesOf b ps) (suc k))
+      go : (j : Judged) → length (addedTo s b numbers rows j st .i) ≡ length (st .i) → later b numbers ps k st j .answer ≡ verdict s (length (addedTo s b numbers rows j st .i)) (duesOf b numbers ps) (suc k)
+          → unlessRefused j k st (later b numbers ps k st j) .answer ≡ unless (judgedAnswer j) k (verdict s (length (st .i)) (duesOf b numbers ps) (suc k))
       go (judgement.Refused r) e h = refl
-      go (judgement.Plateau f) e h = h ∙ ap (λ (n : ℕ). verdict s n (duesOf b ps) (suc k)) e
-      go (judgement.Shaped f) e h = h ∙ ap (λ (n : ℕ). verdict s n (duesOf b ps) (suc k)) e
+      go (judgement.Plateau f) e h = h ∙ ap (λ (n : ℕ). verdict s n (duesOf b numbers ps) (suc k)) e
+      go (judgement.Shaped f) e h = h ∙ ap (λ (n : ℕ). verdict s n (duesOf b numbers ps) (suc k)) e
 
   -- ---- all bins
   pub bins-verdict : (merged : List Float → List Pulse) (rs : List (List Float)) (k : ℕ) (st : Rowed) → ranBins s rows merged rs k st .answer ≡ verdict s (length (st .i)) (allDues merged rs) k
@@ -192,11 +192,12 @@ module _ (s : Settings) (rows : ℕ) where
   bins-verdict merged [] k st = refl
   bins-verdict merged (r ∷ rs) k st =
       let b = binOf r in
-      let o = ranPulses s b rows (merged r) k st in
+      let numbers = numbersOf r in
+      let o = ranPulses s b numbers rows (merged r) k st in
       let len = length (st .i) in
-      by (o .answer) (o .left) (pulses-long b (merged r) k st) (bins-verdict merged rs)
-      ∙ ap (λ (a : Answer). onward s len a (verdict s len (allDues merged rs))) (pulses-verdict b (merged r) k st)
-      ∙ sym (verdict-append s len (duesOf b (merged r)) (allDues merged rs) k)
+      by (o .answer) (o .left) (pulses-long b numbers (merged r) k st) (bins-verdict merged rs)
+      ∙ ap (λ (a : Answer). onward s len a (verdict s len (allDues merged rs))) (pulses-verdict b numbers (merged r) k st)
+      ∙ sym (verdict-append s len (duesOf b numbers (merged r)) (allDues merged rs) k)
     where
       by : (a : Answer) (l : Rowed) → length (l .i) ≡ length (st .i) → ((n : ℕ) (x : Rowed) → ranBins s rows merged rs n x .answer ≡ verdict s (length (x .i)) (allDues merged rs) n)
           → andThen (out a l) (ranBins s rows merged rs) .answer ≡ onward s (length (st .i)) a (verdict s (length (st .i)) (allDues merged rs))

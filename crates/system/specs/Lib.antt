@@ -1,2 +1,3 @@
 pub mod System
 pub mod Said
+pub mod Kept

@@ -25,7 +25,7 @@ use Rattle.mixdown.specs.Bins.{binsBy, mergedOf}
 use Rattle.sampler.specs.declared.Request.{Request}
 use Rattle.sampler.specs.Prepared.{settingsOf}
 use Rattle.sampler_laws.specs.Added.{Due, allDues, withAll}
-use Rattle.system.specs.System.{State, Call, make, add-channel, add-shape, execute, sample, iq, offset, iir, fir, Event, calls, lends, Outcome, told, withLent, Promised, outcome}
+use Rattle.system.specs.System.{State, Call, make, add-channel, add-shape, add-spline, execute, sample, iq, offset, iir, fir, Event, calls, lends, Outcome, told, withLent, Promised, outcome}
 
 -- "Order for a command: 2, 4, 5, 6, 7, 8, 3"
 abbrev pub commandNumbers : List ℕ
@@ -46,10 +46,20 @@ abbrev pub MakeSaid : State → Answer → State → Type 0
 MakeSaid s (Done k) u = k ≡ 0
 MakeSaid s (Refused why k) u = AsItCame (1 ∷ []) 0 s why k u
 
--- "Adding a channel or shape: 2, 3"
-abbrev pub AddSaid : State → Answer → State → Type 0
-AddSaid s (Done k) u = k ≡ 0
-AddSaid s (Refused why k) u = AsItCame (2 ∷ 3 ∷ []) 0 s why k u
+-- "Adding a channel or shape: 2, 3"; of a shape 13 first, where its lent rows are not eight; of a spline "a new 16 for falling knots or wrong counts, after
+-- 2 and before 3"
+abbrev pub channelNumbers : List ℕ
+channelNumbers = 2 ∷ 3 ∷ []
+
+abbrev pub shapeNumbers : List ℕ
+shapeNumbers = 13 ∷ 2 ∷ 3 ∷ []
+
+abbrev pub splineNumbers : List ℕ
+splineNumbers = 13 ∷ 2 ∷ 16 ∷ 3 ∷ []
+
+abbrev pub AddSaid : List ℕ → State → Answer → State → Type 0
+AddSaid numbers s (Done k) u = k ≡ 0
+AddSaid numbers s (Refused why k) u = AsItCame numbers 0 s why k u
 
 -- "Order for the filter, matrix and offset steps: 13, 2; these refuse before any sample changes"
 abbrev pub StepSaid : State → Answer → State → Type 0
@@ -65,9 +75,9 @@ pub record CommandsRemain (s : State) (commands : List Arranged) (why : Refusal)
   pub earlier : outcome s (execute (take k commands)) ≡ told (Done k) u
   pub next : outcome u (execute (drop k commands)) ≡ told (Refused why 0) u
 
--- "A list over 1,024 commands: 13 before any"; so too bins or pulses of a wrong size
+-- "A list over 1,024 commands: 13 before any"; so too shapes' rows, bins or pulses of a wrong size
 pub data CommandsRefused (s : State) (commands : List Arranged) (why : Refusal) (k : ℕ) (u : State) : Type 0 where
-  before-any : sizesFit (length commands) (length (s .bins)) (length (s .pulses)) ≡ false → AsItCame (13 ∷ []) 0 s why k u → CommandsRefused s commands why k u
+  before-any : sizesFit (length commands) (length (s .splines)) (length (s .bins)) (length (s .pulses)) ≡ false → AsItCame (13 ∷ []) 0 s why k u → CommandsRefused s commands why k u
   at-one : CommandsRemain s commands why k u → CommandsRefused s commands why k u
 
 abbrev pub CommandsSaid : State → List Arranged → Answer → State → Type 0
@@ -98,7 +108,7 @@ unless (Done count) k next = next
 
 unfoldable pub verdict : Settings → ℕ → List Due → ℕ → Answer
 verdict s len [] k = Done k
-verdict s len (d ∷ ds) k = unless (judgedAnswer (judged s (d .bin) (d .pulse) len)) k (verdict s len ds (suc k))
+verdict s len (d ∷ ds) k = unless (judgedAnswer (judged s (d .bin) (d .numbers) (d .pulse) len)) k (verdict s len ds (suc k))
 
 -- no pulse is refused, and each is added and counted
 pub record AllAdded (s : State) (r : Request) (c : Crosstalk) (factors : List Float) (k : ℕ) (u : State) : Type 0 where
@@ -126,8 +136,9 @@ SampleSaid s r c factors (Refused why k) u = SampleRefused s r c factors why k u
 -- ---- any call
 unfoldable pub AsSaid : State → Call → Outcome → Type 0
 AsSaid s (make amp time oversize) o = MakeSaid s (o .answer) (o .after)
-AsSaid s (add-channel n osc) o = AddSaid s (o .answer) (o .after)
-AsSaid s (add-shape n) o = AddSaid s (o .answer) (o .after)
+AsSaid s (add-channel n osc) o = AddSaid channelNumbers s (o .answer) (o .after)
+AsSaid s (add-shape n) o = AddSaid shapeNumbers s (o .answer) (o .after)
+AsSaid s (add-spline n p c t) o = AddSaid splineNumbers s (o .answer) (o .after)
 AsSaid s (execute commands) o = CommandsSaid s commands (o .answer) (o .after)
 AsSaid s (sample r c factors) o = SampleSaid s r c factors (o .answer) (o .after)
 AsSaid s (iq n m) o = StepSaid s (o .answer) (o .after)

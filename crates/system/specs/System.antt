@@ -18,7 +18,7 @@ use Rattle.fir.specs.Fir.{Fir, firFits, filteredRow}
 use Rattle.executor.specs.declared.osc.OscState.{OscState}
 use Rattle.tables.specs.declared.Tables.{Tables}
 use Rattle.tables.specs.declared.Tabled.{Tabled}
-use Rattle.tables.specs.Tables.{made, withAdded, withAddedShape}
+use Rattle.tables.specs.Tables.{Formed, formed, made, withAdded, withAddedShape, withAddedSpline}
 use Rattle.pulse.specs.declared.list.Pulse.{Pulse}
 use Rattle.commands.specs.declared.command.Arranged.{Arranged}
 use Rattle.commands.specs.Run.{Ran, ranTo, executed}
@@ -29,21 +29,24 @@ use Rattle.sampler.specs.Sampler.{Left, left, sampled}
 
 -- ---- what a caller holds
 
--- the tables, the bins and the pulses, into which only our calls write; and what it lends: rows I and Q with the scratch, work rows and marks
+-- the tables, the shapes' rows, the bins and the pulses, into which only our calls write; and what it lends: rows I and Q with the scratch, work rows and
+-- marks
 pub record State : Type 0 where
   pub tables : Tables
+  pub splines : List (List Float)
   pub bins : List (List Float)
   pub pulses : List Pulse
   pub rows : Rowed
   pub work : List (List Float)
   pub marks : List ℕ
 
--- ---- the calls, with what each is given besides: to make tables, both tolerances and the oversize choice; for a step, whether there are one or
--- two rows, and its numbers
+-- ---- the calls, with what each is given besides: to make tables, both tolerances and the oversize choice; for a spline its degree, controls and knots; for a
+-- step, whether there are one or two rows, and its numbers
 pub data Call : Type 0 where
   make : Float → Float → Bool → Call
   add-channel : Name → OscState → Call
   add-shape : Name → Call
+  add-spline : Name → ℕ → List Float → List Float → Call
   execute : List Arranged → Call
   sample : Request → Crosstalk → List Float → Call
   iq : ℕ → List Float → Call
@@ -66,13 +69,16 @@ told a s = record { answer = a; after = s }
 -- ---- the state with some of it another
 
 abbrev pub withTables : State → Tables → State
-withTables s t = record { tables = t; bins = s .bins; pulses = s .pulses; rows = s .rows; work = s .work; marks = s .marks }
+withTables s t = record { tables = t; splines = s .splines; bins = s .bins; pulses = s .pulses; rows = s .rows; work = s .work; marks = s .marks }
+
+abbrev pub withShapes : State → Tables → List (List Float) → State
+withShapes s t splines = record { tables = t; splines = splines; bins = s .bins; pulses = s .pulses; rows = s .rows; work = s .work; marks = s .marks }
 
 abbrev pub withStored : State → Tables → List (List Float) → List Pulse → State
-withStored s t bins pulses = record { tables = t; bins = bins; pulses = pulses; rows = s .rows; work = s .work; marks = s .marks }
+withStored s t bins pulses = record { tables = t; splines = s .splines; bins = bins; pulses = pulses; rows = s .rows; work = s .work; marks = s .marks }
 
 abbrev pub withLent : State → Rowed → List (List Float) → List ℕ → State
-withLent s rows work marks = record { tables = s .tables; bins = s .bins; pulses = s .pulses; rows = rows; work = work; marks = marks }
+withLent s rows work marks = record { tables = s .tables; splines = s .splines; bins = s .bins; pulses = s .pulses; rows = rows; work = work; marks = marks }
 
 -- the scratch is not lent to a step
 abbrev pub withRows : State → List Float → List Float → State
@@ -84,8 +90,9 @@ withRows s i q = withLent s (rowed i q (s .rows .scratch)) (s .work) (s .marks)
 unfoldable pub Contract : State → Call → Answer → State → Type 0
 Contract s (make amp time oversize) a u = record { answer = a; tables = u .tables } ≡ made amp time oversize
 Contract s (add-channel n o) a u = record { answer = a; tables = u .tables } ≡ withAdded (s .tables) n o
-Contract s (add-shape n) a u = record { answer = a; tables = u .tables } ≡ withAddedShape (s .tables) n
-Contract s (execute commands) a u = ranTo (record { answer = a; tables = u .tables }) (u .bins) (u .pulses) ≡ executed (s .tables) commands (s .bins) (s .pulses)
+Contract s (add-shape n) a u = formed (record { answer = a; tables = u .tables }) (u .splines) ≡ withAddedShape (s .tables) n (s .splines)
+Contract s (add-spline n p c t) a u = formed (record { answer = a; tables = u .tables }) (u .splines) ≡ withAddedSpline (s .tables) n p c t (s .splines)
+Contract s (execute commands) a u = ranTo (record { answer = a; tables = u .tables }) (u .bins) (u .pulses) ≡ executed (s .tables) (s .splines) commands (s .bins) (s .pulses)
 Contract s (sample r c factors) a u = left a (u .rows) (u .work) (u .marks) ≡ sampled (s .tables) r c factors (s .bins) (s .pulses) (s .rows) (s .work) (s .marks)
 Contract s (iq n m) a u = mixer.Iq n (s .rows .i) (s .rows .q) m a (u .rows .i) (u .rows .q)
 Contract s (offset n m) a u = mixer.Offset n (s .rows .i) (s .rows .q) m a (u .rows .i) (u .rows .q)
@@ -96,7 +103,8 @@ Contract s (fir n taps) a u = Fir n (s .rows .i) (s .rows .q) taps a (u .rows .i
 unfoldable pub written : State → Call → State → State
 written s (make amp time oversize) u = withTables s (u .tables)
 written s (add-channel n o) u = withTables s (u .tables)
-written s (add-shape n) u = withTables s (u .tables)
+written s (add-shape n) u = withShapes s (u .tables) (u .splines)
+written s (add-spline n p c t) u = withShapes s (u .tables) (u .splines)
 written s (execute commands) u = withStored s (u .tables) (u .bins) (u .pulses)
 written s (sample r c factors) u = withLent s (u .rows) (u .work) (u .marks)
 written s (iq n m) u = withRows s (u .rows .i) (u .rows .q)
@@ -113,6 +121,7 @@ unfoldable pub held : State → Call → Answer → State → State
 held s (make amp time oversize) a u = adopted a s u
 held s (add-channel n o) a u = u
 held s (add-shape n) a u = u
+held s (add-spline n p c t) a u = u
 held s (execute commands) a u = u
 held s (sample r c factors) a u = u
 held s (iq n m) a u = u
@@ -131,6 +140,9 @@ pub record Promised (s : State) (c : Call) (o : Outcome) : Type 0 where
 
 abbrev pub tabled : State → Tabled → Outcome
 tabled s x = told (x .answer) (withTables s (x .tables))
+
+abbrev pub hasFormed : State → Formed → Outcome
+hasFormed s x = told (x .tabled .answer) (withShapes s (x .tabled .tables) (x .rows))
 
 -- tables made anew: refused, the caller keeps its own
 abbrev pub remade : State → Tabled → Outcome
@@ -193,8 +205,9 @@ firStep st n taps =
 unfoldable pub outcome : State → Call → Outcome
 outcome s (make amp time oversize) = remade s (made amp time oversize)
 outcome s (add-channel n o) = tabled s (withAdded (s .tables) n o)
-outcome s (add-shape n) = tabled s (withAddedShape (s .tables) n)
-outcome s (execute commands) = hasRun s (executed (s .tables) commands (s .bins) (s .pulses))
+outcome s (add-shape n) = hasFormed s (withAddedShape (s .tables) n (s .splines))
+outcome s (add-spline n p c t) = hasFormed s (withAddedSpline (s .tables) n p c t (s .splines))
+outcome s (execute commands) = hasRun s (executed (s .tables) (s .splines) commands (s .bins) (s .pulses))
 outcome s (sample r c factors) = hasSampled s (sampled (s .tables) r c factors (s .bins) (s .pulses) (s .rows) (s .work) (s .marks))
 outcome s (iq n m) = stepped s (iqStep (s .rows) n m)
 outcome s (offset n m) = stepped s (offsetStep (s .rows) n m)

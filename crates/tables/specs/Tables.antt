@@ -1,12 +1,13 @@
 -- Document 01: "Tables are made with both tolerances and the oversize choice: 1. Adding a channel or shape: 2, 3"; "Adding a known channel
--- or shape name again replaces it; a replaced channel's pulses go and their room is used again". Definitions only.
+-- or shape name again replaces it; a replaced channel's pulses go and their room is used again". Request P1: of a spline "2 for a number not finite; a new 16
+-- for falling knots or wrong counts, after 2 and before 3". Definitions only.
 use Prim.Native.Nat.{ℕ, suc, _+_}
-use mathlib.Core.Bool.{Bool, true, false, _&&_, _||_, cond}
+use mathlib.Core.Bool.{Bool, false, _&&_, cond}
 use mathlib.Core.List.{List, [], _∷_}
-use lib.Dec.{ltb}
+use lib.Dec.{ltb, eqb}
 use lib.Ieee.{Float, nan}
 use lib.Ieee.Scale.{finite}
-use lib.ListN.{take, getD, set, replicate}
+use lib.ListN.{length, take, getD, set, replicate}
 use Rattle.exact.specs.Doubles.{nought}
 use Rattle.naming.specs.declared.Name.{Name}
 use Rattle.naming.specs.declared.Naming.{Naming}
@@ -14,9 +15,13 @@ use Rattle.naming.specs.declared.Naming.the-variants.{Named, Bad}
 use Rattle.quant.specs.declared.refusal.Answer.{Answer}
 use Rattle.quant.specs.declared.refusal.Answer.the-variants.{Done, Refused}
 use Rattle.quant.specs.declared.refusal.Refusal.{Refusal}
-use Rattle.quant.specs.declared.refusal.Refusal.the-variants.{Unfit, Malformed, Full, UnknownChannel}
+use Rattle.quant.specs.declared.refusal.Refusal.the-variants.{Unfit, Malformed, Full, UnknownChannel, WrongSize, WrongSpline}
 use Rattle.naming.specs.Name.{isName, sameName}
 use Rattle.quant.specs.Settings.{isTolerance}
+use Rattle.rows.specs.Rows.{allFinite}
+use Rattle.spline.specs.Spline.{isSpline}
+use Rattle.spline.specs.Row.{rowOf}
+use Rattle.pulse.specs.Bin.{noNumbers}
 use Rattle.executor.specs.declared.osc.OscState.{OscState}
 use Rattle.tables.specs.declared.Channel.{Channel}
 use Rattle.tables.specs.declared.Tables.{Tables}
@@ -43,10 +48,13 @@ foundFrom k n (c ∷ cs) = cond (sameName (c .name) n) (At k) (foundFrom (suc k)
 abbrev pub found : Tables → Name → Found
 found t n = foundFrom 0 n (channelsIn t)
 
--- whether a name is one of a list
-unfoldable pub isIn : Name → List Name → Bool
-isIn n [] = false
-isIn n (m ∷ ms) = sameName m n || isIn n ms
+-- where a shape's name stands, counted from k
+unfoldable pub shapeFrom : ℕ → Name → List Name → Found
+shapeFrom k n [] = Nowhere
+shapeFrom k n (m ∷ ms) = cond (sameName m n) (At k) (shapeFrom (suc k) n ms)
+
+abbrev pub shapeFound : Tables → Name → Found
+shapeFound t n = shapeFrom 0 n (shapesIn t)
 
 -- ---- tables made
 
@@ -113,6 +121,16 @@ settled t Nowhere c =
 abbrev pub withAdded : Tables → Name → OscState → Tabled
 withAdded t n o = cond (isName n && finiteOsc o) (settled t (found t n) (fresh n o)) (refused Malformed t)
 
+-- ---- shapes: for each name a lent row of 72 numbers, those of its spline; zeros are Hann's
+
+-- the tables, and the shapes' rows
+pub record Formed : Type 0 where
+  pub tabled : Tabled
+  pub rows : List (List Float)
+
+abbrev pub formed : Tabled → List (List Float) → Formed
+formed r rows = record { tabled = r; rows = rows }
+
 abbrev pub withShape : Tables → Name → Tables
 withShape t n =
     record {
@@ -125,13 +143,29 @@ withShape t n =
       named = t .named + 1;
     }
 
--- Hann is the only shape there is, so a known name again changes nothing
-unfoldable pub settledShape : Tables → Bool → Name → Tabled
-settledShape t true n = done t
-settledShape t false n = cond (ltb (t .named) 8) (done (withShape t n)) (refused Full t)
+-- a known name is replaced, a new one meets the ninth place: 3
+unfoldable pub settledShape : Tables → Found → Name → List Float → List (List Float) → Formed
+settledShape t (At i) n row rows = formed (done t) (set rows i row)
+settledShape t Nowhere n row rows =
+    cond (ltb (t .named) 8) (formed (done (withShape t n)) (set rows (t .named) row)) (formed (refused Full t) rows)
 
-abbrev pub withAddedShape : Tables → Name → Tabled
-withAddedShape t n = cond (isName n) (settledShape t (isIn n (shapesIn t)) n) (refused Malformed t)
+-- 13 for other than eight rows, then 2, 3
+abbrev pub withAddedShape : Tables → Name → List (List Float) → Formed
+withAddedShape t n rows =
+    cond (eqb (length rows) 8)
+    (cond (isName n) (settledShape t (shapeFound t n) n noNumbers rows) (formed (refused Malformed t) rows))
+    (formed (refused WrongSize t) rows)
+
+-- 13, then 2 for the name or any number, 16, 3
+abbrev pub withAddedSpline : Tables → Name → ℕ → List Float → List Float → List (List Float) → Formed
+withAddedSpline t n degree controls knots rows =
+    cond (eqb (length rows) 8)
+    (cond (isName n && allFinite controls && allFinite knots)
+    (cond (isSpline degree (length controls) knots)
+    (settledShape t (shapeFound t n) n (rowOf degree controls knots) rows)
+    (formed (refused WrongSpline t) rows))
+    (formed (refused Malformed t) rows))
+    (formed (refused WrongSize t) rows)
 
 -- ---- a channel's state read
 

@@ -1,7 +1,8 @@
 // The tables of a bench: tolerances, channels and shapes, by value. The Rust's `Executor`, but for its pulse lists: of these a channel
 // keeps only how many bins and pulses it has.
 ghost use mathlib.Core.Path.{_≡_};
-ghost use Rattle.tables.specs.Tables.{noName, atRest, empty, done, refused, made, fresh, found, shapesIn, isIn, withChannel, settled, finiteOsc, withAdded, settledShape, withAddedShape, stateOf};
+ghost use lib.ListN.{length};
+ghost use Rattle.tables.specs.Tables.{noName, atRest, empty, done, refused, made, fresh, found, shapeFound, withChannel, settled, finiteOsc, withAdded, formed, settledShape, withAddedShape, withAddedSpline, stateOf};
 use executor::osc::OscState;
 use ieee::finite::is_finite;
 use naming::Name;
@@ -15,6 +16,9 @@ use quant::quantity::Time;
 use quant::refusal::Answer;
 use quant::refusal::Refusal;
 use quant::settings::is_tolerance;
+use rows::all_finite;
+use spline::check::check;
+use spline::row::row_of;
 
 pub struct Channel {
     pub name: Name,
@@ -23,7 +27,8 @@ pub struct Channel {
     pub pulses: usize,
 }
 
-// `amp` and `time` are the tolerances. The first `count` channels are there, and the first `named` names are names of Hann's shape.
+// `amp` and `time` are the tolerances. The first `count` channels are there, and the first `named` names are names of shapes. What each of these stands for
+// lies beside the tables, in a lent row.
 pub struct Tables {
     pub amp: Amplitude,
     pub time: Time,
@@ -74,14 +79,46 @@ pub fn add_channel(t: Tables, name: Name, osc: OscState) -> Tabled
     refused(Refusal::Malformed, t)
 }
 
-// A name for Hann's shape.
-pub fn add_shape(t: Tables, name: Name) -> Tabled
-    ensures { λ r. ⌜ r ≡ withAddedShape t name ⌝ }
+// A name for Hann's shape. For each of eight names a row of 72 numbers is lent: refusal 13 where there are others, then 2, 3.
+pub fn add_shape(t: Tables, name: Name, splines: &mut [[f64; 72]]) -> Tabled
+    ensures { λ r. ⌜ formed r (now (splines .exit)) ≡ withAddedShape t name (now (splines .entry)) ⌝ }
 {
-    if is_name(name) {
-        return settle_shape(t, has_shape(t, name), name);
+    if splines.len() != 8 {
+        return refused(Refusal::WrongSize, t);
     }
-    refused(Refusal::Malformed, t)
+    if !is_name(name) {
+        return refused(Refusal::Malformed, t);
+    }
+    settle_shape(t, find_shape(t, name), name, [0.0; 72], splines)
+}
+
+// A name for a spline: refusals 13, 2, 16, 3.
+pub fn add_spline(
+    t: Tables,
+    name: Name,
+    degree: usize,
+    controls: &[f64],
+    knots: &[f64],
+    splines: &mut [[f64; 72]],
+) -> Tabled
+    ensures { λ r. ⌜ formed r (now (splines .exit)) ≡ withAddedSpline t name degree (now (controls .entry)) (now (knots .entry)) (now (splines .entry)) ⌝ }
+{
+    if splines.len() != 8 {
+        return refused(Refusal::WrongSize, t);
+    }
+    if !both(both(is_name(name), all_finite(controls)), all_finite(knots)) {
+        return refused(Refusal::Malformed, t);
+    }
+    if !check(degree, controls.len(), knots) {
+        return refused(Refusal::WrongSpline, t);
+    }
+    settle_shape(
+        t,
+        find_shape(t, name),
+        name,
+        row_of(degree, controls, knots),
+        splines,
+    )
 }
 
 // A channel's oscillator, or refusal 2 or 7, in this order.
@@ -120,21 +157,21 @@ pub fn find(t: Tables, name: Name) -> Found
     Found::Nowhere
 }
 
-// Whether a name is a shape's.
-pub fn has_shape(t: Tables, name: Name) -> bool
-    ensures { λ r. ⌜ r ≡ isIn name (shapesIn t) ⌝ }
+// Where a shape's name stands.
+pub fn find_shape(t: Tables, name: Name) -> Found
+    ensures { λ r. ⌜ r ≡ shapeFound t name ⌝ }
 {
     let mut i: usize = 0;
     while i < 8 {
         if t.named <= i {
-            return false;
+            return Found::Nowhere;
         }
         if same(t.shapes[i], name) {
-            return true;
+            return Found::At(i);
         }
         i += 1;
     }
-    false
+    Found::Nowhere
 }
 
 fn settle(t: Tables, at: Found, c: Channel) -> Tabled
@@ -167,20 +204,33 @@ pub fn with_channel(t: Tables, i: usize, c: Channel) -> Tables
     u
 }
 
-fn settle_shape(t: Tables, known: bool, name: Name) -> Tabled
-    ensures { λ r. ⌜ r ≡ settledShape t known name ⌝ }
+fn settle_shape(
+    t: Tables,
+    at: Found,
+    name: Name,
+    row: [f64; 72],
+    splines: &mut [[f64; 72]],
+) -> Tabled
+    requires { ⌜ (at ≡ shapeFound t name) × (length (now splines) ≡ 8) ⌝ }
+    ensures { λ r. ⌜ formed r (now (splines .exit)) ≡ settledShape t at name row (now (splines .entry)) ⌝ }
 {
-    if known {
-        return done(t);
+    match at {
+        Found::At(i) => {
+            splines[i] = row;
+            done(t)
+        }
+        Found::Nowhere => {
+            if 8 <= t.named {
+                return refused(Refusal::Full, t);
+            }
+            let mut u = t;
+            let n = t.named;
+            u.shapes[n] = name;
+            u.named = n + 1;
+            splines[n] = row;
+            done(u)
+        }
     }
-    if 8 <= t.named {
-        return refused(Refusal::Full, t);
-    }
-    let mut u = t;
-    let n = t.named;
-    u.shapes[n] = name;
-    u.named = n + 1;
-    done(u)
 }
 
 fn done(t: Tables) -> Tabled

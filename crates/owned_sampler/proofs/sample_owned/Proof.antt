@@ -48,7 +48,7 @@ use denote.Exit.{yes}
 use Rattle.quant.specs.declared.refusal.Answer.{Answer}
 use Rattle.quant.proofs.refusal.Answer as N
 use Rattle.quant.proofs.refusal.Answer.Laws as N′
-use Rattle.pulse.proofs.Lent.{Row}
+use Rattle.pulse.proofs.Lent.{Row, BinRow}
 use Rattle.pulse.specs.declared.list.Pulse.{Pulse}
 use Rattle.pulse.proofs.Walk.{cell, part, into}
 use Rattle.pulse.proofs.list.Pulse as P
@@ -106,7 +106,7 @@ stayed = (
       (
         stay-none-slice (0 ∷ []) tt (plain (λ _. f64)) yes,
         (
-          stay-none-slice (1 ∷ []) tt (ArrayOf (plain (λ _. f64)) (λ _. tt) 5) yes,
+          stay-none-slice (1 ∷ []) tt (ArrayOf (plain (λ _. f64)) (λ _. tt) 77) yes,
           (
             stay-none (λ _. Pulses) yes,
             (
@@ -137,7 +137,7 @@ Samples 𝓤 H A mem run = tripleOf 𝓤 H A sa.signature (sa.spec 𝓤 H A mem 
 
 module _ {M : Type 1} (𝓤 : URA M) (H : Heap 𝓤) (A : Atoms 𝓤) (W : Given 𝓤 H A) (mem : Memory → SProp 𝓤) (run : Routine → Fun 𝓤) (t : Tables) (r : Request) (c : Crosstalk) (xF xB xI xQ xS xW xM : Lease)
     (fs : Wave) (bs : Rows) (xs : List Pulse) (x : Val) (is qs ss : Wave) (ws : Rows) (ms : List ℕ) (gt : IsTables t) (gr : IsRequest r) (gc : IsCrosstalk c) (gx : Is Pulses xs (x ∷ []))
-    (gF : Room f64 (length fs)) (gB : Room Row (length bs)) (gI : Room f64 (length is)) (gQ : Room f64 (length qs)) (gS : Room f64 (length ss)) (gW : Room Row (length ws)) (gM : Room usize (length ms)) where
+    (gF : Room f64 (length fs)) (gB : Room BinRow (length bs)) (gI : Room f64 (length is)) (gQ : Room f64 (length qs)) (gS : Room f64 (length ss)) (gW : Room Row (length ws)) (gM : Room usize (length ms)) where
   typedP : T (hasTy (tyArray P′.mir 8192) x) × WT x
   typedP = array-lawful 𝓤 H A W P.the-row (LL.lawful P.the-type P′.the-laws 𝓤 H A W) 8192 .typed xs (x ∷ []) gx .0
 
@@ -169,7 +169,7 @@ module _ {M : Type 1} (𝓤 : URA M) (H : Heap 𝓤) (A : Atoms 𝓤) (W : Given
   Is-left a i′ q′ s′ w′ m′ = left a (rowed i′ q′ s′) w′ m′ ≡ sampled t r c fs bs xs (rowed is qs ss) ws ms
 
   abbrev Last : Wave → Wave → Wave → Rows → List ℕ → List (Item 𝓤)
-  Last i′ q′ s′ w′ m′ = ‵ (shared f64 xF fs) ∷ token xF ∷ ‵ (shared Row xB bs) ∷ token xB ∷ ‵ (finally f64 (xI .γ) i′) ∷ token xI ∷ ‵ (finally f64 (xQ .γ) q′) ∷ token xQ ∷ ‵ (finally f64 (xS .γ) s′) ∷ token xS
+  Last i′ q′ s′ w′ m′ = ‵ (shared f64 xF fs) ∷ token xF ∷ ‵ (shared BinRow xB bs) ∷ token xB ∷ ‵ (finally f64 (xI .γ) i′) ∷ token xI ∷ ‵ (finally f64 (xQ .γ) q′) ∷ token xQ ∷ ‵ (finally f64 (xS .γ) s′) ∷ token xS
       ∷ ‵ (finally Row (xW .γ) w′) ∷ token xW ∷ ‵ (finally usize (xM .γ) m′) ∷ token xM ∷ []
 
   exits : (a : Answer) (i′ q′ s′ : Wave) (w′ : Rows) (m′ : List ℕ) → IsAnswer a → length i′ ≡ length is → length q′ ≡ length qs → length s′ ≡ length ss → length w′ ≡ length ws → length m′ ≡ length ms
@@ -218,7 +218,7 @@ module _ {M : Type 1} (𝓤 : URA M) (H : Heap 𝓤) (A : Atoms 𝓤) (W : Given
     tokens = token xF ⊛ (token xB ⊛ (token xP ⊛ (token xI ⊛ (token xQ ⊛ (token xS ⊛ (token xW ⊛ (token xM ⊛ ‵ ftrue)))))))
 
     abbrev slices : Item 𝓤
-    slices = ‵ (shared f64 xF fs) ⊛ (‵ (shared Row xB bs) ⊛ (‵ (lent 8192) ⊛ (‵ (held f64 xI (length is) is) ⊛ (‵ (held f64 xQ (length qs) qs) ⊛ (‵ (held f64 xS (length ss) ss)
+    slices = ‵ (shared f64 xF fs) ⊛ (‵ (shared BinRow xB bs) ⊛ (‵ (lent 8192) ⊛ (‵ (held f64 xI (length is) is) ⊛ (‵ (held f64 xQ (length qs) qs) ⊛ (‵ (held f64 xS (length ss) ss)
         ⊛ (‵ (held Row xW (length ws) ws) ⊛ ‵ (held usize xM (length ms) ms)))))))
 
     goes-sample : ent 𝓤 (mean 𝓤 H A (tokens ⊛ slices)) (Samples 𝓤 H A mem run .pre to-sample)
@@ -235,7 +235,7 @@ module _ {M : Type 1} (𝓤 : URA M) (H : Heap 𝓤) (A : Atoms 𝓤) (W : Given
     walk : ent 𝓤 (onEntry 𝓤 H A f.signature κs shared-by args vals) (WpFn 𝓤 H C Λ code.function (valU t ∷ valR r ∷ valX c ∷ slice xF (length fs) ∷ slice xB (length bs) ∷ x ∷ slice xI (length is) ∷ slice xQ (length qs) ∷ slice xS (length ss) ∷ slice xW (length ws) ∷ slice xM (length ms) ∷ []) Post)
     walk =
         qed W ((token xF ⊛ (token xB ⊛ (token xI ⊛ (token xQ ⊛ (token xS ⊛ (token xW ⊛ (token xM ⊛ ‵ ftrue)))))))
-        ∷ ‵ (owns (U.the-row ∷ R.the-row ∷ X.the-row ∷ ShrSlice (named 0) (xF .κ) f64 ∷ ShrSlice (named 1) (xB .κ) Row ∷ Pulses ∷ MutSlice (named 2) (xI .κ) f64 ∷ MutSlice (named 3) (xQ .κ) f64
+        ∷ ‵ (owns (U.the-row ∷ R.the-row ∷ X.the-row ∷ ShrSlice (named 0) (xF .κ) f64 ∷ ShrSlice (named 1) (xB .κ) BinRow ∷ Pulses ∷ MutSlice (named 2) (xI .κ) f64 ∷ MutSlice (named 3) (xQ .κ) f64
         ∷ MutSlice (named 4) (xS .κ) f64 ∷ MutSlice (named 5) (xW .κ) Row ∷ MutSlice (named 6) (xM .κ) usize ∷ []) args vals) ∷ []) ∵
         enter ! C Λ code.function (valU t ∷ valR r ∷ valX c ∷ slice xF (length fs) ∷ slice xB (length bs) ∷ x ∷ slice xI (length is) ∷ slice xQ (length qs) ∷ slice xS (length ss) ∷ slice xW (length ws) ∷ slice xM (length ms) ∷ []) _ $
         alloc1 ! (λ l₀. alloc1 ! (λ l₁. alloc1 ! (λ l₂. alloc1 ! (λ l₃. alloc1 ! (λ l₄. alloc1 ! (λ l₅. alloc1 ! (λ l₆. alloc1 ! (λ l₇. alloc1 ! (λ l₈.
@@ -266,7 +266,7 @@ module _ {M : Type 1} (𝓤 : URA M) (H : Heap 𝓤) (A : Atoms 𝓤) (W : Given
         await ! tt $ pick ! (λ δ. split ! $ rewrite ! 0 (λ (n : ℕ). ‵ (lent l₁₂ ν δ n)) long refl $
         -- [the array, lent; the lender's part; ν; factors; κF; bins; κB; i; κI; …; marks; κM; _24; …]
         move ! (3 ∷ []) $ use1 W (‵ (shared f64 xF fs) ⊛ ‵ (shared f64 xF fs)) (shr-slice-copy 𝓤 H A W (named 0) (xF .κ) f64 .twice (refTo xF fs) (spell xF (length fs))) $ split ! $
-        move ! (6 ∷ []) $ use1 W (‵ (shared Row xB bs) ⊛ ‵ (shared Row xB bs)) (shr-slice-copy 𝓤 H A W (named 0) (xB .κ) Row .twice (refTo xB bs) (spell xB (length bs))) $ split ! $ nothing ! $
+        move ! (6 ∷ []) $ use1 W (‵ (shared BinRow xB bs) ⊛ ‵ (shared BinRow xB bs)) (shr-slice-copy 𝓤 H A W (named 0) (xB .κ) BinRow .twice (refTo xB bs) (spell xB (length bs))) $ split ! $ nothing ! $
         -- [true; bins, twice; factors, twice; the array, lent; the lender's part; ν; κF; κB; i; κI; q; κQ; scratch; κS; work; κW; marks; κM; _24; …]
         move ! (19 ∷ 0 ∷ []) $ join ! $ move ! (17 ∷ 0 ∷ []) $ join ! $ move ! (15 ∷ 0 ∷ []) $ join ! $ move ! (13 ∷ 0 ∷ []) $ join ! $ move ! (11 ∷ 0 ∷ []) $ join ! $ move ! (7 ∷ 0 ∷ []) $ join ! $ move ! (8 ∷ 0 ∷ []) $ join ! $
         move ! (7 ∷ 0 ∷ []) $ join ! $ move ! (10 ∷ 11 ∷ []) $ join ! $ move ! (10 ∷ 0 ∷ []) $ join ! $ move ! (9 ∷ 0 ∷ []) $ join ! $ move ! (8 ∷ 0 ∷ []) $ join ! $ move ! (6 ∷ 0 ∷ []) $ join ! $ move ! (2 ∷ 0 ∷ []) $ join ! $
@@ -312,7 +312,7 @@ module _ {M : Type 1} (𝓤 : URA M) (H : Heap 𝓤) (A : Atoms 𝓤) (W : Given
             (
               shr-slice-tells (named 0) (κs .0) f64,
               (
-                shr-slice-tells (named 1) (κs .1 .0) Row,
+                shr-slice-tells (named 1) (κs .1 .0) BinRow,
                 (
                   array-tells P.the-row (LL.vals P.the-type P′.the-laws) (LL.tells P.the-type P′.the-laws) 8192,
                   (
@@ -355,7 +355,7 @@ module _ {M : Type 1} (𝓤 : URA M) (H : Heap 𝓤) (A : Atoms 𝓤) (W : Given
             (
               goes-none-slice 𝓤 H A W 7 (0 ∷ []) tt (plain (λ _. f64)) yes,
               (
-                goes-none-slice 𝓤 H A W 7 (1 ∷ []) tt (ArrayOf (plain (λ _. f64)) (λ _. tt) 5) yes,
+                goes-none-slice 𝓤 H A W 7 (1 ∷ []) tt (ArrayOf (plain (λ _. f64)) (λ _. tt) 77) yes,
                 (
                   goes-none 𝓤 H A W 7 (λ _. Pulses) yes (λ κs x f. refl),
                   (

@@ -32,9 +32,9 @@ enum-told-3 : tie.Need-enum-told-3
 enum-told-3 c = search needs
 
 -- where the pulse was placed
-placed-is : (d : tie.After-place) → d .place .result ≡ placedAt (d .before .before .before .before .args .s) (d .before .before .before .before .args .p)
+placed-is : (d : tie.After-place) → d .place .result ≡ placedAt (d .before .before .before .before .before .args .s) (d .before .before .before .before .before .args .p)
 placed-is d =
-    let a = d .before .before .before .before .args in
+    let a = d .before .before .before .before .before .args in
     d .place .ensures
     ∙ ap (λ (z : ℤ). placedOf (alignedOf (d .before .before .add .result .0) (a .s .rate .0) z)) (toZ-ofZ w32 (a .s .level) (search needs))
     ∙ ap (λ (t : Float). placedOf (alignedOf t (a .s .rate .0) (a .s .level))) (d .before .before .add .ensures)
@@ -43,29 +43,29 @@ returns : tie.Need-returns
 unfolding judged
 returns c =
     let d = c .before .before .before .before in
-    let a = d .before .before .before .before .args in
-    c .from-start .ensures ∙ ap (judgedAt (a .s) (a .b) (a .p) (a .len)) (sym (c .before .before .start .given .1) ∙ placed-is d)
+    let a = d .before .before .before .before .before .args in
+    c .from-start .ensures ∙ ap (judgedAt (a .s) (a .b) (a .numbers .now) (a .p) (a .len)) (sym (c .before .before .start .given .1) ∙ placed-is d)
 
 returns-2 : tie.Need-returns-2
 unfolding judged
 returns-2 c =
     let d = c .before .before in
-    let a = d .before .before .before .before .args in
-    ap (judgedAt (a .s) (a .b) (a .p) (a .len)) (sym (c .enum-told .given .1) ∙ placed-is d)
+    let a = d .before .before .before .before .before .args in
+    ap (judgedAt (a .s) (a .b) (a .numbers .now) (a .p) (a .len)) (sym (c .enum-told .given .1) ∙ placed-is d)
 
 returns-3 : tie.Need-returns-3
 unfolding judged
 returns-3 c =
     let d = c .before .before in
-    let a = d .before .before .before .before .args in
-    ap (judgedAt (a .s) (a .b) (a .p) (a .len)) (sym (c .enum-told2 .given .1) ∙ placed-is d)
+    let a = d .before .before .before .before .before .args in
+    ap (judgedAt (a .s) (a .b) (a .numbers .now) (a .p) (a .len)) (sym (c .enum-told2 .given .1) ∙ placed-is d)
 
 returns-4 : tie.Need-returns-4
 unfolding judged
 returns-4 c =
     let d = c .before .before in
-    let a = d .before .before .before .before .args in
-    ap (judgedAt (a .s) (a .b) (a .p) (a .len)) (sym (c .enum-told3 .given .1) ∙ placed-is d)
+    let a = d .before .before .before .before .before .args in
+    ap (judgedAt (a .s) (a .b) (a .numbers .now) (a .p) (a .len)) (sym (c .enum-told3 .given .1) ∙ placed-is d)
 
 pub judge-spec : {M : Type 1} → statement M
 judge-spec =

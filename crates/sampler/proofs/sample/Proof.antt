@@ -40,7 +40,7 @@ use denote.Triple.Walked.{says, walkOf, Walks, ends-at, walked, walk-meets}
 use Rattle.quant.specs.declared.refusal.Answer.{Answer}
 use Rattle.quant.proofs.refusal.Answer as N
 use Rattle.quant.proofs.refusal.Answer.Laws as N′
-use Rattle.pulse.proofs.Lent.{Row}
+use Rattle.pulse.proofs.Lent.{Row, BinRow}
 use Rattle.pulse.specs.declared.list.Pulse.{Pulse}
 use Rattle.pulse.proofs.Walk.{is-true, is-false, word, cell, part, into}
 use Rattle.pulse.proofs.list.Pulse as P
@@ -94,7 +94,7 @@ slice x n = only (spell x n)
 
 module _ {M : Type 1} (𝓤 : URA M) (H : Heap 𝓤) (A : Atoms 𝓤) (W : Given 𝓤 H A) (mem : Memory → SProp 𝓤) (run : Routine → Fun 𝓤) (t : Tables) (r : Request) (c : Crosstalk) (xF xB xP xI xQ xS xW xM : Lease)
     (fs : Wave) (bs : Rows) (ps : List Pulse) (is qs ss : Wave) (ws : Rows) (ms : List ℕ) (gt : IsTables t) (gr : IsRequest r) (gc : IsCrosstalk c)
-    (gF : Room f64 (length fs)) (gB : Room Row (length bs)) (gP : Room P.the-row (length ps)) (gI : Room f64 (length is)) (gQ : Room f64 (length qs)) (gS : Room f64 (length ss)) (gW : Room Row (length ws)) (gM : Room usize (length ms)) where
+    (gF : Room f64 (length fs)) (gB : Room BinRow (length bs)) (gP : Room P.the-row (length ps)) (gI : Room f64 (length is)) (gQ : Room f64 (length qs)) (gS : Room f64 (length ss)) (gW : Room Row (length ws)) (gM : Room usize (length ms)) where
   abbrev κs : Of-eight Lft
   κs = (xF .κ, (xB .κ, (xP .κ, (xI .κ, (xQ .κ, (xS .κ, (xW .κ, (xM .κ, tt))))))))
 
@@ -119,7 +119,7 @@ module _ {M : Type 1} (𝓤 : URA M) (H : Heap 𝓤) (A : Atoms 𝓤) (W : Given
 
   -- the slices: factors, bins and pulses, each with its token, then what is held of i, q, scratch, work and marks
   abbrev Front : Item 𝓤 → Item 𝓤 → Item 𝓤 → Item 𝓤 → Item 𝓤 → List (Item 𝓤) → List (Item 𝓤)
-  Front i q s w m Γ = ‵ (shared f64 xF fs) ∷ token xF ∷ ‵ (shared Row xB bs) ∷ token xB ∷ ‵ (shared P.the-row xP ps) ∷ token xP ∷ i ∷ token xI ∷ q ∷ token xQ ∷ s ∷ token xS ∷ w ∷ token xW ∷ m ∷ token xM ∷ Γ
+  Front i q s w m Γ = ‵ (shared f64 xF fs) ∷ token xF ∷ ‵ (shared BinRow xB bs) ∷ token xB ∷ ‵ (shared P.the-row xP ps) ∷ token xP ∷ i ∷ token xI ∷ q ∷ token xQ ∷ s ∷ token xS ∷ w ∷ token xW ∷ m ∷ token xM ∷ Γ
 
   abbrev Held : Rows → List ℕ → List (Item 𝓤) → List (Item 𝓤)
   Held w m Γ = Front (‵ (held f64 xI (length is) is)) (‵ (held f64 xQ (length qs) qs)) (‵ (held f64 xS (length ss) ss)) (‵ (held Row xW (length ws) w)) (‵ (held usize xM (length ms) m)) Γ
@@ -203,7 +203,7 @@ module _ {M : Type 1} (𝓤 : URA M) (H : Heap 𝓤) (A : Atoms 𝓤) (W : Given
           into ! 16 (agg ! (and-then ! (cell ! 16 refl) (and-then ! (part ! 16 refl tt) (no-more !)))) refl (tt, (tt, (record { fits = gQ .0 }, tt))) $
           into ! 16 (addr ! (from-local ! (fld ! refl (hop ! (look-in ! 68 (sub ! 0 refl (whole !))) (stop !))))) refl (tt, tt) $
           into ! 16 (agg ! (and-then ! (cell ! 16 refl) (and-then ! (part ! 16 refl tt) (no-more !)))) refl (tt, (tt, (record { fits = gS .0 }, tt))) $
-          move ! (2 ∷ []) $ use1 W (‵ (shared Row xB bs) ⊛ ‵ (shared Row xB bs)) (shr-slice-copy 𝓤 H A W (named 0) (xB .κ) Row .twice (refTo xB bs) (spell xB (length bs))) $ split ! $ nothing ! $
+          move ! (2 ∷ []) $ use1 W (‵ (shared BinRow xB bs) ⊛ ‵ (shared BinRow xB bs)) (shr-slice-copy 𝓤 H A W (named 0) (xB .κ) BinRow .twice (refTo xB bs) (spell xB (length bs))) $ split ! $ nothing ! $
           -- [true; bins, twice; factors; κF; κB; pulses; κP; i; κI; q; κQ; scratch; κS; work; κW; marks; κM; _35; …]
           move ! (13 ∷ 0 ∷ []) $ join ! $ move ! (11 ∷ 0 ∷ []) $ join ! $ move ! (9 ∷ 0 ∷ []) $ join ! $ move ! (14 ∷ 0 ∷ []) $ join ! $ move ! (12 ∷ 0 ∷ []) $ join ! $ move ! (5 ∷ 0 ∷ []) $ join ! $
           -- [the tokens; bins, twice; factors; κF; pulses; κP; i; q; scratch; work; marks; _35; …]
@@ -335,7 +335,7 @@ module _ {M : Type 1} (𝓤 : URA M) (H : Heap 𝓤) (A : Atoms 𝓤) (W : Given
       → ent 𝓤 (onEntry 𝓤 H A f.signature κs shares args vals) (WpFn 𝓤 H (𝓣 .C) (𝓣 .Λ) code.function (valU t ∷ valR r ∷ valX c ∷ slice xF (length fs) ∷ slice xB (length bs) ∷ slice xP (length ps) ∷ slice xI (length is) ∷ slice xQ (length qs) ∷ slice xS (length ss) ∷ slice xW (length ws) ∷ slice xM (length ms) ∷ []) Post)
   walk 𝓣 k₁ k₂ k₃ =
       qed W ((token xF ⊛ (token xB ⊛ (token xP ⊛ (token xI ⊛ (token xQ ⊛ (token xS ⊛ (token xW ⊛ (token xM ⊛ ‵ ftrue))))))))
-      ∷ ‵ (owns (U.the-row ∷ R.the-row ∷ X.the-row ∷ ShrSlice (named 0) (xF .κ) f64 ∷ ShrSlice (named 1) (xB .κ) Row ∷ ShrSlice (named 2) (xP .κ) P.the-row ∷ MutSlice (named 3) (xI .κ) f64 ∷ MutSlice (named 4) (xQ .κ) f64
+      ∷ ‵ (owns (U.the-row ∷ R.the-row ∷ X.the-row ∷ ShrSlice (named 0) (xF .κ) f64 ∷ ShrSlice (named 1) (xB .κ) BinRow ∷ ShrSlice (named 2) (xP .κ) P.the-row ∷ MutSlice (named 3) (xI .κ) f64 ∷ MutSlice (named 4) (xQ .κ) f64
       ∷ MutSlice (named 5) (xS .κ) f64 ∷ MutSlice (named 6) (xW .κ) Row ∷ MutSlice (named 7) (xM .κ) usize ∷ []) args vals) ∷ []) ∵
       enter ! (𝓣 .C) (𝓣 .Λ) code.function (valU t ∷ valR r ∷ valX c ∷ slice xF (length fs) ∷ slice xB (length bs) ∷ slice xP (length ps) ∷ slice xI (length is) ∷ slice xQ (length qs) ∷ slice xS (length ss) ∷ slice xW (length ws) ∷ slice xM (length ms) ∷ []) _ $
       alloc1 ! (λ l₀. alloc1 ! (λ l₁. alloc1 ! (λ l₂. alloc1 ! (λ l₃. alloc1 ! (λ l₄. alloc1 ! (λ l₅. alloc1 ! (λ l₆. alloc1 ! (λ l₇. alloc1 ! (λ l₈. alloc1 ! (λ l₉. alloc1 ! (λ l₁₀. alloc1 ! (λ l₁₁.

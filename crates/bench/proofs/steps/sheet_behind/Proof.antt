@@ -38,7 +38,7 @@ none said behind c d before r other e =
 
 -- the numbers of the other cases of a line
 abbrev others : List ℕ
-others = 0 ∷ 1 ∷ 2 ∷ 3 ∷ 4 ∷ 5 ∷ 6 ∷ 7 ∷ 8 ∷ 10 ∷ 11 ∷ 12 ∷ 13 ∷ 14 ∷ 15 ∷ 16 ∷ []
+others = 0 ∷ 1 ∷ 2 ∷ 3 ∷ 4 ∷ 5 ∷ 6 ∷ 7 ∷ 8 ∷ 9 ∷ 11 ∷ 12 ∷ 13 ∷ 14 ∷ 15 ∷ 16 ∷ 17 ∷ []
 
 enum-known-said : tie.Need-enum-known-said
 enum-known-said c = search needs
@@ -59,7 +59,7 @@ returns : tie.Need-returns
 returns c = took _ _ _ _ _ _ _ _ (c .before .before .before .before .before .before .said .given .1) (c .before .before .before .take-sheet .ensures)
 
 returns-2 : tie.Need-returns-2
-returns-2 c = none _ _ _ _ _ _ (λ n e. miss others 9 tt (subst (OneOf others) (ap (tagOf Line.the-type) e) (c .before .match .keys2))) (c .fewer .ensures)
+returns-2 c = none _ _ _ _ _ _ (λ n e. miss others 10 tt (subst (OneOf others) (ap (tagOf Line.the-type) e) (c .before .match .keys2))) (c .fewer .ensures)
 
 pub sheet-behind-spec : {M : Type 1} → statement M
 sheet-behind-spec = tie.close (tie.spec enum-known-said take-sheet-requires show-inset-requires fewer-requires same-length returns returns-2)

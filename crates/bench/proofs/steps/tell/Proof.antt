@@ -97,13 +97,13 @@ with-crosstalk-requires : tie.Need-with-crosstalk-requires
 with-crosstalk-requires c κs = search needs
 
 sub-on-rows : tie.Need-sub-on-rows
-sub-on-rows c = omega (arith, c .before .before .before .before .before .before .before .before .before .before .before .before .before .before .before .before .before .before .before .before .before .pre)
+sub-on-rows c = omega (arith, c .before .before .before .before .before .before .before .before .before .before .before .before .before .before .before .before .before .before .before .before .before .before .before .pre)
 
 part-on-rows-start : tie.Need-part-on-rows-start
-part-on-rows-start c = omega (arith, c .before .before .before .before .before .before .before .before .before .before .before .before .before .before .before .before .before .before .before .before .before .pre)
+part-on-rows-start c = omega (arith, c .before .before .before .before .before .before .before .before .before .before .before .before .before .before .before .before .before .before .before .before .before .before .before .pre)
 
 part-on-rows-end : tie.Need-part-on-rows-end
-part-on-rows-end c = omega (arith, c .before .before .before .before .before .before .before .before .before .before .before .before .before .before .before .before .before .before .before .before .before .pre)
+part-on-rows-end c = omega (arith, c .before .before .before .before .before .before .before .before .before .before .before .before .before .before .before .before .before .before .before .before .before .before .before .pre)
 
 on-rows-requires : tie.Need-on-rows-requires
 on-rows-requires c κs = search needs
@@ -111,23 +111,26 @@ on-rows-requires c κs = search needs
 add-next : tie.Need-add-next
 add-next c =
     let took = c .before .before .before .before .before .before .before .before .before .before .before .before .before in
-    let start = took .before .before .before .before .before .before .before .before .before .before .before .before .before .before .before .before .before in
+    let start = took .before .before .before .before .before .before .before .before .before .before .before .before .before .before .before .before .before .before .before in
     let goes = goes-on (start .args .text .now) (start .args .end) _ (start .pre .1) (took .before .before .before .before .before .least .ensures) _ (took .sheet-behind .ensures .within) in
     omega (arith, goes .near, start .good .1 .1 .0 .1)
 
 same-length : tie.Need-same-length
-same-length c = let took = c .before .before .before .before .before .before .before .before .before .before .before .before .before in took .sheet-behind .kept .1 .1 .1 .1 .0 ∙ took .before .before .before .before .before .before .before .before .take-factors .kept .1 .1 .0
+same-length c = let took = c .before .before .before .before .before .before .before .before .before .before .before .before .before in took .before .before .before .before .before .before .before .before .before .before .before .before .after .kept .1 .1 .1 .1 .0
 
 same-length-2 : tie.Need-same-length-2
-same-length-2 c = search needs
+same-length-2 c = let took = c .before .before .before .before .before .before .before .before .before .before .before .before .before in took .sheet-behind .kept .1 .1 .1 .1 .0 ∙ took .before .before .before .before .before .before .before .before .take-factors .kept .1 .1 .0
 
 same-length-3 : tie.Need-same-length-3
 same-length-3 c = search needs
 
+same-length-4 : tie.Need-same-length-4
+same-length-4 c = search needs
+
 returns : tie.Need-returns
 returns c =
     let took = c .before .before .before .before .before .before .before .before .before .before .before .before .before in
-    let start = took .before .before .before .before .before .before .before .before .before .before .before .before .before .before .before .before .before in
+    let start = took .before .before .before .before .before .before .before .before .before .before .before .before .before .before .before .before .before .before .before in
     tells (start .args .text .now) (start .args .end) _ (start .pre .1) (took .before .before .before .before .before .least .ensures) _ _ _ _ _ _ _ _ (took .before .before .before .before .before .before .before .before .take-factors .ensures) (took .sheet-behind .ensures)
     (ap (λ (x : State). x .crosstalk) (c .before .before .before .before .before .before .before .before .before .with-crosstalk .ensures))
 
@@ -158,4 +161,5 @@ tell-spec =
     same-length
     same-length-2
     same-length-3
+    same-length-4
     returns)

@@ -13,10 +13,11 @@ use Rattle.bench.proofs.walk.each.Statement.{statement}
 use Rattle.bench.proofs.walk.each.Tie as tie
 
 -- no line is counted before it is passed, and the arrays keep their lengths
-record Inv (text : List ℕ) (bins : List (List Float)) (i q scratch : List Float) (work : List (List Float)) (marks : List ℕ) (factors : List Float) (number at : ℕ) : Type 0 where
+record Inv (text : List ℕ) (bins splines : List (List Float)) (i q scratch : List Float) (work : List (List Float)) (marks : List ℕ) (factors : List Float) (number at : ℕ) : Type 0 where
   within : at ≤ length text + 1
   few : number ≤ at
   bins-long : length bins ≡ 512
+  splines-long : length splines ≡ 8
   i-long : length i ≡ 65536
   q-long : length q ≡ 65536
   scratch-long : length scratch ≡ 65536
@@ -34,10 +35,10 @@ counts : (n number at end lines next : ℕ) → number ≤ at → at ≤ end →
 counts n number at end lines next p q g h = omega (arith, g .lines-passed, g .near)
 
 abbrev Inv-loop : tie.InvT-loop
-Inv-loop text commands₀ pulses₀ bins₀ i₀ q₀ scratch₀ work₀ marks₀ factors₀ s₀ number₀ at₀ commands pulses bins i q scratch work marks factors s number at = Inv text bins i q scratch work marks factors number at
+Inv-loop text commands₀ pulses₀ bins₀ splines₀ i₀ q₀ scratch₀ work₀ marks₀ factors₀ s₀ number₀ at₀ commands pulses bins splines i q scratch work marks factors s number at = Inv text bins splines i q scratch work marks factors number at
 
 abbrev μ-loop : tie.MeasureT-loop
-μ-loop text commands₀ pulses₀ bins₀ i₀ q₀ scratch₀ work₀ marks₀ factors₀ s₀ number₀ at₀ commands pulses bins i q scratch work marks factors s number at = length text - at
+μ-loop text commands₀ pulses₀ bins₀ splines₀ i₀ q₀ scratch₀ work₀ marks₀ factors₀ s₀ number₀ at₀ commands pulses bins splines i q scratch work marks factors s number at = length text - at
 
 idle-requires : tie.Need-idle-requires Inv-loop μ-loop
 idle-requires c κs = search needs
@@ -99,18 +100,24 @@ slice-aggregate-tell-2 c = search needs
 slice-aggregate-tell-3 : tie.Need-slice-aggregate-tell-3 Inv-loop μ-loop
 slice-aggregate-tell-3 c = search needs
 
+slice-aggregate-tell-4 : tie.Need-slice-aggregate-tell-4 Inv-loop μ-loop
+slice-aggregate-tell-4 c = search needs
+
 tell-requires : tie.Need-tell-requires Inv-loop μ-loop
 tell-requires c κs = search needs
 
 add-number-2 : tie.Need-add-number-2 Inv-loop μ-loop
 add-number-2 c =
-    let told = c .before .before .before .before .before in
-    let start = told .before .before .before .before .before .before .before .before .before .before .before .before .before .before .before .before .before in
-    let was = told .before .before .before .before .before .before .before .before .before .before .before .before .loop .inv in
-    counts (length (start .args .text .now)) _ _ _ _ _ (was .few) (told .before .before .before .before .before .before .before .before .before .before .end-of .ensures .0) (told .tell .ensures .goes-on) (start .good .0 .1)
+    let told = c .before .before .before .before .before .before in
+    let start = told .before .before .before .before .before .before .before .before .before .before .before .before .before .before .before .before .before .before in
+    let was = told .before .before .before .before .before .before .before .before .before .before .before .before .before .loop .inv in
+    counts (length (start .args .text .now)) _ _ _ _ _ (was .few) (told .before .before .before .before .before .before .before .before .before .before .before .end-of .ensures .0) (told .tell .ensures .goes-on) (start .good .0 .1)
 
 slice-aggregate-execute-owned : tie.Need-slice-aggregate-execute-owned Inv-loop μ-loop
-slice-aggregate-execute-owned c = sym (c .before .before .before .before .before .before .before .before .before .before .before .before .before .before .before .before .before .before .before .before .loop .inv .bins-long)
+slice-aggregate-execute-owned c = search needs
+
+slice-aggregate-execute-owned-2 : tie.Need-slice-aggregate-execute-owned-2 Inv-loop μ-loop
+slice-aggregate-execute-owned-2 c = sym (c .before .before .before .before .before .before .before .before .before .before .before .before .before .before .before .before .before .before .before .before .before .before .before .loop .inv .bins-long)
 
 execute-owned-requires : tie.Need-execute-owned-requires Inv-loop μ-loop
 execute-owned-requires c κs = search needs
@@ -120,25 +127,26 @@ ran-requires c κs = search needs
 
 loop-less : tie.Need-loop-less Inv-loop μ-loop
 loop-less c =
-    let told = c .before .before .before .before .before .before .before .before .before .before .before .before .before in
-    let ends = told .before .before .before .before .before .before .before .before .before .before in
+    let told = c .before .before .before .before .before .before .before .before .before .before .before .before .before .before .before in
+    let ends = told .before .before .before .before .before .before .before .before .before .before .before in
     less _ _ _ _ _ (ends .before .loop-test .taken) (ends .end-of .ensures .0) (told .tell .ensures .goes-on)
 
 loop-again : tie.Need-loop-again Inv-loop μ-loop
 loop-again c =
-    let told = c .before .before .before .before .before .before .before .before .before .before .before .before .before in
-    let ends = told .before .before .before .before .before .before .before .before .before .before in
+    let told = c .before .before .before .before .before .before .before .before .before .before .before .before .before .before .before in
+    let ends = told .before .before .before .before .before .before .before .before .before .before .before in
     let was = ends .before .before .loop .inv in
     record {
       within = told .tell .ensures .goes-on .near;
       few = passed _ _ _ _ _ _ (was .few) (ends .end-of .ensures .0) (told .tell .ensures .goes-on);
-      bins-long = c .before .before .before .before .execute-owned .kept .1 .1 .1 .0 ∙ was .bins-long;
-      i-long = told .tell .kept .1 .1 .1 .1 .1 .1 .1 .0 ∙ was .i-long;
-      q-long = told .tell .kept .1 .1 .1 .1 .1 .1 .1 .1 .0 ∙ was .q-long;
+      bins-long = c .before .before .before .before .execute-owned .kept .1 .1 .1 .1 .0 ∙ was .bins-long;
+      splines-long = told .tell .kept .1 .1 .1 .1 .1 .1 .0 ∙ was .splines-long;
+      i-long = told .tell .kept .1 .1 .1 .1 .1 .1 .1 .1 .0 ∙ was .i-long;
+      q-long = told .tell .kept .1 .1 .1 .1 .1 .1 .1 .1 .1 .0 ∙ was .q-long;
       scratch-long = was .scratch-long;
       work-long = was .work-long;
       marks-long = was .marks-long;
-      factors-long = told .tell .kept .1 .1 .1 .1 .1 .1 .0 ∙ was .factors-long;
+      factors-long = told .tell .kept .1 .1 .1 .1 .1 .1 .1 .0 ∙ was .factors-long;
     }
 
 is-sample-requires : tie.Need-is-sample-requires Inv-loop μ-loop
@@ -154,7 +162,7 @@ slice-aggregate-sample-line : tie.Need-slice-aggregate-sample-line Inv-loop μ-l
 slice-aggregate-sample-line c = search needs
 
 slice-aggregate-sample-line-2 : tie.Need-slice-aggregate-sample-line-2 Inv-loop μ-loop
-slice-aggregate-sample-line-2 c = sym (c .before .before .before .before .before .before .before .before .before .before .before .before .before .before .before .before .before .before .before .before .before .before .before .before .before .before .loop .inv .bins-long)
+slice-aggregate-sample-line-2 c = sym (c .before .before .before .before .before .before .before .before .before .before .before .before .before .before .before .before .before .before .before .before .before .before .before .before .before .before .before .before .loop .inv .bins-long)
 
 slice-aggregate-sample-line-3 : tie.Need-slice-aggregate-sample-line-3 Inv-loop μ-loop
 slice-aggregate-sample-line-3 c = search needs
@@ -163,61 +171,63 @@ slice-aggregate-sample-line-4 : tie.Need-slice-aggregate-sample-line-4 Inv-loop 
 slice-aggregate-sample-line-4 c = search needs
 
 slice-aggregate-sample-line-5 : tie.Need-slice-aggregate-sample-line-5 Inv-loop μ-loop
-slice-aggregate-sample-line-5 c = sym (c .before .before .before .before .before .before .before .before .before .before .before .before .before .before .before .before .before .before .before .before .before .before .before .before .before .before .before .before .before .loop .inv .scratch-long)
+slice-aggregate-sample-line-5 c = sym (c .before .before .before .before .before .before .before .before .before .before .before .before .before .before .before .before .before .before .before .before .before .before .before .before .before .before .before .before .before .before .before .loop .inv .scratch-long)
 
 slice-aggregate-sample-line-6 : tie.Need-slice-aggregate-sample-line-6 Inv-loop μ-loop
-slice-aggregate-sample-line-6 c = sym (c .before .before .before .before .before .before .before .before .before .before .before .before .before .before .before .before .before .before .before .before .before .before .before .before .before .before .before .before .before .before .loop .inv .work-long)
+slice-aggregate-sample-line-6 c = sym (c .before .before .before .before .before .before .before .before .before .before .before .before .before .before .before .before .before .before .before .before .before .before .before .before .before .before .before .before .before .before .before .before .loop .inv .work-long)
 
 slice-aggregate-sample-line-7 : tie.Need-slice-aggregate-sample-line-7 Inv-loop μ-loop
-slice-aggregate-sample-line-7 c = sym (c .before .before .before .before .before .before .before .before .before .before .before .before .before .before .before .before .before .before .before .before .before .before .before .before .before .before .before .before .before .before .before .loop .inv .marks-long)
+slice-aggregate-sample-line-7 c = sym (c .before .before .before .before .before .before .before .before .before .before .before .before .before .before .before .before .before .before .before .before .before .before .before .before .before .before .before .before .before .before .before .before .before .loop .inv .marks-long)
 
 sample-line-requires : tie.Need-sample-line-requires Inv-loop μ-loop
 sample-line-requires c κs = search needs
 
 loop-less-2 : tie.Need-loop-less-2 Inv-loop μ-loop
 loop-less-2 c =
-    let told = c .before .before .before .before .before .before .before .before .before .before .before .before .before .before .before .before .before .before .before .before .before .before .before .before .before in
-    let ends = told .before .before .before .before .before .before .before .before .before .before in
+    let told = c .before .before .before .before .before .before .before .before .before .before .before .before .before .before .before .before .before .before .before .before .before .before .before .before .before .before in
+    let ends = told .before .before .before .before .before .before .before .before .before .before .before in
     less _ _ _ _ _ (ends .before .loop-test .taken) (ends .end-of .ensures .0) (told .tell .ensures .goes-on)
 
 loop-again-2 : tie.Need-loop-again-2 Inv-loop μ-loop
 loop-again-2 c =
-    let told = c .before .before .before .before .before .before .before .before .before .before .before .before .before .before .before .before .before .before .before .before .before .before .before .before .before in
-    let ends = told .before .before .before .before .before .before .before .before .before .before in
+    let told = c .before .before .before .before .before .before .before .before .before .before .before .before .before .before .before .before .before .before .before .before .before .before .before .before .before .before in
+    let ends = told .before .before .before .before .before .before .before .before .before .before .before in
     let was = ends .before .before .loop .inv in
     record {
       within = told .tell .ensures .goes-on .near;
       few = passed _ _ _ _ _ _ (was .few) (ends .end-of .ensures .0) (told .tell .ensures .goes-on);
       bins-long = was .bins-long;
-      i-long = c .before .before .before .before .before .sample-line .kept .1 .1 .1 .1 .1 .1 .1 .1 .0 ∙ told .tell .kept .1 .1 .1 .1 .1 .1 .1 .0 ∙ was .i-long;
-      q-long = c .before .before .before .before .before .sample-line .kept .1 .1 .1 .1 .1 .1 .1 .1 .1 .0 ∙ told .tell .kept .1 .1 .1 .1 .1 .1 .1 .1 .0 ∙ was .q-long;
+      splines-long = told .tell .kept .1 .1 .1 .1 .1 .1 .0 ∙ was .splines-long;
+      i-long = c .before .before .before .before .before .sample-line .kept .1 .1 .1 .1 .1 .1 .1 .1 .0 ∙ told .tell .kept .1 .1 .1 .1 .1 .1 .1 .1 .0 ∙ was .i-long;
+      q-long = c .before .before .before .before .before .sample-line .kept .1 .1 .1 .1 .1 .1 .1 .1 .1 .0 ∙ told .tell .kept .1 .1 .1 .1 .1 .1 .1 .1 .1 .0 ∙ was .q-long;
       scratch-long = c .before .before .before .before .before .sample-line .kept .1 .1 .1 .1 .1 .1 .1 .1 .1 .1 .0 ∙ was .scratch-long;
       work-long = c .before .before .before .before .before .sample-line .kept .1 .1 .1 .1 .1 .1 .1 .1 .1 .1 .1 .0 ∙ was .work-long;
       marks-long = c .before .before .before .before .before .sample-line .kept .1 .1 .1 .1 .1 .1 .1 .1 .1 .1 .1 .1 .0 ∙ was .marks-long;
-      factors-long = told .tell .kept .1 .1 .1 .1 .1 .1 .0 ∙ was .factors-long;
+      factors-long = told .tell .kept .1 .1 .1 .1 .1 .1 .1 .0 ∙ was .factors-long;
     }
 
 loop-less-3 : tie.Need-loop-less-3 Inv-loop μ-loop
 loop-less-3 c =
-    let told = c .before .before .before .before .before .before .before .before in
-    let ends = told .before .before .before .before .before .before .before .before .before .before in
+    let told = c .before .before .before .before .before .before .before .before .before in
+    let ends = told .before .before .before .before .before .before .before .before .before .before .before in
     less _ _ _ _ _ (ends .before .loop-test .taken) (ends .end-of .ensures .0) (told .tell .ensures .goes-on)
 
 loop-again-3 : tie.Need-loop-again-3 Inv-loop μ-loop
 loop-again-3 c =
-    let told = c .before .before .before .before .before .before .before .before in
-    let ends = told .before .before .before .before .before .before .before .before .before .before in
+    let told = c .before .before .before .before .before .before .before .before .before in
+    let ends = told .before .before .before .before .before .before .before .before .before .before .before in
     let was = ends .before .before .loop .inv in
     record {
       within = told .tell .ensures .goes-on .near;
       few = passed _ _ _ _ _ _ (was .few) (ends .end-of .ensures .0) (told .tell .ensures .goes-on);
       bins-long = was .bins-long;
-      i-long = told .tell .kept .1 .1 .1 .1 .1 .1 .1 .0 ∙ was .i-long;
-      q-long = told .tell .kept .1 .1 .1 .1 .1 .1 .1 .1 .0 ∙ was .q-long;
+      splines-long = told .tell .kept .1 .1 .1 .1 .1 .1 .0 ∙ was .splines-long;
+      i-long = told .tell .kept .1 .1 .1 .1 .1 .1 .1 .1 .0 ∙ was .i-long;
+      q-long = told .tell .kept .1 .1 .1 .1 .1 .1 .1 .1 .1 .0 ∙ was .q-long;
       scratch-long = was .scratch-long;
       work-long = was .work-long;
       marks-long = was .marks-long;
-      factors-long = told .tell .kept .1 .1 .1 .1 .1 .1 .0 ∙ was .factors-long;
+      factors-long = told .tell .kept .1 .1 .1 .1 .1 .1 .1 .0 ∙ was .factors-long;
     }
 
 returns : tie.Need-returns Inv-loop μ-loop
@@ -249,9 +259,11 @@ each-spec =
     slice-aggregate-tell
     slice-aggregate-tell-2
     slice-aggregate-tell-3
+    slice-aggregate-tell-4
     tell-requires
     add-number-2
     slice-aggregate-execute-owned
+    slice-aggregate-execute-owned-2
     execute-owned-requires
     ran-requires
     loop-less

@@ -1,6 +1,6 @@
 -- `command_lines::walk::walk` is safe and ends, since each turn goes past a line, and counts the lines. Assumes nothing.
 use Prim.Native.Nat.{ℕ, suc, _+_, _-_, _≤_, _<_}
-use mathlib.Core.Path.{_≡_, refl, ap, _∙_}
+use mathlib.Core.Path.{_≡_, refl, sym, ap, _∙_}
 use native.Mathlib.Omega.{arith}
 use mathlib.Core.List.{List}
 use lib.Ieee.{Float}
@@ -12,10 +12,11 @@ use Rattle.words.specs.Words.{endIn}
 use Rattle.command_lines.proofs.walk.walk.Statement.{statement}
 use Rattle.command_lines.proofs.walk.walk.Tie as tie
 
--- so many lines are gone through, and the rest begins at a place; the array lent for the bins keeps its length
-record At (text : List ℕ) (bins : List (List Float)) (lines at : ℕ) : Type 0 where
+-- so many lines are gone through, and the rest begins at a place; the arrays lent for the bins and the splines keep their lengths
+record At (text : List ℕ) (bins splines : List (List Float)) (lines at : ℕ) : Type 0 where
   near : at ≤ length text + 1
   rows : length bins ≡ 512
+  shapes : length splines ≡ 8
   few : lines ≤ at
   counted : lines + length (linesOf (drop at text)) ≡ length (linesOf text)
 
@@ -24,22 +25,23 @@ less text at end e h = omega (arith, e, h)
 
 module _ (text : List ℕ) (lines at end : ℕ) where
   -- one line further
-  further : (bins after : List (List Float)) → At text bins lines at → at < length text → end ≡ endIn text at → length after ≡ length bins → At text after (lines + 1) (end + 1)
-  further bins after now h e same =
+  further : (bins bins' splines splines' : List (List Float)) → At text bins splines lines at → at < length text → end ≡ endIn text at
+      → length bins' ≡ length bins → length splines' ≡ length splines → At text bins' splines' (lines + 1) (end + 1)
+  further bins bins' splines splines' now h e same alike =
       let is : end ≡ at + lineLength (drop at text) = omega (arith, e, line-ends-within text at h) in
       let one : length (linesOf (drop at text)) ≡ suc (length (linesOf (drop (end + 1) text))) = rw is (ap length (next-line text at h)) in
-      record { near = omega (arith, e); rows = same ∙ now .rows; few = omega (arith, now .few, is); counted = omega (arith, now .counted, one) }
+      record { near = omega (arith, e); rows = same ∙ now .rows; shapes = alike ∙ now .shapes; few = omega (arith, now .few, is); counted = omega (arith, now .counted, one) }
 
   -- none is left
-  through : (bins : List (List Float)) → At text bins lines at → length text ≤ at → lines ≡ length (linesOf text)
+  through : (bins splines : List (List Float)) → At text bins splines lines at → length text ≤ at → lines ≡ length (linesOf text)
   unfolding linesOf
-  through bins now h = let all = rw (drop-of-length-le text h) at (now .counted) in omega (arith, all)
+  through bins splines now h = let all = rw (drop-of-length-le text h) at (now .counted) in omega (arith, all)
 
 abbrev Inv-loop : tie.InvT-loop
-Inv-loop text out commands₀ pulses₀ bins₀ s₀ lines₀ at₀ commands pulses bins s lines at = At text bins lines at
+Inv-loop text out commands₀ pulses₀ bins₀ splines₀ s₀ lines₀ at₀ commands pulses bins splines s lines at = At text bins splines lines at
 
 abbrev μ-loop : tie.MeasureT-loop
-μ-loop text out commands₀ pulses₀ bins₀ s₀ lines₀ at₀ commands pulses bins s lines at = length text - at
+μ-loop text out commands₀ pulses₀ bins₀ splines₀ s₀ lines₀ at₀ commands pulses bins splines s lines at = length text - at
 
 slice-aggregate-arranged-of : tie.Need-slice-aggregate-arranged-of Inv-loop μ-loop
 slice-aggregate-arranged-of c = search needs
@@ -95,6 +97,9 @@ mul-commands c = search needs
 array-set-from-commands : tie.Need-array-set-from-commands Inv-loop μ-loop
 array-set-from-commands c = search needs
 
+slice-aggregate-after : tie.Need-slice-aggregate-after Inv-loop μ-loop
+slice-aggregate-after c = search needs
+
 after-requires : tie.Need-after-requires Inv-loop μ-loop
 after-requires c κs = search needs
 
@@ -104,6 +109,9 @@ letter-of-requires c κs = search needs
 slice-aggregate-called : tie.Need-slice-aggregate-called Inv-loop μ-loop
 slice-aggregate-called c = search needs
 
+slice-aggregate-called-2 : tie.Need-slice-aggregate-called-2 Inv-loop μ-loop
+slice-aggregate-called-2 c = sym (c .before .before .before .before .before .before .before .before .before .before .before .before .before .before .loop .inv .rows)
+
 called-requires : tie.Need-called-requires Inv-loop μ-loop
 called-requires c κs = search needs
 
@@ -112,26 +120,27 @@ ran-requires c κs = search needs
 
 loop-less : tie.Need-loop-less Inv-loop μ-loop
 loop-less c =
-    let ends = c .before .before .before .before .before .before .before .before .before .before .before .before .before in
+    let ends = c .before .before .before .before .before .before .before .before .before .before .before .before .before .before .before .before in
     less _ _ _ (ends .end-of .ensures) (ends .before .loop-test .taken)
 
 loop-again : tie.Need-loop-again Inv-loop μ-loop
 loop-again c =
-    let ends = c .before .before .before .before .before .before .before .before .before .before .before .before .before in
-    further _ _ _ _ _ _ (ends .before .before .loop .inv) (ends .before .loop-test .taken) (ends .end-of .ensures) (c .before .before .before .called .kept .1 .1 .1 .1 .0)
+    let ends = c .before .before .before .before .before .before .before .before .before .before .before .before .before .before .before .before in
+    further _ _ _ _ _ _ _ _ (ends .before .before .loop .inv) (ends .before .loop-test .taken) (ends .end-of .ensures)
+    (c .before .before .before .called .kept .1 .1 .1 .1 .1 .0) (c .before .before .before .before .before .before .before .before .before .after .kept .1 .1 .0)
 
 loop-less-2 : tie.Need-loop-less-2 Inv-loop μ-loop
 loop-less-2 c =
-    let ends = c .before .before .before .before .before .before .before .before in
+    let ends = c .before .before .before .before .before .before .before .before .before .before in
     less _ _ _ (ends .end-of .ensures) (ends .before .loop-test .taken)
 
 loop-again-2 : tie.Need-loop-again-2 Inv-loop μ-loop
 loop-again-2 c =
-    let ends = c .before .before .before .before .before .before .before .before in
-    further _ _ _ _ _ _ (ends .before .before .loop .inv) (ends .before .loop-test .taken) (ends .end-of .ensures) refl
+    let ends = c .before .before .before .before .before .before .before .before .before .before in
+    further _ _ _ _ _ _ _ _ (ends .before .before .loop .inv) (ends .before .loop-test .taken) (ends .end-of .ensures) refl (c .before .before .before .after .kept .1 .1 .0)
 
 returns : tie.Need-returns Inv-loop μ-loop
-returns c = through _ _ _ 0 _ (c .before .loop .inv) (omega arith)
+returns c = through _ _ _ 0 _ _ (c .before .loop .inv) (omega arith)
 
 pub walk-spec : {M : Type 1} → statement M
 walk-spec =
@@ -157,9 +166,11 @@ walk-spec =
     kept-requires
     mul-commands
     array-set-from-commands
+    slice-aggregate-after
     after-requires
     letter-of-requires
     slice-aggregate-called
+    slice-aggregate-called-2
     called-requires
     ran-requires
     loop-less

@@ -1,13 +1,14 @@
 -- `commands::play::store_at` meets its contract. Assumes nothing.
 use borrow.Author.Needs.{needs}
 use Rattle.commands.specs.Play.{stores, storedAt}
-use Rattle.commands.specs.Step.{stops}
+use Rattle.commands.specs.Step.{numbersAt, stops}
 use Rattle.commands.specs.declared.step.Step.{Step}
 use Rattle.pulse.specs.Bin.{placeOf}
 use Rattle.quant.specs.declared.refusal.Refusal.the-variants.{Full}
 use lib.ListN.{take, drop}
 use lib.Dec.{leb, ltb}
 use mathlib.Core.Bool.{Bool, _&&_, _||_, cond}
+use mathlib.Core.List.{_++_}
 use mathlib.Core.Path.{_≡_, sym, ap, _∙_}
 use Prim.Native.Nat.{ℕ, _+_, _*_, _-_, _≤_}
 use Rattle.commands.proofs.Rows.{most, not-full, place-most, stored-is}
@@ -32,55 +33,55 @@ module _ (d : tie.After-at-most-64) where
   many-is : let c = channelAt (d .before .args .t) (d .before .args .i) in d .at-most-64 .result ≡ cond (ltb (c .bins) 64) (c .bins) 64
   many-is = d .at-most-64 .ensures ∙ ap (λ (c : Channel). cond (ltb (c .bins) 64) (c .bins) 64) (d .before .pre .1)
 
-add-place : tie.Need-add-place
-add-place c = let fits = fit c in let h = c .before .pre .0 .0 in omega arith
+add-place-with : tie.Need-add-place-with
+add-place-with c = let fits = fit c in let h = c .before .pre .0 .0 in omega arith
 
-mul-place : tie.Need-mul-place
-mul-place c = search needs
+mul-place-with : tie.Need-mul-place-with
+mul-place-with c = search needs
 
-sub-place : tie.Need-sub-place
-sub-place c = search needs
+sub-place-with : tie.Need-sub-place-with
+sub-place-with c = search needs
 
-part-place-start : tie.Need-part-place-start
-part-place-start c = search needs
+part-place-with-start : tie.Need-part-place-with-start
+part-place-with-start c = search needs
 
-part-place-end : tie.Need-part-place-end
-part-place-end c = let fits = fit c in let h = c .before .pre .0 .0 in let whole = c .before .pre .0 .1 in let end : 64 * c .before .args .i + c .at-most-64 .result ≤ length (c .before .args .bins .now) = omega arith in end
+part-place-with-end : tie.Need-part-place-with-end
+part-place-with-end c = let fits = fit c in let h = c .before .pre .0 .0 in let whole = c .before .pre .0 .2 in let end : 64 * c .before .args .i + c .at-most-64 .result ≤ length (c .before .args .bins .now) = omega arith in end
 
-place-requires : tie.Need-place-requires
-place-requires c κs = search needs
+place-with-requires : tie.Need-place-with-requires
+place-with-requires c κs = search needs
 
 -- the place found, in the part that is looked through
-module _ (d : tie.After-place) where
+module _ (d : tie.After-place-with) where
   abbrev many : ℕ
   many = d .before .before .at-most-64 .result
 
-  placed : d .place .result ≡ placeOf (d .before .before .before .args .row) (take many (drop (64 * d .before .before .before .args .i) (d .before .before .before .args .bins .now)))
+  placed : d .place-with .result ≡ placeOf (d .before .before .before .args .head ++ numbersAt (d .before .before .before .args .splines .now) (d .before .before .before .args .spline)) (take many (drop (64 * d .before .before .before .args .i) (d .before .before .before .args .bins .now)))
   placed =
       let a = d .before .before .before .args in
       let size : 64 * a .i + many - 64 * a .i ≡ many = omega arith in
-      d .place .ensures ∙ ap (λ (k : ℕ). placeOf (a .row) (take k (drop (64 * a .i) (a .bins .now)))) size
+      d .place-with .ensures ∙ ap (λ (k : ℕ). placeOf (a .head ++ numbersAt (a .splines .now) (a .spline)) (take k (drop (64 * a .i) (a .bins .now)))) size
 
-  most-place : d .place .result ≤ 64
+  most-place : d .place-with .result ≤ 64
   most-place =
       let a = d .before .before .before .args in
-      place-most (a .t) (a .bins .now) (a .i) many (many-is (d .before .before)) (d .before .before .before .pre .0 .0) (d .before .before .before .pre .0 .1) (a .row) (d .place .result) placed
+      place-most (a .t) (a .bins .now) (a .i) many (many-is (d .before .before)) (d .before .before .before .pre .0 .0) (d .before .before .before .pre .0 .2) (a .splines .now) (a .head) (a .spline) (d .place-with .result) placed
 
   abbrev storing : Step
-  storing = let a = d .before .before .before .args in stores (a .t) (a .i) (d .place .result) (leb many (d .place .result)) (a .start .0) (a .w) (a .row)
+  storing = let a = d .before .before .before .args in stores (a .t) (a .i) (d .place-with .result) (leb many (d .place-with .result)) (a .start .0) (a .w) (a .head) (a .spline)
 
   abbrev full : Bool
   full =
       let c = channelAt (d .before .before .before .args .t) (d .before .before .before .args .i) in
-      (leb many (d .place .result) && leb 64 (c .bins)) || leb 1024 (c .pulses)
+      (leb many (d .place-with .result) && leb 64 (c .bins)) || leb 1024 (c .pulses)
 
-  same-full : let c = d .before .before .before .args .c in ((leb many (d .place .result) && leb 64 (c .bins)) || leb 1024 (c .pulses)) ≡ full
-  same-full = ap (λ (c : Channel). (leb many (d .place .result) && leb 64 (c .bins)) || leb 1024 (c .pulses)) (d .before .before .before .pre .1)
+  same-full : let c = d .before .before .before .args .c in ((leb many (d .place-with .result) && leb 64 (c .bins)) || leb 1024 (c .pulses)) ≡ full
+  same-full = ap (λ (c : Channel). (leb many (d .place-with .result) && leb 64 (c .bins)) || leb 1024 (c .pulses)) (d .before .before .before .pre .1)
 
-  whole : let a = d .before .before .before .args in storedAt (a .t) (a .bins .now) (a .i) (a .start .0) (a .w) (a .row) ≡ cond full (stops (a .t) Full) storing
+  whole : let a = d .before .before .before .args in storedAt (a .t) (a .splines .now) (a .bins .now) (a .i) (a .start .0) (a .w) (a .head) (a .spline) ≡ cond full (stops (a .t) Full) storing
   whole =
       let a = d .before .before .before .args in
-      stored-is (a .t) (a .bins .now) (a .i) many (many-is (d .before .before)) (d .before .before .before .pre .0 .0) (d .before .before .before .pre .0 .1) (a .row) (d .place .result) placed (a .start .0) (a .w)
+      stored-is (a .t) (a .bins .now) (a .i) many (many-is (d .before .before)) (d .before .before .before .pre .0 .0) (d .before .before .before .pre .0 .2) (a .splines .now) (a .head) (a .spline) (d .place-with .result) placed (a .start .0) (a .w)
 
 is-full-requires : tie.Need-is-full-requires
 is-full-requires c κs = search needs
@@ -103,12 +104,12 @@ store-at-spec =
     (tie.spec
     at-most-64-requires
     mul-first
-    add-place
-    mul-place
-    sub-place
-    part-place-start
-    part-place-end
-    place-requires
+    add-place-with
+    mul-place-with
+    sub-place-with
+    part-place-with-start
+    part-place-with-end
+    place-with-requires
     is-full-requires
     stops-requires
     returns

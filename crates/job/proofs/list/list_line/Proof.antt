@@ -148,9 +148,44 @@ returns-6 c =
       sym (c2 .is-word6 .ensures) ∙ c .before .if6 .taken,
     ) (c .sheet .ensures)
 
+slice-aggregate-is-word-7 : tie.Need-slice-aggregate-is-word-7
+slice-aggregate-is-word-7 c = search needs
+
+is-word-requires-7 : tie.Need-is-word-requires-7
+is-word-requires-7 c κs = search needs
+
+spline-requires : tie.Need-spline-requires
+spline-requires c κs = search needs
+
 returns-7 : tie.Need-returns-7
 unfolding listOf
 returns-7 c =
+    let c2 = c .before .before in
+    let c4 = c2 .before .before in
+    let c5 = c4 .before in
+    let c7 = c5 .before .before in
+    let c8 = c7 .before in
+    let c10 = c8 .before .before in
+    let c11 = c10 .before in
+    let c13 = c11 .before .before in
+    let c14 = c13 .before in
+    let c16 = c14 .before .before in
+    let c17 = c16 .before in
+    let c19 = c17 .before .before in
+    let c20 = c19 .before in
+    rw (
+      sym (c20 .is-word .ensures) ∙ c19 .if1 .left,
+      sym (c17 .is-word2 .ensures) ∙ c16 .if2 .left,
+      sym (c14 .is-word3 .ensures) ∙ c13 .if3 .left,
+      sym (c11 .is-word4 .ensures) ∙ c10 .if4 .left,
+      sym (c8 .is-word5 .ensures) ∙ c7 .if5 .left,
+      sym (c5 .is-word6 .ensures) ∙ c4 .if6 .left,
+      sym (c2 .is-word7 .ensures) ∙ c .before .if7 .taken,
+    ) (c .spline .ensures)
+
+returns-8 : tie.Need-returns-8
+unfolding listOf
+returns-8 c =
     let c3 = c .before .before .before in
     let c4 = c3 .before in
     let c6 = c4 .before .before in
@@ -161,13 +196,16 @@ returns-7 c =
     let c13 = c12 .before in
     let c15 = c13 .before .before in
     let c16 = c15 .before in
+    let c18 = c16 .before .before in
+    let c19 = c18 .before in
     rw (
-      sym (c16 .is-word .ensures) ∙ c15 .if1 .left,
-      sym (c13 .is-word2 .ensures) ∙ c12 .if2 .left,
-      sym (c10 .is-word3 .ensures) ∙ c9 .if3 .left,
-      sym (c7 .is-word4 .ensures) ∙ c6 .if4 .left,
-      sym (c4 .is-word5 .ensures) ∙ c3 .if5 .left,
-      sym (c .before .is-word6 .ensures) ∙ c .if6 .left,
+      sym (c19 .is-word .ensures) ∙ c18 .if1 .left,
+      sym (c16 .is-word2 .ensures) ∙ c15 .if2 .left,
+      sym (c13 .is-word3 .ensures) ∙ c12 .if3 .left,
+      sym (c10 .is-word4 .ensures) ∙ c9 .if4 .left,
+      sym (c7 .is-word5 .ensures) ∙ c6 .if5 .left,
+      sym (c4 .is-word6 .ensures) ∙ c3 .if6 .left,
+      sym (c .before .is-word7 .ensures) ∙ c .if7 .left,
     )
 
 pub list-line-spec : {M : Type 1} → statement M
@@ -200,4 +238,8 @@ list-line-spec =
     is-word-requires-6
     sheet-requires
     returns-6
-    returns-7)
+    slice-aggregate-is-word-7
+    is-word-requires-7
+    spline-requires
+    returns-7
+    returns-8)

@@ -2,7 +2,7 @@
 use Rattle.quant.specs.declared.refusal.Answer.{Answer}
 use Rattle.mixdown.proofs.Listed.{by-runs}
 use Rattle.mixdown.specs.Sampled.{out, ranPulses}
-use Rattle.pulse.specs.Bin.{binOf}
+use Rattle.pulse.specs.Bin.{binOf, numbersOf}
 use Rattle.mixdown.proofs.Listed.{merged-few, same-after}
 use Rattle.mixdown.proofs.Held.{held-here, held-most, rows-many, rows-at}
 use Rattle.mixdown.proofs.Appeared.{parts-length}
@@ -92,10 +92,10 @@ module _ (c : tie.After-sample-bin Inv-loop μ-loop) where
   abbrev here : List Float
   here = getD (its a₁) (a₁ .loop .p) []
 
-  came-to : out (c .sample-bin .result) (rowed (c .sample-bin .last .1 .1 .1 .1 .1 .1 .1 .0) (c .sample-bin .last .1 .1 .1 .1 .1 .1 .1 .1 .0) (c .sample-bin .last .1 .1 .1 .1 .1 .1 .1 .1 .1 .0)) ≡ ranPulses (s₀ a₁ .args .s) (binOf here) (s₀ a₁ .args .rows) (merged a₁ here) (a₁ .loop .n) (rowed (a₁ .loop .i) (a₁ .loop .q) (a₁ .loop .scratch))
+  came-to : out (c .sample-bin .result) (rowed (c .sample-bin .last .1 .1 .1 .1 .1 .1 .1 .0) (c .sample-bin .last .1 .1 .1 .1 .1 .1 .1 .1 .0) (c .sample-bin .last .1 .1 .1 .1 .1 .1 .1 .1 .1 .0)) ≡ ranPulses (s₀ a₁ .args .s) (binOf here) (numbersOf here) (s₀ a₁ .args .rows) (merged a₁ here) (a₁ .loop .n) (rowed (a₁ .loop .i) (a₁ .loop .q) (a₁ .loop .scratch))
   came-to =
       by-runs (s₀ a₁ .args .s) (s₀ a₁ .args .t) (s₀ a₁ .args .bins .now) (s₀ a₁ .args .work .now) (s₀ a₁ .args .marks .now) (partsIn (s₀ a₁ .args .t3)) (s₀ a₁ .args .ends .ends) (s₀ a₁ .args .rows) (a₁ .loop .n) _ (c .before .before .before .before .runs-for .result) _ _ (c .before .before .before .before .runs-for .ensures .0) (c .sample-bin .ensures)
-      ∙ ap (λ (r : List Float). ranPulses (s₀ a₁ .args .s) (binOf r) (s₀ a₁ .args .rows) (merged a₁ r) (a₁ .loop .n) (rowed (a₁ .loop .i) (a₁ .loop .q) (a₁ .loop .scratch))) (row-is a₁ left-over)
+      ∙ ap (λ (r : List Float). ranPulses (s₀ a₁ .args .s) (binOf r) (numbersOf r) (s₀ a₁ .args .rows) (merged a₁ r) (a₁ .loop .n) (rowed (a₁ .loop .i) (a₁ .loop .q) (a₁ .loop .scratch))) (row-is a₁ left-over)
 
 mul-at : tie.Need-mul-at Inv-loop μ-loop
 mul-at c = search needs

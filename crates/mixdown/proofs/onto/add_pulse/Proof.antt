@@ -23,10 +23,10 @@ enum-known-c c = search needs
 
 add-shaped-requires : tie.Need-add-shaped-requires
 add-shaped-requires c κs =
-    let s = c .before .before .before .before .before .before .before .before .before .before in
+    let s = c .before .before .before .before .before .before .before .before .before .before .before in
     let a = s .args in
     let judged-so = sym (c .before .before .before .before .before .before .judge .ensures) ∙ c .before .before .before .before .c .given .1 in
-    let held = curved-held (a .s) (a .b) (a .p) (length (a .i .now)) _ judged-so in
+    let held = curved-held (a .s) (a .b) (a .numbers .now) (a .p) (length (a .i .now)) _ judged-so in
     (held .fits, held .points, s .pre .1, s .pre .2)
 
 enum-known-r : tie.Need-enum-known-r
@@ -40,10 +40,10 @@ same-length-2 c = search needs
 
 returns : tie.Need-returns
 returns c =
-    let s = c .before .before .before .before .before .before .before .before .before .before .before .before .before .before in
+    let s = c .before .before .before .before .before .before .before .before .before .before .before .before .before .before .before in
     let a = s .args in
     let judged-so = sym (c .before .before .before .before .before .before .before .before .before .before .judge .ensures) ∙ c .before .before .before .before .before .before .before .before .f .given .1 in
-    (rw (c .before .before .before .before .add-plateau .ensures .0, c .before .before .before .before .add-plateau .ensures .1) (ap (λ (j : Judged). addedTo (a .s) (a .b) (a .rows) j (rowed (a .i .now) (a .q .now) (a .scratch .now))) (sym judged-so)), (ap accepted judged-so, s .pre .2))
+    (rw (c .before .before .before .before .add-plateau .ensures .0, c .before .before .before .before .add-plateau .ensures .1) (ap (λ (j : Judged). addedTo (a .s) (a .b) (a .numbers .now) (a .rows) j (rowed (a .i .now) (a .q .now) (a .scratch .now))) (sym judged-so)), (ap accepted judged-so, s .pre .2))
 
 same-length-3 : tie.Need-same-length-3
 same-length-3 c = search needs
@@ -56,17 +56,17 @@ same-length-5 c = search needs
 
 returns-2 : tie.Need-returns-2
 returns-2 c =
-    let s = c .before .before .before .before .before .before .before .before .before .before .before .before .before .before .before .before .before in
+    let s = c .before .before .before .before .before .before .before .before .before .before .before .before .before .before .before .before .before .before in
     let a = s .args in
     let judged-so = sym (c .before .before .before .before .before .before .before .before .before .before .before .before .before .judge .ensures) ∙ c .before .before .before .before .before .before .before .before .before .before .before .c .given .1 in
-    (c .before .before .before .before .before .before .add-shaped .ensures .0 ∙ ap (λ (j : Judged). addedTo (a .s) (a .b) (a .rows) j (rowed (a .i .now) (a .q .now) (a .scratch .now))) (sym judged-so), (ap accepted judged-so, c .before .before .before .before .before .before .add-shaped .ensures .1))
+    (c .before .before .before .before .before .before .add-shaped .ensures .0 ∙ ap (λ (j : Judged). addedTo (a .s) (a .b) (a .numbers .now) (a .rows) j (rowed (a .i .now) (a .q .now) (a .scratch .now))) (sym judged-so), (ap accepted judged-so, c .before .before .before .before .before .before .add-shaped .ensures .1))
 
 returns-3 : tie.Need-returns-3
 returns-3 c =
-    let s = c .before .before .before .before .before .before .before in
+    let s = c .before .before .before .before .before .before .before .before in
     let a = s .args in
     let judged-so = sym (c .before .before .before .judge .ensures) ∙ c .before .r .given .1 in
-    (ap (λ (j : Judged). addedTo (a .s) (a .b) (a .rows) j (rowed (a .i .now) (a .q .now) (a .scratch .now))) (sym judged-so), judged-so)
+    (ap (λ (j : Judged). addedTo (a .s) (a .b) (a .numbers .now) (a .rows) j (rowed (a .i .now) (a .q .now) (a .scratch .now))) (sym judged-so), judged-so)
 
 pub add-pulse-spec : {M : Type 1} → statement M
 add-pulse-spec =

@@ -40,14 +40,14 @@ same-length-3 c = search needs
 
 returns : tie.Need-returns
 returns c =
-    let s = c .before .before .before .before .before .before .before .before .before .before .before .before .before .before .before .before in
+    let s = c .before .before .before .before .before .before .before .before .before .before .before .before .before .before .before .before .before in
     let a = s .args in
     let room = length (a .i .now) - a .c .start in
     let less : room ≤ length (a .scratch .now) = omega (arith, s .pre .2) in
     let held = c .before .before .before .before .before .before .before .before .before .before .before .hold .ensures in
-    let long = ap length held ∙ after-length (a .s) (a .b) (a .c .offset) room (a .scratch .now) less in (
+    let long = ap length held ∙ after-length (a .s) (a .b) (a .numbers .now) (a .c .offset) room (a .scratch .now) less in (
       shaped-rows (a .rows) (a .c) (a .i .now) (a .q .now) _ _ _ (omega (arith, long, s .pre .0, s .pre .2)) (c .before .before .before .before .add-envelope .ensures .0) (c .before .before .before .before .add-envelope .ensures .1) ∙ ap (withPoints (a .rows) (a .c) (a .i .now) (a .q .now)) held,
-      λ _ room'. ap (scratchAfter (partsAt (a .s) (a .b) (a .c .offset) room')) held ∙ holds-after (a .s) (a .b) (a .c .offset) room (a .scratch .now) less (a .c .points) (s .pre .1) room' ∙ sym held,
+      λ _ room'. ap (scratchAfter (a .b .envelope .shape) (a .numbers .now) (partsAt (a .s) (a .b) (a .c .offset) room')) held ∙ holds-after (a .s) (a .b) (a .numbers .now) (a .c .offset) room (a .scratch .now) less (a .c .points) (s .pre .1) room' ∙ sym held,
     )
 
 pub add-shaped-spec : {M : Type 1} → statement M

@@ -1,69 +1,26 @@
--- `pulse::bin::place` meets its contract. The invariant: the rows passed, and the place among those left, give the place among all.
--- Assumes nothing.
-use mathlib.Core.Path.{_≡_, sym, _∙_}
-use native.Mathlib.Numerals.{add-one}
-use Rattle.pulse.proofs.Place.{here, onward, over}
-use Prim.Native.Nat.{_+_, _-_, _≤_}
-use native.Mathlib.Omega.{arith}
-use lib.ListN.{length, drop}
-use Rattle.pulse.specs.Bin.{placeOf}
+-- `pulse::bin::place` meets its contract: of a spline the numbers are compared, of another shape they are not read. Assumes nothing.
+use mathlib.Core.Path.{sym, _∙_}
+use Rattle.pulse.proofs.Rows.{place-plain}
 use borrow.Author.Needs.{needs}
 use Rattle.pulse.proofs.bin.place.Statement.{statement}
 use Rattle.pulse.proofs.bin.place.Tie as tie
 
-abbrev Inv-loop : tie.InvT-loop
-Inv-loop row rows i₀ i = (i ≤ length rows) × (i + placeOf row (drop i rows) ≡ placeOf row rows)
+array-read-if1 : tie.Need-array-read-if1
+array-read-if1 c = search needs
 
-abbrev μ-loop : tie.MeasureT-loop
-μ-loop row rows i₀ i = length rows - i
+place-spline-requires : tie.Need-place-spline-requires
+place-spline-requires c κs = search needs
 
-loop-holds : tie.Need-loop-holds Inv-loop μ-loop
-loop-holds c = search needs
+place-plain-requires : tie.Need-place-plain-requires
+place-plain-requires c κs = search needs
 
-mul-same-row : tie.Need-mul-same-row Inv-loop μ-loop
-mul-same-row c = search needs
+returns : tie.Need-returns
+returns c = search needs
 
-shared-slice-copy-out-same-row : tie.Need-shared-slice-copy-out-same-row Inv-loop μ-loop
-shared-slice-copy-out-same-row c = search needs
-
-same-row-requires : tie.Need-same-row-requires Inv-loop μ-loop
-same-row-requires c κs = search needs
-
-returns : tie.Need-returns Inv-loop μ-loop
-returns c =
-    let d = c .before .before .before .before in
-    let e = here (d .before .args .row) (d .before .args .rows .now) (d .loop .i) (omega arith) (sym (c .before .same-row .ensures) ∙ c .if1 .taken) in
-    omega (arith, e, d .loop .inv .1)
-
-add-i : tie.Need-add-i Inv-loop μ-loop
-add-i c = search needs
-
-loop-less : tie.Need-loop-less Inv-loop μ-loop
-loop-less c = search needs
-
-loop-again : tie.Need-loop-again Inv-loop μ-loop
-loop-again c =
-    let d = c .before .before .before .before in
-    let e = onward (d .before .args .row) (d .before .args .rows .now) (d .loop .i) (omega arith) (sym (c .before .same-row .ensures) ∙ c .if1 .left) in
-    (omega arith, rw add-one (omega (arith, e, d .loop .inv .1)))
-
-returns-2 : tie.Need-returns-2 Inv-loop μ-loop
+returns-2 : tie.Need-returns-2
 returns-2 c =
-    let e = over (c .before .before .args .row) (c .before .before .args .rows .now) (c .before .loop .i) (omega arith) in
-    omega (arith, e, c .before .loop .inv .1)
+    let at = c .before .before .before in
+    c .place-plain .ensures ∙ sym (place-plain (at .args .t1) (at .args .numbers .now) (at .args .rows .now) (at .good .0 .1 .0 .1) (c .before .if1 .left))
 
 pub place-spec : {M : Type 1} → statement M
-place-spec =
-    tie.close
-    (tie.spec
-    Inv-loop
-    μ-loop
-    loop-holds
-    mul-same-row
-    shared-slice-copy-out-same-row
-    same-row-requires
-    returns
-    add-i
-    loop-less
-    loop-again
-    returns-2)
+place-spec = tie.close (tie.spec array-read-if1 place-spline-requires returns place-plain-requires returns-2)

@@ -18,15 +18,15 @@ enum-known-p : tie.Need-enum-known-p
 enum-known-p c = search needs
 
 -- the parts, in the room as it is cut
-parts-are : (d : tie.After-lay-out) → let a = d .before .before .args in d .lay-out .result ≡ partedOf (a .width .0) (a .plateau .0) (a .offset) (a .rate .0) (a .dt .0) (least (a .room) 65536)
+parts-are : (d : tie.After-lay-out) → let a = d .before .before .before .args in d .lay-out .result ≡ partedOf (a .width .0) (a .plateau .0) (a .offset) (a .rate .0) (a .dt .0) (least (a .room) 65536)
 parts-are d =
-    let a = d .before .before .args in
+    let a = d .before .before .before .args in
     d .lay-out .ensures ∙ ap (λ (n : ℕ). partedOf (a .width .0) (a .plateau .0) (a .offset) (a .rate .0) (a .dt .0) n) (d .before .smaller .ensures)
 
 count-requires : tie.Need-count-requires
 count-requires c κs =
     let d = c .before .before .before in
-    let a = d .before .before .args in
+    let a = d .before .before .before .args in
     fits-more _ (least (a .room) 65536) 65536 (least-right (a .room) 65536)
     (within-fits (least (a .room) 65536) _ (a .width .0) (a .plateau .0) (a .offset) (a .rate .0) (a .dt .0) (sym (parts-are d) ∙ c .before .p .given .1))
 
@@ -34,10 +34,14 @@ enum-known-r : tie.Need-enum-known-r
 enum-known-r c = search needs
 
 returns : tie.Need-returns
-returns c = c .count .ensures ∙ ap envelopedOf (sym (c .before .before .p .given .1) ∙ parts-are (c .before .before .before .before))
+returns c =
+    let a = c .before .before .before .before .before .before .before .args in
+    c .count .ensures ∙ ap (envelopedOf (a .shape) (a .numbers .now)) (sym (c .before .before .p .given .1) ∙ parts-are (c .before .before .before .before))
 
 returns-2 : tie.Need-returns-2
-returns-2 c = ap envelopedOf (sym (c .before .r .given .1) ∙ parts-are (c .before .before .before))
+returns-2 c =
+    let a = c .before .before .before .before .before .before .args in
+    ap (envelopedOf (a .shape) (a .numbers .now)) (sym (c .before .r .given .1) ∙ parts-are (c .before .before .before))
 
 pub measure-spec : {M : Type 1} → statement M
 measure-spec =

@@ -7,7 +7,7 @@ use lib.ListN.{length}
 use lib.Ieee.{Float}
 use Rattle.exact.specs.Doubles.{one}
 use Rattle.rows.proofs.Turns.{upto}
-use Rattle.shape.proofs.Turns.{Valued, valued-turn, valued-all, ones}
+use Rattle.rows.proofs.Valued.{Valued, valued-turn, valued-all, constant}
 use Rattle.shape.proofs.segment.hold.Statement.{statement}
 use Rattle.shape.proofs.segment.hold.Tie as tie
 
@@ -46,7 +46,7 @@ returns : tie.Need-returns Inv-loop μ-loop
 returns c =
     let at = c .before .loop in
     let a = c .before .before .args in
-    valued-all (λ (x : Float). one) (a .part .now) (at .part) (at .i) (omega arith) (at .inv) ∙ ones (a .part .now)
+    valued-all (λ (x : Float). one) (a .part .now) (at .part) (at .i) (omega arith) (at .inv) ∙ constant one (a .part .now)
 
 pub hold-spec : {M : Type 1} → statement M
 hold-spec =

@@ -1,48 +1,74 @@
--- `shape::segment::sample` meets its contract. Assumes nothing.
+-- `shape::segment::sample` meets its contract: each shape's own values. Assumes nothing.
 use borrow.Author.Needs.{needs}
-use mathlib.Core.Path.{_∙_, ap, subst}
-use mathlib.Core.List.{map}
+use mathlib.Core.Path.{sym, ap, _∙_}
 use lib.ListN.{length}
-use Rattle.shape.specs.Hann.{hannOf, hannWrapped}
-use Rattle.shape.specs.Segment.{EndsNear}
-use Rattle.shape.proofs.Near.{each-valued, near-valued}
+use Rattle.pulse.specs.declared.envelope.Shape.{Shape}
+use Rattle.shape.specs.Segment.{values}
+use Rattle.shape.proofs.Shapes.{plain-values, hann-values, spline-values}
 use Rattle.shape.proofs.segment.sample.Statement.{statement}
 use Rattle.shape.proofs.segment.sample.Tie as tie
 
-lay-requires : tie.Need-lay-requires
-lay-requires c κs = search needs
+enum-told : tie.Need-enum-told
+enum-told c = search needs
 
-ends-near-requires : tie.Need-ends-near-requires
-ends-near-requires c κs = search needs
+hold-requires : tie.Need-hold-requires
+hold-requires c κs = search needs
 
-value-wrapped-requires : tie.Need-value-wrapped-requires
-value-wrapped-requires c κs = search needs
+enum-told-2 : tie.Need-enum-told-2
+enum-told-2 c = search needs
+
+sample-hann-requires : tie.Need-sample-hann-requires
+sample-hann-requires c κs = search needs
+
+enum-told-3 : tie.Need-enum-told-3
+enum-told-3 c = search needs
+
+sample-spline-requires : tie.Need-sample-spline-requires
+sample-spline-requires c κs = search needs
 
 same-length : tie.Need-same-length
 same-length c = search needs
 
 returns : tie.Need-returns
 returns c =
-    let b = c .before .before in
-    let near = b .before .before .before in
-    let laid = near .before .before .before .before in
-    let a = laid .before .before .before .args in
-    b .value-wrapped .ensures
-    ∙ ap (map hannWrapped) (laid .lay .ensures)
-    ∙ near-valued (length (a .part .now)) (a .x) (a .dx) (subst EndsNear (laid .lay .ensures) (near .ends-near .ensures (b .before .before .if1 .taken)))
-
-value-each-requires : tie.Need-value-each-requires
-value-each-requires c κs = search needs
+    let a = c .before .before .before .before .before .before .before .before .args in
+    c .before .before .hold .ensures
+    ∙ plain-values (a .numbers .now) (length (a .part .now)) (a .x) (a .dx)
+    ∙ ap (λ (s : Shape). values s (a .numbers .now) (length (a .part .now)) 0 (a .x) (a .dx)) (sym (c .before .before .before .before .enum-told .given .1))
 
 same-length-2 : tie.Need-same-length-2
 same-length-2 c = search needs
 
 returns-2 : tie.Need-returns-2
 returns-2 c =
-    let b = c .before .before in
-    let laid = b .before .before .before .before .before .before .before in
-    let a = laid .before .before .before .args in
-    b .value-each .ensures ∙ ap (map hannOf) (laid .lay .ensures) ∙ each-valued (length (a .part .now)) 0 (a .x) (a .dx)
+    let a = c .before .before .before .before .before .before .before .before .args in
+    c .before .before .sample-hann .ensures
+    ∙ hann-values (a .numbers .now) (length (a .part .now)) (a .x) (a .dx)
+    ∙ ap (λ (s : Shape). values s (a .numbers .now) (length (a .part .now)) 0 (a .x) (a .dx)) (sym (c .before .before .before .before .enum-told2 .given .1))
+
+same-length-3 : tie.Need-same-length-3
+same-length-3 c = search needs
+
+returns-3 : tie.Need-returns-3
+returns-3 c =
+    let a = c .before .before .before .before .before .before .before .before .args in
+    c .before .before .sample-spline .ensures
+    ∙ spline-values (a .numbers .now) (length (a .part .now)) (a .x) (a .dx)
+    ∙ ap (λ (s : Shape). values s (a .numbers .now) (length (a .part .now)) 0 (a .x) (a .dx)) (sym (c .before .before .before .before .enum-told3 .given .1))
 
 pub sample-spec : {M : Type 1} → statement M
-sample-spec = tie.close (tie.spec lay-requires ends-near-requires value-wrapped-requires same-length returns value-each-requires same-length-2 returns-2)
+sample-spec =
+    tie.close
+    (tie.spec
+    enum-told
+    hold-requires
+    enum-told-2
+    sample-hann-requires
+    enum-told-3
+    sample-spline-requires
+    same-length
+    returns
+    same-length-2
+    returns-2
+    same-length-3
+    returns-3)

@@ -1,29 +1,33 @@
--- `pulse::envelope::Envelope::new` meets its contract: by the shape, and for a shape by the width's test. Assumes nothing.
-use Rattle.pulse.specs.Envelope.{envelopeOf}
+-- `pulse::envelope::Envelope::new` meets its contract: by the test of the shape, and for a shape by the width's. Assumes nothing.
+use mathlib.Core.Path.{sym, _∙_}
+use Rattle.pulse.proofs.Envelopes.{of-none, of-shape}
 use borrow.Author.Needs.{needs}
 use Rattle.pulse.proofs.envelope.Envelope.new.Statement.{statement}
 use Rattle.pulse.proofs.envelope.Envelope.new.Tie as tie
 
-enum-told : tie.Need-enum-told
-enum-told c = search needs
+is-shaped-requires : tie.Need-is-shaped-requires
+is-shaped-requires c κs = search needs
+
+returns : tie.Need-returns
+returns c =
+    let d = c .before .before .before in
+    let a = d .before .args in
+    rw (of-shape (a .shape) (a .width .0) (a .plateau .0) (sym (d .is-shaped .ensures) ∙ c .before .before .if1 .taken), c .if2 .taken)
+
+returns-2 : tie.Need-returns-2
+returns-2 c =
+    let d = c .before .before .before in
+    let a = d .before .args in
+    rw (of-shape (a .shape) (a .width .0) (a .plateau .0) (sym (d .is-shaped .ensures) ∙ c .before .before .if1 .taken), c .if2 .left)
 
 add-requires : tie.Need-add-requires
 add-requires c κs = search needs
 
-enum-told-2 : tie.Need-enum-told-2
-enum-told-2 c = search needs
-
-returns : tie.Need-returns
-unfolding envelopeOf
-returns c = rw (c .before .before .enum-told2 .given .1, c .if1 .taken)
-
-returns-2 : tie.Need-returns-2
-unfolding envelopeOf
-returns-2 c = rw (c .before .enum-told .given .1, c .add .ensures)
-
 returns-3 : tie.Need-returns-3
-unfolding envelopeOf
-returns-3 c = rw (c .before .before .enum-told2 .given .1, c .if1 .left)
+returns-3 c =
+    let d = c .before .before in
+    let a = d .before .args in
+    rw (of-none (a .shape) (a .width .0) (a .plateau .0) (sym (d .is-shaped .ensures) ∙ c .before .if1 .left), c .add .ensures)
 
 pub new-spec : {M : Type 1} → statement M
-new-spec = tie.close (tie.spec enum-told add-requires enum-told-2 returns returns-2 returns-3)
+new-spec = tie.close (tie.spec is-shaped-requires returns returns-2 add-requires returns-3)
