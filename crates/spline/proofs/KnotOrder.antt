@@ -7,7 +7,7 @@ use native.Mathlib.Nat.{le-trans, mul-le-mul-right, le-of-mul-le-mul-right}
 use native.Mathlib.Omega.{arith}
 use borrow.Author.Tests.{ltb-false, le-ltb}
 use lib.Dec.{T, ltb, lit<}
-use lib.Ieee.{Float, nan, inf, fin, binary64, round, sub, below, lt, le, eq}
+use lib.Ieee.{Float, nan, inf, fin, binary64, round, sub, lt, le, eq}
 use lib.Ieee.Fits.{round-fits}
 use lib.Ieee.Exact.{HasValue}
 use lib.Ieee.Scale.{finite}
@@ -17,32 +17,21 @@ use Rattle.exact.proofs.Finite.{smaller-finite, smaller-units}
 use Rattle.exact.proofs.Operation.{sub-rounds}
 use Rattle.exact.proofs.Compare.{lt-is}
 use Rattle.ieee.proofs.Comparing.{AtMost as Fraction, fractions-of-le}
+use Rattle.spline.proofs.Places.{NotMore, on, not-below-says}
 use Rattle.spline.proofs.StepSizes.{gap, sumSize, sum-round, sum-size, round-most, twice}
 
 -- ---- a is at most b
-abbrev pub Upto : Signed → Signed → Type 0
-Upto a b = a .plus + b .less ≤ b .plus + a .less
-
-pub upto-trans : (a b c : Signed) → Upto a b → Upto b c → Upto a c
-upto-trans a b c h g = omega arith
-
-not-below : (s t : Bool) (a b : ℕ) → below t b s a ≡ false → Upto (signed s a) (signed t b)
-not-below false false a b e = omega (arith, ltb-false b a e)
-not-below false true a b e = omega (arith, ltb-false 0 (b + a) e)
-not-below true false a b e = omega arith
-not-below true true a b e = omega (arith, ltb-false a b e)
-
-scaled : (s t : Bool) (a b c : ℕ) → 0 < c → Fraction s (a * c) t (b * c) → Upto (signed s a) (signed t b)
+scaled : (s t : Bool) (a b c : ℕ) → 0 < c → Fraction s (a * c) t (b * c) → NotMore (signed s a) (signed t b)
 scaled false false a b c C h = let l : a ≤ b = le-of-mul-le-mul-right h C in omega arith
 scaled false true a b c C h = le-of-mul-le-mul-right {k = c} (let e = h .0 in let g = h .1 in omega arith) C
 scaled true false a b c C h = omega arith
 scaled true true a b c C h = let l : b ≤ a = le-of-mul-le-mul-right h C in omega arith
 
 module _ (x y : Float) (s t : Bool) (a b c : ℕ) (C : 0 < c) (v : HasValue x s a c) (w : HasValue y t b c) where
-  pub upto : lt y x ≡ false → Upto (signed s a) (signed t b)
-  upto e = not-below s t a b (sym (lt-is y x t s b a c C w v) ∙ e)
+  pub upto : lt y x ≡ false → NotMore (signed s a) (signed t b)
+  upto e = not-below-says t s b a (sym (lt-is y x t s b a c C w v) ∙ e)
 
-  pub upto-le : le x y ≡ true → Upto (signed s a) (signed t b)
+  pub upto-le : le x y ≡ true → NotMore (signed s a) (signed t b)
   upto-le e = scaled s t a b c C (fractions-of-le x y s t a c b c C C v w (subst T (sym e) tt))
 
 -- between two finite doubles, ends taken in
@@ -58,7 +47,7 @@ from-to (fin s m e) (inf false) (fin t n d) p q g h = absurd (false≢true h)
 from-to (fin s m e) (fin u k c) (fin t n d) p q g h = tt
 
 -- ---- the size of a difference that is not negative
-size-is : (s t : Bool) (a b : ℕ) → Upto (signed t b) (signed s a)
+size-is : (s t : Bool) (a b : ℕ) → NotMore (signed t b) (signed s a)
     → sumSize s a (not t) b + (signed t b .plus + signed s a .less) ≡ signed s a .plus + signed t b .less
 size-is false false a b h = rw (le-ltb a b (omega arith)) (omega arith)
 size-is false true a b h = omega arith
@@ -75,7 +64,7 @@ pub record Differences (x lo hi : Float) : Type 0 where
   pub order : unitsOf (sub binary64 x lo) ≤ unitsOf (sub binary64 hi lo)
 
 module _ (x lo hi : Float) (s t u : Bool) (a b d c : ℕ) (C : 0 < c) (v : HasValue x s a c) (l : HasValue lo t b c) (h : HasValue hi u d c) where
-  pub differences : b * 2 ^ 1074 ≤ 2 ^ 2074 * c → d * 2 ^ 1074 ≤ 2 ^ 2074 * c → Upto (signed t b) (signed s a) → Upto (signed s a) (signed u d)
+  pub differences : b * 2 ^ 1074 ≤ 2 ^ 2074 * c → d * 2 ^ 1074 ≤ 2 ^ 2074 * c → NotMore (signed t b) (signed s a) → NotMore (signed s a) (signed u d)
       → Differences x lo hi
   differences small great low high =
       let m = sumSize s a (not t) b in
@@ -88,7 +77,7 @@ module _ (x lo hi : Float) (s t u : Bool) (a b d c : ℕ) (C : 0 < c) (v : HasVa
       round-most (w .0) n c 2075 C (lit< tt) (room n b d c (2 ^ 1074) (2 ^ 2074) (2 ^ 2075) (sum-size u d (not t) b) small great (twice 2074)) in
       let less : m ≤ n =
       smaller m n (signed s a) (signed t b) (signed u d) (size-is s t a b low)
-      (size-is u t d b (upto-trans (signed t b) (signed s a) (signed u d) low high)) high in
+      (size-is u t d b (on (signed t b) (signed s a) (signed u d) low high)) high in
       let order = smaller-units (f .0) (w .0) m n c C less (most .known) in
       record {
         from = subst (AtMost (2 ^ 2075)) (sym from-is)
@@ -104,6 +93,6 @@ module _ (x lo hi : Float) (s t u : Bool) (a b d c : ℕ) (C : 0 < c) (v : HasVa
       room : (n b d c q m k : ℕ) → n ≤ d + b → b * q ≤ m * c → d * q ≤ m * c → k ≡ 2 * m → n * q ≤ k * c
       room n b d c q m k h g e f = let most : n * q ≤ (d + b) * q = mul-le-mul-right q h in rw f (omega arith)
 
-      smaller : (m n : ℕ) (x l h : Signed) → m + (l .plus + x .less) ≡ x .plus + l .less → n + (l .plus + h .less) ≡ h .plus + l .less → Upto x h
+      smaller : (m n : ℕ) (x l h : Signed) → m + (l .plus + x .less) ≡ x .plus + l .less → n + (l .plus + h .less) ≡ h .plus + l .less → NotMore x h
           → m ≤ n
       smaller m n x l h p q o = omega arith

@@ -61,7 +61,7 @@ below-says false true a b h = absurd (false≢true h)
 below-says true false a b h = let l = ltb-true 0 (a + b) h in omega arith
 below-says true true a b h = let l = ltb-true b a h in omega arith
 
-not-below-says : (s t : Bool) (a b : ℕ) → below s a t b ≡ false → NotMore (signed t b) (signed s a)
+pub not-below-says : (s t : Bool) (a b : ℕ) → below s a t b ≡ false → NotMore (signed t b) (signed s a)
 not-below-says false false a b h = let l = ltb-false a b h in omega arith
 not-below-says false true a b h = omega arith
 not-below-says true false a b h = let l = ltb-false 0 (a + b) h in omega arith

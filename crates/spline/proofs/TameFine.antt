@@ -22,7 +22,8 @@ use Rattle.spline.specs.Value.{splineFine}
 use Rattle.spline.specs.Walk.{Tame}
 use Rattle.spline.proofs.Judged.{Wide, same-wide, finite-fine}
 use Rattle.spline.proofs.StepSizes.{known-finite, step-tame}
-use Rattle.spline.proofs.KnotOrder.{Upto, upto-trans, upto, upto-le, from-to, Differences, differences}
+use Rattle.spline.proofs.Places.{NotMore, on}
+use Rattle.spline.proofs.KnotOrder.{upto, upto-le, from-to, Differences, differences}
 
 -- ---- the span k: t[k] <= x, and t[k+1] is not, unless k is the last
 record Found (row : List Float) (p : ℕ) (x : Float) (m k : ℕ) : Type 0 where
@@ -77,18 +78,18 @@ module _ (row : List Float) (p n : ℕ) (tame : Tame row p n) (d : ℕ) (D : 0 <
       most u m d q l = le-trans (le-of-eq (mul-assoc u d q ∙ ap (λ (z : ℕ). u * z) (mul-comm d q))) (mul-le-mul-right (q * d) l)
 
   -- no knot is below an earlier one
-  knots-rise : (i j : ℕ) → i ≤ j → j ≤ n + p → Upto (worth i) (worth j)
+  knots-rise : (i j : ℕ) → i ≤ j → j ≤ n + p → NotMore (worth i) (worth j)
   knots-rise i j h g = ⊎-elim (λ (e : i ≡ j). rw e (omega arith)) (λ (l : i < j). up-to j l g) (eq-or-lt-of-le h)
     where
-      up-to : (j : ℕ) → i < j → j ≤ n + p → Upto (worth i) (worth j)
+      up-to : (j : ℕ) → i < j → j ≤ n + p → NotMore (worth i) (worth j)
       up-to zero h g = absurd (omega arith)
       up-to (suc j) h g =
           let next : j + 1 ≡ suc j = omega arith in
-          let step : Upto (worth j) (worth (suc j)) =
+          let step : NotMore (worth j) (worth (suc j)) =
           upto (knotAt row j) (knotAt row (suc j)) (signOf (knotAt row j)) (signOf (knotAt row (suc j))) (size j) (size (suc j)) over over-pos
           (has j (omega arith)) (has (suc j) g) (rw next at (tame .rises j (omega arith))) in
           let near : i ≤ j = omega arith in
-          ⊎-elim (λ (e : i ≡ j). rw e step) (λ (l : i < j). upto-trans (worth i) (worth j) (worth (suc j)) (up-to j l (omega arith)) step)
+          ⊎-elim (λ (e : i ≡ j). rw e step) (λ (l : i < j). on (worth i) (worth j) (worth (suc j)) (up-to j l (omega arith)) step)
           (eq-or-lt-of-le near)
 
   -- ---- a point of the domain, and its span
@@ -110,14 +111,14 @@ module _ (row : List Float) (p n : ℕ) (tame : Tame row p n) (d : ℕ) (D : 0 <
     below : span < n
     below = omega (arith, here .to, sizes .some)
 
-    span-low : (i : ℕ) → i ≤ span → Upto (worth i) (signed s a)
+    span-low : (i : ℕ) → i ≤ span → NotMore (worth i) (signed s a)
     span-low i h =
         let b = below in
         let k : span ≤ n + p = omega arith in
-        upto-trans (worth i) (worth span) (signed s a) (knots-rise i span h k)
+        on (worth i) (worth span) (signed s a) (knots-rise i span h k)
         (upto-le (knotAt row span) x (signOf (knotAt row span)) s (size span) a over over-pos (has span k) v (here .at))
 
-    next-high : span + 1 ≤ n + p → Upto (signed s a) (worth (span + 1))
+    next-high : span + 1 ≤ n + p → NotMore (signed s a) (worth (span + 1))
     unfolding le
     next-high k = elim (here .next) [
       | inl e ↦
@@ -129,11 +130,11 @@ module _ (row : List Float) (p n : ℕ) (tame : Tame row p n) (d : ℕ) (D : 0 <
           upto x t s (signOf t) a (size (span + 1)) over over-pos v (has (span + 1) k) (neither (lt t x) (eq t x) e .0)
     ]
 
-    span-high : (i : ℕ) → span + 1 ≤ i → i ≤ n + p → Upto (signed s a) (worth i)
+    span-high : (i : ℕ) → span + 1 ≤ i → i ≤ n + p → NotMore (signed s a) (worth i)
     span-high i h g =
         let b = below in
         let k : span + 1 ≤ n + p = omega arith in
-        upto-trans (signed s a) (worth (span + 1)) (worth i) (next-high k) (knots-rise (span + 1) i h g)
+        on (signed s a) (worth (span + 1)) (worth i) (next-high k) (knots-rise (span + 1) i h g)
 
     -- the differences of a step
     stepped : (i j : ℕ) → i ≤ span → span + 1 ≤ j → j ≤ n + p → Differences x (knotAt row i) (knotAt row j)
