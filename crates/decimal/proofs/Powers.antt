@@ -4,16 +4,13 @@ use Prim.Native.Nat.{ℕ, zero, suc, _+_, _-_, _*_, _^_, _≤_, _<_}
 use mathlib.Core.Path.{_≡_, refl, sym, ap, _∙_}
 use mathlib.Core.Bool.{Bool, false}
 use native.Mathlib.Omega.{arith}
-use native.Mathlib.Nat.{lt-of-lt-of-le, lt-of-le-of-lt, mul-assoc, mul-comm, mul-one, mul-pos, mul-mul-mul-comm}
-use native.Mathlib.Nat.{mul-left-comm, one-mul, one-le-pow, lt-irrefl, zero-mul, zero-lt-suc, pow-le-pow-right, pow-succ'}
-use borrow.Author.Tests.{ne-eqb}
+use native.Mathlib.Nat.{lt-of-lt-of-le, lt-of-le-of-lt, mul-assoc, mul-comm, mul-one, mul-mul-mul-comm}
+use native.Mathlib.Nat.{one-mul, one-le-pow, pow-le-pow-right, pow-succ'}
 use lib.Dec.{lit<, lit≤}
 use lib.Pow.{pow-add, pow-mono, shl-lt}
-use lib.Ieee.{Float, nan, inf, fin, Format, binary64, up, down, unlike, round, mul, div, ofBits}
-use lib.Ieee.Fits.{down-pos}
+use lib.Ieee.{Float, binary64, round, mul, div, ofBits}
 use lib.Ieee.Exact.{HasValue, round-exact}
-use lib.Ieee.Scale.{round-same}
-use Rattle.exact.proofs.Operation.{mul-rounds}
+use Rattle.exact.proofs.Operation.{mul-rounds, div-rounds}
 use Rattle.exact.proofs.Truth.{like-false}
 
 -- a whole number below 2 ^ 53, times a power of two
@@ -49,41 +46,6 @@ power-next p i h v =
     let product : mul binary64 p (ofBits binary64 0x4024000000000000) ≡ round binary64 false (10 ^ i * 10) 1 =
     mul-rounds binary64 p (ofBits binary64 0x4024000000000000) false false (10 ^ i) 1 10 1 (lit< tt) (lit< tt) v ten-value in
     rw (product, mul-comm (10 ^ i) 10, ← pow-succ' 10 i) (power-exact (suc i) h)
-
--- the quotient of finite values, the divisor not 0
-pub div-rounds : (f : Format) (x y : Float) (s t : Bool) (a c b d : ℕ) → 0 < b → 0 < c → 0 < d → HasValue x s a c → HasValue y t b d → div f x y ≡ round f (unlike s t) (a * d) (c * b)
-unfolding div
-div-rounds f nan y s t a c b d B C D v w = absurd v
-div-rounds f (inf u) y s t a c b d B C D v w = absurd v
-div-rounds f (fin u m e) nan s t a c b d B C D v w = absurd w
-div-rounds f (fin u m e) (inf j) s t a c b d B C D v w = absurd w
-div-rounds f (fin u m e) (fin j n g) s t a c b d B C D v w =
-    rw (ne-eqb n 0 some)
-    ((λ i. round f (unlike (v .0 i) (w .0 i)) (m * up e * down g) (n * up g * down e))
-    ∙ round-same f (unlike s t) (m * up e * down g) (n * up g * down e) (a * d) (c * b) there (mul-pos C B)
-    (turn (m * up e) (down g) c b ∙ (λ i. v .1 i * sym (w .1) i) ∙ turned a (down e) (n * up g) d))
-  where
-    some : n ≡ 0 → ⊥
-    some z =
-        let none : 0 * up g * d ≡ b * down g = rw z at (w .1) in
-        let more : 0 < b * down g = mul-pos B (down-pos g) in
-        omega arith
-
-    there : 0 < n * up g * down e
-    there =
-        let more : 0 < b * down g = mul-pos B (down-pos g) in
-        let product : 0 < n * up g * d = rw (w .1) more in
-        mul-pos {m = n * up g} (left (n * up g) d product) (down-pos e)
-      where
-        left : (x y : ℕ) → 0 < x * y → 0 < x
-        left zero y h = absurd (lt-irrefl 0 (rw (zero-mul y) at h))
-        left (suc x) y h = zero-lt-suc x
-
-    turn : (x g c b : ℕ) → x * g * (c * b) ≡ x * c * (b * g)
-    turn x g c b = simp (mul-assoc, mul-comm, mul-left-comm)
-
-    turned : (a e y d : ℕ) → a * e * (y * d) ≡ a * d * (y * e)
-    turned a e y d = simp (mul-assoc, mul-comm, mul-left-comm)
 
 -- THE ROUNDING. Of a whole number that is a double, one product with a power of ten that is one, or one quotient by it, is the exact value rounded once.
 module _ (s : Bool) (n k : ℕ) (x p : Float) (X : HasValue x s n 1) (P : HasValue p false (10 ^ k) 1) where

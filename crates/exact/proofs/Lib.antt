@@ -17,3 +17,4 @@ pub mod Remainder
 pub mod Bounded
 pub mod Truth
 pub mod AtMost
+pub mod Unit

@@ -5,14 +5,12 @@ use mathlib.Core.Path.{_≡_, refl, sym, ap, _∙_, subst}
 use mathlib.Core.Bool.{Bool, true, false, _&&_, Bool·beq, cond}
 use Prim.Native.Nat.{ℕ, suc, _+_, _-_, _*_, _^_, _≤_, _<_}
 use native.Mathlib.Nat.{le-trans, le-of-eq, lt-of-lt-of-le, one-mul, mul-pos, mul-le-mul, mul-le-mul-right, mul-assoc, mul-comm, mul-left-comm}
-use native.Mathlib.Nat.{pow-succ', eq-zero-or-pos, eq-of-mul-eq-mul-right}
-use mathlib.Core.Logic.{inl, inr}
+use native.Mathlib.Nat.{pow-succ'}
 use native.Mathlib.Omega.{arith}
-use borrow.Author.Tests.{ne-eqb}
 use lib.Dec.{T, ltb, lit<, lit≤}
 use lib.Pow.{pow-pos, pow-lt}
-use lib.Ieee.{Float, nan, inf, fin, binary64, fits, up, down, unlike, round, sum, add, sub, neg, mul, div, eq, ofBits}
-use lib.Ieee.Fits.{down-pos, up-pos, round-fits, neg-fits}
+use lib.Ieee.{Float, nan, inf, fin, binary64, fits, unlike, round, sum, add, sub, neg, mul, div, eq, ofBits}
+use lib.Ieee.Fits.{round-fits, neg-fits}
 use lib.Ieee.Bits.{is-true}
 use lib.Ieee.Exact.{HasValue}
 use lib.Ieee.Scale.{finite, round-same}
@@ -22,7 +20,7 @@ use Rattle.exact.proofs.Value.{own, units-are}
 use Rattle.exact.proofs.Rounding.{round-none}
 use Rattle.exact.proofs.Finite.{smaller-finite, smaller-units}
 use Rattle.exact.proofs.Few.{value-finite}
-use Rattle.exact.proofs.Operation.{add-rounds, mul-rounds}
+use Rattle.exact.proofs.Operation.{add-rounds, mul-rounds, div-rounds}
 use Rattle.exact.proofs.Compare.{some}
 use Rattle.spline.specs.Spline.{alphaOf, share, blendOf}
 
@@ -134,37 +132,10 @@ mul-most j {x} {y} J v w =
         (le-of-eq (ap (λ (n : ℕ). n * p * q) e ∙ regroup q p ∙ ap (λ (n : ℕ). n * (q * q)) (sym f)))
 
 -- ---- a quotient of two over one denominator
-div-rounds : (x y : Float) (s t : Bool) (a b c : ℕ) → 0 < b → 0 < c → HasValue x s a c → HasValue y t b c
+over-one : (x y : Float) (s t : Bool) (a b c : ℕ) → 0 < b → 0 < c → HasValue x s a c → HasValue y t b c
     → div binary64 x y ≡ round binary64 (unlike s t) a b
-unfolding div
-div-rounds nan y s t a b c B C v w = absurd v
-div-rounds (inf u) y s t a b c B C v w = absurd v
-div-rounds (fin u m e) nan s t a b c B C v w = absurd w
-div-rounds (fin u m e) (inf j) s t a b c B C v w = absurd w
-div-rounds (fin u m e) (fin j n g) s t a b c B C v w =
-    rw (ne-eqb n 0 none)
-    ((λ i. round binary64 (unlike (v .0 i) (w .0 i)) (m * up e * down g) (n * up g * down e))
-    ∙ round-same binary64 (unlike s t) (m * up e * down g) (n * up g * down e) a b (mul-pos (mul-pos there (up-pos g)) (down-pos e)) B
-    (eq-of-mul-eq-mul-right c C (m * up e * down g * b) (a * (n * up g * down e))
-    (first (m * up e) (down g) b c
-    ∙ (λ i. v .1 i * (b * down g))
-    ∙ (λ i. a * down e * sym (w .1) i)
-    ∙ last a (down e) (n * up g) c)))
-  where
-    none : n ≡ 0 → ⊥
-    none z =
-        let nothing : 0 * up g * c ≡ b * down g = rw z at (w .1) in
-        let something : 0 < b * down g = mul-pos B (down-pos g) in
-        omega arith
-
-    there : 0 < n
-    there = elim (eq-zero-or-pos n) [ inl z ↦ absurd (none z) | inr h ↦ h ]
-
-    first : (m g b c : ℕ) → m * g * b * c ≡ m * c * (b * g)
-    first m g b c = simp (mul-assoc, mul-comm, mul-left-comm)
-
-    last : (a e n c : ℕ) → a * e * (n * c) ≡ a * (n * e) * c
-    last a e n c = simp (mul-assoc, mul-comm)
+over-one x y s t a b c B C v w =
+    div-rounds binary64 x y s t a c b c B C C v w ∙ round-same binary64 (unlike s t) (a * c) (c * b) a b (mul-pos C B) B (mul-assoc a c b)
 
 -- ---- the share of a difference in one that is no smaller
 zero-most : AtMost (2 ^ 1074) nought
@@ -183,7 +154,7 @@ alpha-most m f w u v h = by (eq f nought) (eq w nought) refl refl
         let q = 2 ^ 1074 in
         let a = unitsOf f in
         let b = unitsOf w in
-        subst (AtMost q) (sym (div-rounds f w (signOf f) (signOf w) a b q W (pow-pos 1074) (value-of u) (value-of v)))
+        subst (AtMost q) (sym (over-one f w (signOf f) (signOf w) a b q W (pow-pos 1074) (value-of u) (value-of v)))
         (round-most (unlike (signOf f) (signOf w)) a b 1074 W (lit< tt) (le-trans (mul-le-mul-right q h) (le-of-eq (mul-comm b q))))
 
     by : (s t : Bool) → eq f nought ≡ s → eq w nought ≡ t → AtMost (2 ^ 1074) (cond (s && t) nought (div binary64 f w))

@@ -25,7 +25,7 @@ use Rattle.spline.specs.Spline.{alphaOf, share, blendOf}
 use Rattle.spline.proofs.Equal.{eq-is}
 use Rattle.spline.proofs.Places.{Number, value-of, place, Less, placed}
 use Rattle.spline.proofs.Zeros.{none, none-value, round-zero, nought-is, none-is-nought, none-times, same-difference}
-use Rattle.spline.proofs.Zeros.{one-less-none, one-less-one, one-times, sum-nothing}
+use Rattle.spline.proofs.Zeros.{one-less-none, one-less-one, one-units, sum-nothing}
 
 -- ---- what is a number a, and a zero
 module _ (a y : Float) (z : Bool) (A : Number a) (v : Units y (signOf a) (unitsOf a)) where
@@ -98,7 +98,7 @@ module _ (x lo hi a b : Float) (X : Number x) (L : Number lo) (A : Number a) (B 
       let is : blendOf x lo hi a b ≡ add binary64 (mul binary64 one a) (none (unlike (q .0) (signOf b))) =
       (λ i. add binary64 (mul binary64 (sub binary64 one (q .1 i)) a) (mul binary64 (q .1 i) b))
       ∙ (λ i. add binary64 (mul binary64 (one-less-none (q .0) i) a) (none-times (q .0) b B i)) in
-      subst (λ (y : Float). Same (place y) (place a)) (sym is) (plus-none a (mul binary64 one a) (unlike (q .0) (signOf b)) A (one-times a A))
+      subst (λ (y : Float). Same (place y) (place a)) (sym is) (plus-none a (mul binary64 one a) (unlike (q .0) (signOf b)) A (one-units a A))
 
 -- ---- the right end
 -- how far x lies above l
@@ -176,4 +176,4 @@ module _ (x lo hi a b : Float) (X : Number x) (L : Number lo) (H : Number hi) (A
       (λ i. add binary64 (mul binary64 (sub binary64 one (q i)) a) (mul binary64 (q i) b))
       ∙ ap (λ (y : Float). add binary64 (mul binary64 y a) (mul binary64 one b)) one-less-one
       ∙ ap (λ (y : Float). add binary64 y (mul binary64 one b)) (none-times false a A) in
-      subst (λ (y : Float). Same (place y) (place b)) (sym is) (none-plus b (mul binary64 one b) (unlike false (signOf a)) B (one-times b B))
+      subst (λ (y : Float). Same (place y) (place b)) (sym is) (none-plus b (mul binary64 one b) (unlike false (signOf a)) B (one-units b B))

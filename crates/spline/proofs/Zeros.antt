@@ -3,7 +3,7 @@ use mathlib.Core.Path.{_≡_, refl, sym, ap, _∙_, subst}
 use mathlib.Core.Logic.{inl, inr}
 use mathlib.Core.Bool.{Bool, true, false, not}
 use Prim.Native.Nat.{ℕ, _+_, _-_, _*_, _^_, _<_}
-use native.Mathlib.Nat.{eq-zero-or-pos, mul-pos, one-mul, zero-mul, add-zero, sub-zero}
+use native.Mathlib.Nat.{eq-zero-or-pos, mul-pos, zero-mul, add-zero, sub-zero}
 use native.Mathlib.Omega.{arith}
 use lib.Dec.{T, lit<}
 use lib.IntN.{pos}
@@ -15,11 +15,10 @@ use lib.Ieee.Scale.{finite, round-same}
 use Rattle.exact.specs.Doubles.{nought, one}
 use Rattle.exact.specs.Signed.{Same, signed}
 use Rattle.exact.specs.Value.{Units, signOf, unitsOf}
-use Rattle.exact.proofs.Few.{Few, few-of, few-value, units-below}
-use Rattle.exact.proofs.Operation.{mul-rounds}
+use Rattle.exact.proofs.Few.{Few, few-value}
 use Rattle.exact.proofs.Sum.{sum-like, sum-first, sum-none}
-use Rattle.exact.proofs.Value.{own}
-use Rattle.spline.proofs.Places.{Number}
+use Rattle.exact.proofs.Unit.{one-times}
+use Rattle.spline.proofs.Places.{Number, value-of}
 
 -- ---- the zeros
 abbrev pub none : Bool → Float
@@ -63,24 +62,9 @@ pub one-less-one : sub binary64 one one ≡ none false
 unfolding sub add neg sum round units odd ofBits
 one-less-one = refl
 
--- ---- 1 times a double is that number
-pub one-value : HasValue one false 1 1
-unfolding ofBits
-one-value = (refl, refl)
-
-like-plus : (s : Bool) → unlike false s ≡ s
-like-plus true = refl
-like-plus false = refl
-
-pub one-times : (a : Float) → Number a → Units (mul binary64 one a) (signOf a) (unitsOf a)
-one-times a A =
-    let s = signOf a in
-    let n = unitsOf a in
-    subst (λ (z : Float). Units z s n)
-    (sym
-    (mul-rounds binary64 one a false s 1 1 n (2 ^ 1074) (lit< tt) (pow-pos 1074) one-value (own a (A .fit) (A .known))
-    ∙ (λ i. round binary64 (like-plus s i) (one-mul n i) (2 ^ 1074))))
-    (few-value s n (few-of a (A .fit) (A .known)) (units-below a (A .fit) (A .known)))
+-- ---- 1 times a double has its value
+pub one-units : (a : Float) → Number a → Units (mul binary64 one a) (signOf a) (unitsOf a)
+one-units a A = subst (λ (z : Float). Units z (signOf a) (unitsOf a)) (sym (one-times a (A .fit))) (value-of a A)
 
 -- ---- equal numbers differ by a zero
 pub same-difference : (s u : Bool) (a d c : ℕ) → 0 < c → Same (signed s a) (signed u d) → (z : Bool) × (sum binary64 s a (not u) d c ≡ none z)

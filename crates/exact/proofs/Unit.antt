@@ -1,0 +1,54 @@
+-- 1.0 times x, and x times 1.0, is x: for NaN, infinities and zeros of either sign too. Assumes nothing.
+use mathlib.Core.Path.{_≡_, refl, sym, ap, _∙_, subst}
+use mathlib.Core.Bool.{Bool, true, false}
+use Prim.Native.Nat.{_^_}
+use native.Mathlib.Nat.{one-mul, mul-one}
+use lib.Dec.{T, lit<}
+use lib.Pow.{pow-pos}
+use lib.Ieee.{Float, nan, inf, fin, binary64, round, mul, unlike, fits, ofBits}
+use lib.Ieee.Exact.{HasValue}
+use lib.Ieee.Fits.{mul-fits}
+use lib.Ieee.Scale.{finite}
+use Rattle.exact.specs.Doubles.{one}
+use Rattle.exact.specs.Value.{Units, signOf, unitsOf}
+use Rattle.exact.proofs.Few.{few-of, few-value, units-below}
+use Rattle.exact.proofs.Operation.{mul-rounds}
+use Rattle.exact.proofs.Value.{own, unique}
+use Rattle.exact.proofs.Truth.{like-false}
+
+-- a double that rounds the sign and the units of x is x
+pub rounds-back : (x y : Float) → T (fits binary64 x) → T (finite x) → T (fits binary64 y) → y ≡ round binary64 (signOf x) (unitsOf x) (2 ^ 1074) → y ≡ x
+rounds-back x y f t g e =
+    let s = signOf x in
+    let n = unitsOf x in
+    unique y x s n (2 ^ 1074) (pow-pos 1074) g f (subst (λ (z : Float). Units z s n) (sym e) (few-value s n (few-of x f t) (units-below x f t))) (own x f t)
+
+one-value : HasValue one false 1 1
+unfolding ofBits
+one-value = (refl, refl)
+
+like-plus : (s : Bool) → unlike false s ≡ s
+like-plus true = refl
+like-plus false = refl
+
+pub one-times : (x : Float) → T (fits binary64 x) → mul binary64 one x ≡ x
+unfolding mul ofBits
+one-times nan f = refl
+one-times (inf s) f = ap inf (like-plus s)
+one-times (fin s m e) f =
+    let x = fin s m e in
+    let n = unitsOf x in
+    rounds-back x (mul binary64 one x) f tt (mul-fits binary64 one x)
+    (mul-rounds binary64 one x false s 1 1 n (2 ^ 1074) (lit< tt) (pow-pos 1074) one-value (own x f tt)
+    ∙ (λ i. round binary64 (like-plus s i) (one-mul n i) (2 ^ 1074)))
+
+pub times-one : (x : Float) → T (fits binary64 x) → mul binary64 x one ≡ x
+unfolding mul ofBits
+times-one nan f = refl
+times-one (inf s) f = ap inf (like-false s)
+times-one (fin s m e) f =
+    let x = fin s m e in
+    let n = unitsOf x in
+    rounds-back x (mul binary64 x one) f tt (mul-fits binary64 x one)
+    (mul-rounds binary64 x one s false n (2 ^ 1074) 1 1 (pow-pos 1074) (lit< tt) (own x f tt) one-value
+    ∙ (λ i. round binary64 (like-false s i) (mul-one n i) (2 ^ 1074)))
