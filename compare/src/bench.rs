@@ -59,7 +59,7 @@ pub fn run() {
         let name = format!("iir, two rows, sections: {count}");
         step(&name, &iir::level(count), host::iir, theirs::rows::iir);
     }
-    for count in [16, 64, 256] {
+    for count in [1, 2, 3, 4, 5, 6, 7, 8, 15, 16, 64, 256] {
         let taps = fir::steady(count);
         step(
             &format!("fir, {count} taps"),

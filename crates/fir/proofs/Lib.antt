@@ -1,4 +1,8 @@
 pub mod Tap
+pub mod Slots
+pub mod Adding
+pub mod Summing
+pub mod Moving
 pub mod Ring
 pub mod Totals
 pub mod Wholes

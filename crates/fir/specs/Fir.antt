@@ -1,23 +1,24 @@
 -- Document 01, "FIR: one lane in the Rust's ring order, product and sum rounded apart", with "a ring of 256 numbers, all zero before each
--- row; the taps doubled as there". Definitions only.
+-- row"; document 02, P3: the taps are kept once, and each tap's place is found by wrapping round. Definitions only.
 use mathlib.Core.Path.{_≡_}
 use mathlib.Core.Bool.{Bool, _&&_}
-use mathlib.Core.List.{List, [], _∷_, _++_, reverse}
-use Prim.Native.Nat.{ℕ, zero, suc, _+_, _-_, _%_, _≤_}
+use mathlib.Core.List.{List, [], _∷_}
+use Prim.Native.Nat.{ℕ, zero, suc, _+_, _-_, _%_}
 use lib.Dec.{leb}
-use lib.ListN.{length, take, getD, set, replicate}
+use lib.ListN.{length, getD, set, replicate}
 use lib.Ieee.{Float, nan, binary64, add, mul}
 use Rattle.exact.specs.Doubles.{nought}
 use Rattle.quant.specs.declared.refusal.Answer.{Answer}
 use Rattle.rows.specs.Rows.{rowsFit, allFinite, answerOf, after}
 
--- ---- the taps: the last first, and all of them once more
-unfoldable pub doubled : List Float → List Float
-doubled taps = reverse taps ++ reverse taps
+-- ---- the taps
+-- how many samples back the sample of slot j is, in a ring of n slots whose newest sample stands in slot s: wrapping round
+abbrev pub delay : ℕ → ℕ → ℕ → ℕ
+delay n s j = (n + s - j) % n
 
 -- the tap that meets slot j while the newest sample stands in slot s
 unfoldable pub tapAt : List Float → ℕ → ℕ → Float
-tapAt taps s j = getD (doubled taps) (length taps - s - 1 + j) nan
+tapAt taps s j = getD taps (delay (length taps) s j) nan
 
 -- ---- the ring: sample k goes to slot k % n, in the place of the one n samples before it
 abbrev pub slotOf : List Float → ℕ → ℕ
@@ -53,9 +54,3 @@ pub record Fir (rows : ℕ) (i q taps : List Float) (r : Answer) (i' q' : List F
   pub answer : r ≡ answerOf (firFits rows (length i) (length q) (length taps)) (allFinite taps)
   pub first : i' ≡ after (firFits rows (length i) (length q) (length taps)) (allFinite taps) (filteredRow taps i) i
   pub second : q' ≡ after (firFits rows (length i) (length q) (length taps)) (allFinite taps) (filteredRow taps q) q
-
--- ---- inside: the sizes hold, and the store begins with the doubled taps
-pub record Ready (taps store : List Float) : Type 0 where
-  pub some : 1 ≤ length taps
-  pub few : length taps ≤ 256
-  pub stored : take (length taps + length taps) store ≡ doubled taps

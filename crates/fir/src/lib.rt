@@ -1,8 +1,17 @@
-// Rows filtered by taps: the Rust's `pulse/fir.rs` at one lane.
+// Rows filtered by taps: the Rust's `pulse/fir.rs` at one lane. The taps stay where the caller has them, each found by wrapping round.
 ghost use mathlib.Core.Path.{_≡_};
-ghost use Prim.Native.Nat.{_+_, _≤_, _<_};
-ghost use lib.ListN.{length, take};
-ghost use Rattle.fir.specs.Fir.{Fir, Ready, doubled, ringSum, filteredFrom, filteredRow, firFits};
+ghost use Prim.Native.Nat.{_%_, _≤_, _<_, min};
+ghost use lib.ListN.{length};
+ghost use Rattle.fir.specs.Fir.{Fir, slotOf, filteredFrom, filteredRow, firFits};
+ghost use Rattle.fir.specs.Inside.{Ready, Advanced};
+
+mod eight;
+mod few;
+
+use eight::eight;
+use few::one;
+use few::only_tap;
+use few::two;
 use quant::refusal::Answer;
 use rows::all_finite;
 use rows::answer;
@@ -35,66 +44,75 @@ fn fits(rows: usize, i: usize, q: usize, taps: usize) -> bool
     taps <= 256
 }
 
-// The taps are doubled once for both rows; each row has a fresh ring.
+// Each row has a fresh ring.
 fn filter_rows(i: &mut [f64], q: &mut [f64], taps: &[f64])
     requires some { ⌜ 1 ≤ length (now taps) ⌝ }
     requires few { ⌜ length (now taps) ≤ 256 ⌝ }
     ensures first { λ r. ⌜ now (i .exit) ≡ filteredRow (now (taps .entry)) (now (i .entry)) ⌝ }
     ensures second { λ r. ⌜ now (q .exit) ≡ filteredRow (now (taps .entry)) (now (q .entry)) ⌝ }
 {
-    let mut store = [0.0; 512];
-    double(taps, &mut store);
     let mut ring_i = [0.0; 256];
-    filter(i, &mut ring_i, taps, &store);
+    filter(i, &mut ring_i, taps);
     let mut ring_q = [0.0; 256];
-    filter(q, &mut ring_q, taps, &store);
+    filter(q, &mut ring_q, taps);
 }
 
-// The last tap first, twice over, so that the taps for a ring that starts anywhere lie in a row.
-fn double(taps: &[f64], store: &mut [f64; 512])
-    requires few { ⌜ length (now taps) ≤ 256 ⌝ }
-    requires room { ⌜ length (now store) ≡ 512 ⌝ }
-    ensures { λ r. ⌜ take (length (now (taps .entry)) + length (now (taps .entry))) (now (store .exit)) ≡ doubled (now (taps .entry)) ⌝ }
-{
-    let n = taps.len();
-    let mut p: usize = 0;
-    while p < n {
-        let last = n - 1 - p;
-        let t = taps[last];
-        store[p] = t;
-        store[n + p] = t;
-        p += 1;
-    }
-}
-
-// Each sample goes to its slot of the ring, and the sum over the slots takes its place.
-fn filter(row: &mut [f64], ring: &mut [f64; 256], taps: &[f64], store: &[f64; 512])
-    requires { ⌜ Ready (now taps) (now store) ⌝ }
+// The ring is gone round again and again: the k-th sample goes to slot s.
+fn filter(row: &mut [f64], ring: &mut [f64], taps: &[f64])
+    requires { ⌜ Ready (now taps) (now ring) ⌝ }
     ensures { λ r. ⌜ now (row .exit) ≡ filteredFrom (now (taps .entry)) 0 (now (ring .entry)) (now (row .entry)) ⌝ }
 {
+    if taps.len() == 1 {
+        only_tap(row, taps[0]);
+        return;
+    }
     let mut k: usize = 0;
+    let mut s: usize = 0;
     while k < row.len() {
-        let slot = k % taps.len();
-        let x = row[k];
-        ring[slot] = x;
-        row[k] = ring_sum(ring, slot, taps, store);
-        k += 1;
+        let done = advance(row, ring, taps, k, s);
+        k += done;
+        s = wrap(s + done, taps.len());
     }
 }
 
-// In ring order, slot 0 first; product and sum are rounded apart.
-fn ring_sum(ring: &[f64; 256], slot: usize, taps: &[f64], store: &[f64; 512]) -> f64
-    requires ready { ⌜ Ready (now taps) (now store) ⌝ }
-    requires within { ⌜ slot < length (now taps) ⌝ }
-    ensures { λ r. ⌜ r ≡ ringSum (now (taps .entry)) (now (ring .entry)) slot ⌝ }
+// Eight samples where as many are left, in the row and up to the ring's end; else two, else one.
+fn advance(row: &mut [f64], ring: &mut [f64], taps: &[f64], k: usize, s: usize) -> usize
+    requires ready { ⌜ Ready (now taps) (now ring) ⌝ }
+    requires slot { ⌜ s ≡ slotOf (now taps) k ⌝ }
+    requires turn { ⌜ s < length (now taps) ⌝ }
+    requires left { ⌜ k < length (now row) ⌝ }
+    ensures { λ r. ⌜ Advanced (now (taps .entry)) k s r (now (ring .entry)) (now (row .entry)) (now (ring .exit)) (now (row .exit)) ⌝ }
 {
-    let n = taps.len();
-    let start = n - slot - 1;
-    let mut sum = 0.0;
-    let mut j: usize = 0;
-    while j < n {
-        sum = store[start + j] * ring[j] + sum;
-        j += 1;
+    let left = lesser(taps.len() - s, row.len() - k);
+    if 8 <= left {
+        eight(row, ring, taps, k, s);
+        return 8;
     }
-    sum
+    if 2 <= left {
+        two(row, ring, taps, k, s);
+        return 2;
+    }
+    one(row, ring, taps, k, s);
+    1
+}
+
+fn lesser(a: usize, b: usize) -> usize
+    ensures { λ r. ⌜ r ≡ min a b ⌝ }
+{
+    if a <= b {
+        return a;
+    }
+    b
+}
+
+// At the ring's end back to its first slot.
+fn wrap(s: usize, n: usize) -> usize
+    requires some { ⌜ 1 ≤ n ⌝ }
+    requires within { ⌜ s ≤ n ⌝ }
+    ensures { λ r. ⌜ r ≡ s % n ⌝ }
+{
+    if s < n {
+        return s;
+    }
+    0
 }

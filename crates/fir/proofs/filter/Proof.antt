@@ -1,109 +1,115 @@
--- `fir::filter` meets its contract. The invariant: the samples before k, with what is still to be made of the rest and the ring, are the
--- filtered row. Assumes nothing.
+-- `fir::filter` meets its contract. The invariant: the samples before the k-th, with what is still to be made of the rest and the ring, are the
+-- filtered row, and s is the k-th sample's slot. Assumes nothing.
 use borrow.Author.Needs.{needs}
 use mathlib.Core.Path.{_≡_, refl, sym, ap, _∙_, subst}
-use mathlib.Core.List.{List, [], _∷_, _++_, append-nil}
-use Prim.Native.Nat.{ℕ, suc, _+_, _-_, _≤_, _<_}
-use native.Mathlib.Nat.{mod-lt}
+use mathlib.Core.List.{List, [], _++_, append-nil}
+use Prim.Native.Nat.{ℕ, _+_, _-_, _%_, _≤_, _<_}
+use native.Mathlib.Nat.{mod-lt, mod-add-mod, zero-mod}
 use native.Mathlib.Omega.{arith}
-use native.Mathlib.Numerals.{add-one}
-use lib.ListN.{length, take, drop, getD, set, length-set}
-use lib.Seq.{take-suc-set, drop-set-lt, drop-cons, append-snoc, take-length, drop-length}
-use lib.Ieee.{Float, nan}
-use Rattle.fir.specs.Fir.{ringSum, filteredFrom, slotOf, put}
+use lib.ListN.{length, take, drop}
+use lib.Seq.{take-length, drop-length}
+use lib.Ieee.{Float}
+use Rattle.fir.specs.Fir.{filteredFrom, slotOf}
+use Rattle.fir.specs.Inside.{whole, Ready, Advanced}
+use Rattle.fir.proofs.OneTap.{only-of}
 use Rattle.fir.proofs.filter.Statement.{statement}
 use Rattle.fir.proofs.filter.Tie as tie
+use Rattle.fir.proofs.advance.Reads as advance-reads
+use Rattle.fir.proofs.few.only_tap.Reads as only-tap-reads
+use Rattle.fir.proofs.wrap.Reads as wrap-reads
 
-record Inv (row₀ ring₀ taps row ring : List Float) (k : ℕ) : Type 0 where
+record Inv (row₀ ring₀ taps row ring : List Float) (k s : ℕ) : Type 0 where
   within : k ≤ length row
   same : length row ≡ length row₀
-  left : take k row ++ filteredFrom taps k ring (drop k row) ≡ filteredFrom taps 0 ring₀ row₀
+  room : length ring ≡ length ring₀
+  slot : s ≡ slotOf taps k
+  left : whole taps k ring row ≡ filteredFrom taps 0 ring₀ row₀
 
 abbrev Inv-loop : tie.InvT-loop
-Inv-loop row₀ ring₀ taps store k₀ row ring k = Inv row₀ ring₀ taps row ring k
+Inv-loop row₀ ring₀ taps k₀ s₀ row ring k s = Inv row₀ ring₀ taps row ring k s
 
 abbrev μ-loop : tie.MeasureT-loop
-μ-loop row₀ ring₀ taps store k₀ row ring k = length row₀ - k
+μ-loop row₀ ring₀ taps k₀ s₀ row ring k s = length row₀ - k
+
+shared-slice-read-only-tap : tie.Need-shared-slice-read-only-tap Inv-loop μ-loop
+shared-slice-read-only-tap c = search needs
+
+only-tap-requires : tie.Need-only-tap-requires Inv-loop μ-loop
+only-tap-requires c κs = search needs
+
+same-length : tie.Need-same-length Inv-loop μ-loop
+same-length c = search needs
+
+returns : tie.Need-returns Inv-loop μ-loop
+returns c =
+    let start = c .before .before .before .before .before .before .before .before .before in
+    let a = start .args in
+    c .before .before .only-tap .ensures ∙ sym (only-of (a .taps .now) (a .ring .now) (a .row .now) (c .before .before .before .before .before .if1 .taken) (omega (arith, start .pre .room)))
 
 loop-holds : tie.Need-loop-holds Inv-loop μ-loop
-loop-holds c = record { within = search needs; same = refl; left = refl }
+loop-holds c = record { within = search needs; same = refl; room = refl; slot = sym (zero-mod (length (c .before .before .before .before .args .taps .now))); left = refl }
 
-rem-slot : tie.Need-rem-slot Inv-loop μ-loop
-rem-slot c = omega arith
+ready-now : {taps ring ring₀ : List Float} → Ready taps ring₀ → length ring ≡ length ring₀ → Ready taps ring
+ready-now r e = record { some = r .some; few = r .few; room = e ∙ r .room }
 
--- the slot is one of the taps'
-slot-within : (c : tie.After-slice-known2 Inv-loop μ-loop) → let taps = c .before .before .before .before .before .args .taps .now in slotOf taps (c .before .before .loop .k) < length taps
-slot-within c = mod-lt (c .before .before .loop .k) (c .before .before .before .before .before .pre .some)
+slot-within : (taps : List Float) (k s : ℕ) → 1 ≤ length taps → s ≡ slotOf taps k → s < length taps
+slot-within taps k s some e = subst (λ (m : ℕ). m < length taps) (sym e) (mod-lt k some)
 
-mul-x : tie.Need-mul-x Inv-loop μ-loop
-mul-x c = search needs
-
-slice-read-x : tie.Need-slice-read-x Inv-loop μ-loop
-slice-read-x c = search needs
-
-mul-ring : tie.Need-mul-ring Inv-loop μ-loop
-mul-ring c = omega (arith, slot-within c)
-
-element-write-ring : tie.Need-element-write-ring Inv-loop μ-loop
-element-write-ring c = omega (arith, slot-within c)
-
-ring-sum-requires : tie.Need-ring-sum-requires Inv-loop μ-loop
-ring-sum-requires c κs = (c .before .before .before .before .before .before .pre, slot-within (c .before))
-
-mul-row : tie.Need-mul-row Inv-loop μ-loop
-mul-row c = search needs
-
-slice-write-row : tie.Need-slice-write-row Inv-loop μ-loop
-slice-write-row c = search needs
+advance-requires : tie.Need-advance-requires Inv-loop μ-loop
+advance-requires c κs =
+    let at = c .before .before .before .loop in
+    let start = c .before .before .before .before .before .before .before .before in
+    let i = at .inv in
+    (ready-now (start .pre) (i .room), (i .slot, (slot-within (start .args .taps .now) (at .k) (at .s) (start .pre .some) (i .slot), c .before .before .loop-test .taken)))
 
 add-k : tie.Need-add-k Inv-loop μ-loop
-add-k c = search needs
+add-k c = omega (arith, c .before .before .before .before .advance .ensures .within)
+
+add-wrap : tie.Need-add-wrap Inv-loop μ-loop
+add-wrap c = search needs
+
+wrap-requires : tie.Need-wrap-requires Inv-loop μ-loop
+wrap-requires c κs = search needs
 
 loop-less : tie.Need-loop-less Inv-loop μ-loop
-loop-less c = omega arith
+loop-less c = search needs
 
--- one sample more, with the sum y in its place
-turn : (row₀ ring₀ taps row ring : List Float) (k : ℕ) (y : Float) → k < length row → y ≡ ringSum taps (put taps k (getD row k nan) ring) (slotOf taps k) → Inv row₀ ring₀ taps row ring k → Inv row₀ ring₀ taps (set row k y) (put taps k (getD row k nan) ring) (k + 1)
-unfolding filteredFrom
-turn row₀ ring₀ taps row ring k y h e i =
-    let ring' = put taps k (getD row k nan) ring in
-    let later = filteredFrom taps (suc k) ring' (drop (suc k) row) in
+turn : (row₀ ring₀ taps row ring row' ring' : List Float) (k s w s' : ℕ) → Advanced taps k s w ring row ring' row' → s' ≡ (s + w) % length taps → Inv row₀ ring₀ taps row ring k s → Inv row₀ ring₀ taps row' ring' (k + w) s'
+turn row₀ ring₀ taps row ring row' ring' k s w s' a e i =
     record {
-      within = rw length-set (omega arith);
-      same = length-set row k y ∙ i .same;
-      left =
-          rw add-one
-          (ap (λ (l : List Float). take (suc k) (set row k y) ++ filteredFrom taps (suc k) ring' l) (drop-set-lt (suc k) row k y (omega arith))
-          ∙ ap (λ (l : List Float). l ++ later) (take-suc-set row k y h)
-          ∙ append-snoc (take k row) y later
-          ∙ ap (λ (x : Float). take k row ++ x ∷ later) e
-          ∙ ap (λ (l : List Float). take k row ++ filteredFrom taps k ring l) (sym (drop-cons row k nan h))
-          ∙ i .left);
+      within = omega (arith, a .within, a .moved .same);
+      same = a .moved .same ∙ i .same;
+      room = a .moved .room ∙ i .room;
+      slot = e ∙ ap (λ (m : ℕ). (m + w) % length taps) (i .slot) ∙ mod-add-mod k (length taps) w;
+      left = a .moved .left ∙ i .left;
     }
 
 loop-again : tie.Need-loop-again Inv-loop μ-loop
 loop-again c =
-    let at = c .before .before .before .before .loop in
-    let a = c .before .before .before .before .before .before .before .args in
-    turn (a .row .now) (a .ring .now) (a .taps .now) (at .row) (at .ring) (at .k) (c .ring-sum .result) (c .before .before .before .loop-test .taken) (c .ring-sum .ensures) (at .inv)
+    let at = c .before .before .before .before .before .before .before .before .before .loop in
+    let a = c .before .before .before .before .before .before .before .before .before .before .before .before .before .before .args in
+    turn (a .row .now) (a .ring .now) (a .taps .now) (at .row) (at .ring) _ _ (at .k) (at .s) _ (c .wrap .result) (c .before .before .before .before .before .advance .ensures) (c .wrap .ensures) (at .inv)
 
-same-length : tie.Need-same-length Inv-loop μ-loop
-same-length c = c .before .loop .inv .same
+same-length-2 : tie.Need-same-length-2 Inv-loop μ-loop
+same-length-2 c = c .before .loop .inv .same
 
-whole : (row₀ ring₀ taps row ring : List Float) → Inv row₀ ring₀ taps row ring (length row) → row ≡ filteredFrom taps 0 ring₀ row₀
+same-length-3 : tie.Need-same-length-3 Inv-loop μ-loop
+same-length-3 c = c .before .loop .inv .room
+
+done : (row₀ ring₀ taps row ring : List Float) (k s : ℕ) → k ≡ length row → Inv row₀ ring₀ taps row ring k s → row ≡ filteredFrom taps 0 ring₀ row₀
 unfolding filteredFrom
-whole row₀ ring₀ taps row ring i =
+done row₀ ring₀ taps row ring k s e i =
     sym (append-nil row)
     ∙ ap (λ (l : List Float). l ++ []) (sym (take-length row))
     ∙ ap (λ (l : List Float). take (length row) row ++ filteredFrom taps (length row) ring l) (sym (drop-length row))
+    ∙ ap (λ (m : ℕ). whole taps m ring row) (sym e)
     ∙ i .left
 
-returns : tie.Need-returns Inv-loop μ-loop
-returns c =
+returns-2 : tie.Need-returns-2 Inv-loop μ-loop
+returns-2 c =
     let at = c .before .loop in
-    let a = c .before .before .before .before .args in
-    let end : at .k ≡ length (at .row) = omega arith in
-    whole (a .row .now) (a .ring .now) (a .taps .now) (at .row) (at .ring) (subst (Inv (a .row .now) (a .ring .now) (a .taps .now) (at .row) (at .ring)) end (at .inv))
+    let a = c .before .before .before .before .before .before .args in
+    done (a .row .now) (a .ring .now) (a .taps .now) (at .row) (at .ring) (at .k) (at .s) (omega (arith, at .inv .within)) (at .inv)
 
 pub filter-spec : {M : Type 1} → statement M
 filter-spec =
@@ -111,17 +117,17 @@ filter-spec =
     (tie.spec
     Inv-loop
     μ-loop
+    shared-slice-read-only-tap
+    only-tap-requires
+    same-length
+    returns
     loop-holds
-    rem-slot
-    mul-x
-    slice-read-x
-    mul-ring
-    element-write-ring
-    ring-sum-requires
-    mul-row
-    slice-write-row
+    advance-requires
     add-k
+    add-wrap
+    wrap-requires
     loop-less
     loop-again
-    same-length
-    returns)
+    same-length-2
+    same-length-3
+    returns-2)
