@@ -1,8 +1,3 @@
-pub mod Tap
-pub mod Slots
-pub mod Adding
-pub mod Summing
-pub mod Moving
 pub mod Ring
 pub mod Totals
 pub mod Wholes

@@ -19,7 +19,7 @@ use Rattle.naming.specs.Name.{nameByte, every, lowBytes, bytesOfWord, sixteen, 
 use Rattle.mixer.specs.Mixer.{mixedRow, raisedRow}
 use Rattle.iir.specs.Section.{ran, sectionsFrom, finiteSections}
 use Rattle.iir.specs.Filter.{given, pipelined, turns}
-use Rattle.fir.specs.Fir.{doubled, tapAt, sumTo, filteredFrom}
+use Rattle.ring.specs.Ring.{tapAt, sumTo, filteredFrom}
 use Rattle.quant.specs.declared.refusal.Answer.{Answer}
 use Rattle.quant.specs.Refusal.{codeOf}
 use Rattle.shape.specs.Hann.{hannOf}
@@ -146,7 +146,7 @@ twoEnd : Gathered → Bool
 twoEnd g = eqb (getD (g .ends .ends) 0 0) 2
 
 pub buffers : Buffers
-unfolding isOne isOneRow twoEnd isTwo mixedDown endsFit runsForFrom pulsesIn pickedFrom passed over inOne endsFrom add sub mul div rem neg lt eq le sum round ofBits ofInt ceiling cutOf exp2Of fma wrapped reduced horner cosineAt sineAt cosineOf sineOf allFinite nameByte every lowBytes bytesOfWord sixteen bytesOf pastEnd isName sameName mixedRow raisedRow ran sectionsFrom finiteSections given pipelined turns doubled tapAt sumTo filteredFrom points inDomain spanTo blendOf dAt spline-row.rowOf wholeOf splineAt valueIn valueOf pointFine values allFine indexAt partedOf shapeOf finitePoints finePoints hannOf sameNumbers sameRow placeOf envelopeOf phase0 dphase startPair rotationPair phaseNumbers judged foundFrom shapeFrom settled settledShape keptFrom summedBy joined joinedTwo packed zipped allNames doubledFrom allKnown rowFrom partOf partsAt planned onPart carried shaped ofMark allRows firstsAfter good required run.acted run.ran ranPulses ranBins sampled
+unfolding isOne isOneRow twoEnd isTwo mixedDown endsFit runsForFrom pulsesIn pickedFrom passed over inOne endsFrom add sub mul div rem neg lt eq le sum round ofBits ofInt ceiling cutOf exp2Of fma wrapped reduced horner cosineAt sineAt cosineOf sineOf allFinite nameByte every lowBytes bytesOfWord sixteen bytesOf pastEnd isName sameName mixedRow raisedRow ran sectionsFrom finiteSections given pipelined turns tapAt sumTo filteredFrom points inDomain spanTo blendOf dAt spline-row.rowOf wholeOf splineAt valueIn valueOf pointFine values allFine indexAt partedOf shapeOf finitePoints finePoints hannOf sameNumbers sameRow placeOf envelopeOf phase0 dphase startPair rotationPair phaseNumbers judged foundFrom shapeFrom settled settledShape keptFrom summedBy joined joinedTwo packed zipped allNames doubledFrom allKnown rowFrom partOf partsAt planned onPart carried shaped ofMark allRows firstsAfter good required run.acted run.ran ranPulses ranBins sampled
 buffers =
     record {
       iq-c = not-all-refused lent.iq-c _ _ (only-iq (given.stepping iq-numbers 1)) refl;
@@ -160,6 +160,8 @@ buffers =
       offset-moves = both-rows-move lent.offset-c stepLeft stepCame _ _ _ _ (only-offset (given.stepping offset-numbers 1)) (only-offset (given.stepping offset-numbers 0)) refl refl refl refl refl refl refl refl refl refl;
       iir-moves = both-rows-move lent.iir-c stepLeft stepCame _ _ _ _ (only-iir (given.stepping iir-numbers 1)) (only-iir (given.stepping iir-numbers 0)) refl refl refl refl refl refl refl refl refl refl;
       fir-moves = both-rows-move lent.fir-c stepLeft stepCame _ _ _ _ (only-fir (given.stepping fir-numbers 1)) (only-fir (given.stepping fir-numbers 0)) refl refl refl refl refl refl refl refl refl refl;
+      row-filtered = not-always lent.filter itself (λ (x : lent.Tapped). x .row) isTwo (given.tapped 1) _ (λ z p. p) refl refl refl;
+      row-moves = varies _ always itself (λ (x : lent.Tapped). length (x .row)) isTwo (given.tapped 1) (given.tapped 0) refl refl refl refl refl;
       plateau-moves = both-rows-move lent.add-plateau bothLeft _ _ _ _ _ (only-plateau (given.plateau 1)) (only-plateau (given.plateau 0)) refl refl refl refl refl refl refl refl refl refl;
       envelope-moves = both-rows-move lent.add-envelope bothLeft _ _ _ _ _ (only-envelope (given.enveloped 1)) (only-envelope (given.enveloped 0)) refl refl refl refl refl refl refl refl refl refl;
       lists-move = both-rows-move lent.mix-lists mixedLeft mixedCame _ _ _ _ (only-mixed (given.mixing 1 bin-alone pulse-alone)) (only-mixed (given.mixing 0 bin-alone pulse-alone)) refl refl refl refl refl refl refl refl refl refl;

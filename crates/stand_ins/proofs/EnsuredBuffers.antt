@@ -14,6 +14,7 @@ use Rattle.host.proofs.skierralu_iq as iq-c
 use Rattle.host.proofs.skierralu_offset as offset-c
 use Rattle.host.proofs.skierralu_iir as iir-c
 use Rattle.host.proofs.skierralu_fir as fir-c
+use Rattle.ring.proofs.filter as filter
 use Rattle.mix.proofs.add_plateau as add-plateau
 use Rattle.host.proofs.skierralu_add_plateau as add-plateau-c
 use Rattle.mix.proofs.add_envelope as add-envelope
@@ -38,6 +39,9 @@ module _ {M : Type 1} (𝓤 : URA M) (H : Heap 𝓤) (A : Atoms 𝓤) (mem : Mem
 
   pub fir-c-says : Says 𝓤 fir-c.ended (fir-c.clauses 𝓤 H A mem run) (λ κs a r e. call.fir-c .Promise (record { rows = a .0; i = now (a .1 .0); q = now (a .1 .1 .0); numbers = now (a .1 .1 .1 .0) }) (record { code = r; i = now (e .1 .0); q = now (e .1 .1 .0) }))
   fir-c-says κs a g r e = (refl, refl)
+
+  pub filter-says : Says 𝓤 filter.ended (filter.clauses 𝓤 H A mem run) (λ κs a r e. call.filter .Promise (record { row = now (a .0); taps = now (a .1 .0) }) (now (e .0)))
+  filter-says κs a g r e = (refl, refl)
 
   pub plateau-says : SaysTwo 𝓤 add-plateau.ended (add-plateau.clauses 𝓤 H A mem run)
       (λ κs a r e. call.PlateauI (record { rows = a .0; i = now (a .1 .0); q = now (a .1 .1 .0); start = a .1 .1 .1 .0; count = a .1 .1 .1 .1 .0; carrier = a .1 .1 .1 .1 .1 .0; rotation = a .1 .1 .1 .1 .1 .1 .0 }) (record { i = now (e .1 .0); q = now (e .1 .1 .0) }))

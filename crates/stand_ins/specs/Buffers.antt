@@ -11,6 +11,7 @@ use Rattle.quant.specs.declared.refusal.Answer.{Answer}
 use Rattle.quant.specs.declared.settings.Settings.{Settings}
 use Rattle.mixer.specs.Mixer.{Iq, Offset}
 use Rattle.iir.specs.Iir.{Iir}
+use Rattle.ring.specs.Ring.{filteredOrKept}
 use Rattle.fir.specs.Fir.{Fir}
 use Rattle.host.specs.Coded.{Coded}
 use Rattle.mix.specs.Part.{firstRow, secondRow}
@@ -74,6 +75,15 @@ iir-c = step-c (λ n i q m r j p. Iir n i q m r j p)
 
 abbrev pub fir-c : Call
 fir-c = step-c (λ n i q m r j p. Fir n i q m r j p)
+
+-- ---- one row through taps; nothing is refused
+
+pub record Tapped : Type 0 where
+  pub row : List Float
+  pub taps : List Float
+
+abbrev pub filter : Call
+filter = equation (λ (x : Tapped). filteredOrKept (x .taps) (x .row)) always
 
 -- ---- one pulse onto the rows; nothing is refused
 

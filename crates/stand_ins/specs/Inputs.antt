@@ -16,9 +16,9 @@ use Rattle.merge.specs.declared.taking.Taking.{Taking}
 use Rattle.sheet.specs.Sheet.{sheetText}
 use Rattle.bench_table.specs.Numbers.{over, whole}
 use Rattle.bench_table.specs.Call.{channel, clock, binWith, pulseAt, noCrosstalk}
-use Rattle.stand_ins.specs.Whole.{tablesOf, holding, rising, barrier}
+use Rattle.stand_ins.specs.Whole.{tablesOf, holding, rising, barrier, fir-numbers}
 use Rattle.stand_ins.specs.ByValue.{Pointing, Timed, Clocked, Turning, Swapping, Weighing, Curve, Bent, Pulsed, Bending, Knotted, Looking, Planning, Verdict}
-use Rattle.stand_ins.specs.Buffers.{Step, Plateau, Envelope, Part, Bends, Laying, Summing, gatheredFor, Mixing, Owning}
+use Rattle.stand_ins.specs.Buffers.{Step, Tapped, Plateau, Envelope, Part, Bends, Laying, Summing, gatheredFor, Mixing, Owning}
 use Rattle.stand_ins.specs.Texts.{Place, Field, Fields, Sheet, Printing, Answering, Behind}
 
 -- ---- by value: time 0 at rate 1 and level 0, an oscillator at rest, amplitude 1, a width of 1 at an offset of 0.5
@@ -154,6 +154,10 @@ sheet-behind = record { text = sheet-text 1; count = 4; cross = record { count =
 
 abbrev pub stepping : List Float → ℕ → Step
 stepping numbers x = record { rows = 2; i = whole x ∷ []; q = whole x ∷ []; numbers = numbers }
+
+-- one row, and a tap of 2
+abbrev pub tapped : ℕ → Tapped
+tapped x = record { row = whole x ∷ []; taps = fir-numbers }
 
 -- one sample of a carrier 1 + i; an envelope of one point, 1, over it
 abbrev pub unit : Complex

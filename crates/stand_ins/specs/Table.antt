@@ -154,6 +154,8 @@ pub record Buffers : Type 1 where
   pub offset-moves : RowsMove lent.offset-c stepLeft stepCame (given.stepping offset-numbers 1) (given.stepping offset-numbers 0)
   pub iir-moves : RowsMove lent.iir-c stepLeft stepCame (given.stepping iir-numbers 1) (given.stepping iir-numbers 0)
   pub fir-moves : RowsMove lent.fir-c stepLeft stepCame (given.stepping fir-numbers 1) (given.stepping fir-numbers 0)
+  pub row-filtered : NotAlways lent.filter itself (λ (x : lent.Tapped). x .row) (given.tapped 1)
+  pub row-moves : NotFixed lent.filter itself (λ (x : lent.Tapped). length (x .row)) (given.tapped 1) (given.tapped 0)
   pub plateau-moves : RowsMove lent.add-plateau bothLeft (one-of (λ (x : lent.Plateau). x .i) (λ (x : lent.Plateau). x .q)) (given.plateau 1) (given.plateau 0)
   pub envelope-moves : RowsMove lent.add-envelope bothLeft (one-of (λ (x : lent.Envelope). x .i) (λ (x : lent.Envelope). x .q)) (given.enveloped 1) (given.enveloped 0)
   pub lists-move : RowsMove lent.mix-lists mixedLeft mixedCame (given.mixing 1 bin-alone pulse-alone) (given.mixing 0 bin-alone pulse-alone)

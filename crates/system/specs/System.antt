@@ -14,7 +14,8 @@ use Rattle.mixer.specs.Mixer as mixer
 use Rattle.iir.specs.Section.{sectionsOf, finiteSections}
 use Rattle.iir.specs.Filter.{filtered}
 use Rattle.iir.specs.Iir.{Iir, iirFits}
-use Rattle.fir.specs.Fir.{Fir, firFits, filteredRow}
+use Rattle.ring.specs.Ring.{filteredRow}
+use Rattle.fir.specs.Fir.{Fir, firFits}
 use Rattle.executor.specs.declared.osc.OscState.{OscState}
 use Rattle.tables.specs.declared.Tables.{Tables}
 use Rattle.tables.specs.declared.Tabled.{Tabled}
