@@ -42,6 +42,7 @@ pub fn compare(report: &mut Report, scale: u64) {
         step(report, &mut rng, calls, host::fir, fir);
     }
     edges(report, &mut rng);
+    turns(report, &mut rng);
 }
 
 /// Rows of the edges' lengths: every number of taps on the short ones.
@@ -64,6 +65,20 @@ fn edges(report: &mut Report, rng: &mut Rng) {
         }
         report.add(class);
     }
+}
+
+/// Every row of up to 90 samples by every number of taps up to 40, so that eight outputs, two and one end at the ring's end and the row's in
+/// every way.
+fn turns(report: &mut Report, rng: &mut Rng) {
+    let mut class = report.class("short rows, few taps");
+    for length in 0..=90 {
+        for count in 1..=40 {
+            let taps: Vec<f64> = (0..count).map(|_| near(rng)).collect();
+            let before: Vec<f64> = (0..2 * length).map(|_| near(rng)).collect();
+            call(&mut class, 2, &before, &taps, host::fir, fir);
+        }
+    }
+    report.add(class);
 }
 
 /// Taps that leave a row much as it is, however often they are run.
