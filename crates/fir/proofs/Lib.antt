@@ -4,3 +4,4 @@ pub mod Wholes
 pub mod Convolution
 pub mod Calls
 pub mod OneTap
+pub mod Doubled
