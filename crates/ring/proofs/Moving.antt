@@ -30,12 +30,12 @@ each-two y z f e g zero h = e
 each-two y z f e g (suc zero) h = g
 each-two y z f e g (suc (suc p)) h = absurd (not-suc-le-zero (le-of-suc-le-suc (le-of-suc-le-suc h)))
 
--- eight samples, and eight numbers laid down where there were none
+-- eight samples, and eight numbers put where there were none
 eight-there : (row : List Float) (k : ℕ) → k + 8 ≤ length row → length (take 8 (drop k row)) ≡ 8
 eight-there row k h = length-take-le 8 (drop k row) (rw length-drop (omega arith))
 
-pub laid-all : (xs row : List Float) (k : ℕ) → k + 8 ≤ length row → xs ≡ sets (replicate 8 nought) 0 (take (k + 8 - k) (drop k row)) → xs ≡ take 8 (drop k row)
-laid-all xs row k h e =
+pub put-all : (xs row : List Float) (k : ℕ) → k + 8 ≤ length row → xs ≡ sets (replicate 8 nought) 0 (take (k + 8 - k) (drop k row)) → xs ≡ take 8 (drop k row)
+put-all xs row k h e =
     let eight : k + 8 - k ≡ 8 = omega arith in
     let part = take 8 (drop k row) in
     let end : drop (0 + length part) (replicate 8 nought) ≡ [] = ap (λ (n : ℕ). drop n (replicate 8 nought)) (zero-add (length part) ∙ eight-there row k h) in
@@ -45,8 +45,8 @@ laid-all xs row k h e =
     ∙ ap (λ (l : List Float). part ++ l) end
     ∙ append-nil part
 
-pub laid-eight : (xs row : List Float) (k : ℕ) → k + 8 ≤ length row → xs ≡ sets (replicate 8 nought) 0 (take (k + 8 - k) (drop k row)) → length xs ≡ 8
-laid-eight xs row k h e = ap length (laid-all xs row k h e) ∙ eight-there row k h
+pub put-count : (xs row : List Float) (k : ℕ) → k + 8 ≤ length row → xs ≡ sets (replicate 8 nought) 0 (take (k + 8 - k) (drop k row)) → length xs ≡ 8
+put-count xs row k h e = ap length (put-all xs row k h e) ∙ eight-there row k h
 
 module _ (taps : List Float) where
   -- ys are the outputs of the samples xs, whose slots are those from s on

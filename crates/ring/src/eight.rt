@@ -18,15 +18,15 @@ pub(crate) fn eight(row: &mut [f64], ring: &mut [f64], taps: &[f64], k: usize, s
     ensures { λ r. ⌜ Moved (now (taps .entry)) k 8 (now (ring .entry)) (now (row .entry)) (now (ring .exit)) (now (row .exit)) ⌝ }
 {
     let mut fresh = [0.0; 8];
-    lay(&mut fresh, 0, &row[k..k + 8]);
+    put_eight(&mut fresh, 0, &row[k..k + 8]);
     let mut sums = [0.0; 8];
     sum_all(&mut sums, &fresh, ring, taps, s);
-    lay(ring, s, &fresh);
-    lay(row, k, &sums);
+    put_eight(ring, s, &fresh);
+    put_eight(row, k, &sums);
 }
 
-// Lays eight numbers down from a place on.
-fn lay(to: &mut [f64], at: usize, from: &[f64])
+// Puts eight numbers one after the other, from a place on.
+fn put_eight(to: &mut [f64], at: usize, from: &[f64])
     requires eight { ⌜ length (now from) ≡ 8 ⌝ }
     requires room { ⌜ at + 8 ≤ length (now to) ⌝ }
     ensures { λ r. ⌜ now (to .exit) ≡ sets (now (to .entry)) at (now (from .entry)) ⌝ }
@@ -75,12 +75,12 @@ fn step(
         return 8;
     }
     let x = ring[j];
-    add_slot(sums, taps, place(s, j, taps.len()), x);
+    add_slot(sums, taps, tap_place(s, j, taps.len()), x);
     1
 }
 
 // The tap of the first output at slot j: back from slot s, and round at the first tap.
-fn place(s: usize, j: usize, n: usize) -> usize
+fn tap_place(s: usize, j: usize, n: usize) -> usize
     requires few { ⌜ n ≤ 256 ⌝ }
     requires turn { ⌜ s < n ⌝ }
     requires slot { ⌜ j < n ⌝ }

@@ -28,7 +28,7 @@ pub fn filter(row: &mut [f64], taps: &[f64])
     go_round(row, &mut ring, taps);
 }
 
-// Again and again: the k-th sample goes to slot s.
+// Through the row: the k-th sample goes to slot s.
 fn go_round(row: &mut [f64], ring: &mut [f64], taps: &[f64])
     requires { ⌜ Ready (now taps) (now ring) ⌝ }
     ensures { λ r. ⌜ now (row .exit) ≡ filteredFrom (now (taps .entry)) 0 (now (ring .entry)) (now (row .entry)) ⌝ }

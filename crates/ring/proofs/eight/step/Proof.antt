@@ -28,15 +28,15 @@ mul-x c = omega arith
 shared-slice-read-x : tie.Need-shared-slice-read-x
 shared-slice-read-x c = omega arith
 
-place-requires : tie.Need-place-requires
-place-requires c κs = search needs
+tap-place-requires : tie.Need-tap-place-requires
+tap-place-requires c κs = search needs
 
 add-slot-requires : tie.Need-add-slot-requires
 add-slot-requires c κs =
     let start = c .before .before .before .before .before .before in
     let a = start .args in
     let other = c .before .before .before .if1 .left in (
-      subst (λ (t : ℕ). t + 8 ≤ length (a .taps .now)) (sym (c .place .ensures)) (eight-taps (length (a .taps .now)) (a .s) (a .j) (start .pre .1 .0) (start .pre .1 .1 .1 .0) (start .pre .1 .1 .1 .1 .0) other),
+      subst (λ (t : ℕ). t + 8 ≤ length (a .taps .now)) (sym (c .tap-place .ensures)) (eight-taps (length (a .taps .now)) (a .s) (a .j) (start .pre .1 .0) (start .pre .1 .1 .1 .0) (start .pre .1 .1 .1 .1 .0) other),
       start .pre .1 .1 .1 .1 .1 .room,
     )
 
@@ -55,7 +55,7 @@ returns-2 c =
       within = omega (arith, start .pre .1 .1 .1 .0);
       outside = past (a .s) (a .j) (start .pre .1 .1 .1 .1 .0) other;
       summed =
-          summed-slot (a .taps .now) (a .ring .now) (a .s) (a .fresh .now) (start .pre .0) (start .pre .1 .0) (start .pre .1 .1 .0) (a .j) (c .before .place .result) (c .before .place .ensures) (start .pre .1 .1 .1 .0) (start .pre .1 .1 .1 .1 .0) other (start .pre .1 .1 .1 .1 .1) (c .add-slot .ensures);
+          summed-slot (a .taps .now) (a .ring .now) (a .s) (a .fresh .now) (start .pre .0) (start .pre .1 .0) (start .pre .1 .1 .0) (a .j) (c .before .tap-place .result) (c .before .tap-place .ensures) (start .pre .1 .1 .1 .0) (start .pre .1 .1 .1 .1 .0) other (start .pre .1 .1 .1 .1 .1) (c .add-slot .ensures);
     }
 
 pub step-spec : {M : Type 1} → statement M
@@ -66,6 +66,6 @@ step-spec =
     returns
     mul-x
     shared-slice-read-x
-    place-requires
+    tap-place-requires
     add-slot-requires
     returns-2)

@@ -35,22 +35,22 @@ unfolding sumTo
 loop-holds c = (search needs, record { first = refl; second = refl })
 
 mul-z : tie.Need-mul-z Inv-loop μ-loop Inv-loop2 μ-loop2
-mul-z c = search needs
+mul-z c = omega arith
 
 shared-slice-read-z : tie.Need-shared-slice-read-z Inv-loop μ-loop Inv-loop2 μ-loop2
-shared-slice-read-z c = search needs
+shared-slice-read-z c = omega arith
 
 sub-meet : tie.Need-sub-meet Inv-loop μ-loop Inv-loop2 μ-loop2
-sub-meet c = search needs
+sub-meet c = omega arith
 
 meet-requires : tie.Need-meet-requires Inv-loop μ-loop Inv-loop2 μ-loop2
 meet-requires c κs = search needs
 
 add-j : tie.Need-add-j Inv-loop μ-loop Inv-loop2 μ-loop2
-add-j c = search needs
+add-j c = omega arith
 
 loop-less : tie.Need-loop-less Inv-loop μ-loop Inv-loop2 μ-loop2
-loop-less c = search needs
+loop-less c = omega arith
 
 -- one slot more: before the new samples', after them; and theirs
 module _ (ring : List Float) (s : ℕ) (taps : List Float) (x y a b : Float) (j : ℕ) (ready : Ready taps ring) (turn : s + 2 ≤ length taps) where
@@ -94,34 +94,34 @@ loop-again c =
     (omega arith, before-them (a .ring .now) (a .s) (a .taps .now) (a .x) (a .y) (at .sums .first) (at .sums .second) (at .j) (start .pre .0) (start .pre .1) (a .s - at .j) (c .meet .ensures .0) (c .meet .ensures .1) (at .inv .1) (c .before .before .loop-test .taken) refl)
 
 add-old : tie.Need-add-old Inv-loop μ-loop Inv-loop2 μ-loop2
-add-old c = search needs
+add-old c = omega arith
 
 mul-old : tie.Need-mul-old Inv-loop μ-loop Inv-loop2 μ-loop2
-mul-old c = search needs
+mul-old c = omega arith
 
 shared-slice-read-old : tie.Need-shared-slice-read-old Inv-loop μ-loop Inv-loop2 μ-loop2
-shared-slice-read-old c = search needs
+shared-slice-read-old c = omega arith
 
 sub-t16 : tie.Need-sub-t16 Inv-loop μ-loop Inv-loop2 μ-loop2
-sub-t16 c = search needs
+sub-t16 c = omega arith
 
 mul-t17 : tie.Need-mul-t17 Inv-loop μ-loop Inv-loop2 μ-loop2
-mul-t17 c = search needs
+mul-t17 c = omega arith
 
 shared-slice-read-t19 : tie.Need-shared-slice-read-t19 Inv-loop μ-loop Inv-loop2 μ-loop2
-shared-slice-read-t19 c = search needs
+shared-slice-read-t19 c = omega arith
 
 shared-slice-read-t23 : tie.Need-shared-slice-read-t23 Inv-loop μ-loop Inv-loop2 μ-loop2
-shared-slice-read-t23 c = search needs
+shared-slice-read-t23 c = omega arith
 
 shared-slice-read-t28 : tie.Need-shared-slice-read-t28 Inv-loop μ-loop Inv-loop2 μ-loop2
-shared-slice-read-t28 c = search needs
+shared-slice-read-t28 c = omega arith
 
 shared-slice-read-t31 : tie.Need-shared-slice-read-t31 Inv-loop μ-loop Inv-loop2 μ-loop2
-shared-slice-read-t31 c = search needs
+shared-slice-read-t31 c = omega arith
 
 add-j-2 : tie.Need-add-j-2 Inv-loop μ-loop Inv-loop2 μ-loop2
-add-j-2 c = search needs
+add-j-2 c = omega arith
 
 loop2-holds : tie.Need-loop2-holds Inv-loop μ-loop Inv-loop2 μ-loop2
 loop2-holds c =
@@ -131,25 +131,25 @@ loop2-holds c =
     (search needs, search needs, their-own (a .ring .now) (a .s) (a .taps .now) (a .x) (a .y) (at .sums .first) (at .sums .second) (at .j) (start .pre .0) (start .pre .1) (omega arith) (at .inv .1))
 
 mul-z-2 : tie.Need-mul-z-2 Inv-loop μ-loop Inv-loop2 μ-loop2
-mul-z-2 c = search needs
+mul-z-2 c = omega arith
 
 shared-slice-read-z-2 : tie.Need-shared-slice-read-z-2 Inv-loop μ-loop Inv-loop2 μ-loop2
-shared-slice-read-z-2 c = search needs
+shared-slice-read-z-2 c = omega arith
 
 add-meet : tie.Need-add-meet Inv-loop μ-loop Inv-loop2 μ-loop2
-add-meet c = search needs
+add-meet c = omega arith
 
 sub-meet-2 : tie.Need-sub-meet-2 Inv-loop μ-loop Inv-loop2 μ-loop2
-sub-meet-2 c = search needs
+sub-meet-2 c = omega arith
 
 meet-requires-2 : tie.Need-meet-requires-2 Inv-loop μ-loop Inv-loop2 μ-loop2
 meet-requires-2 c κs = search needs
 
 add-j-3 : tie.Need-add-j-3 Inv-loop μ-loop Inv-loop2 μ-loop2
-add-j-3 c = search needs
+add-j-3 c = omega arith
 
 loop2-less : tie.Need-loop2-less Inv-loop μ-loop Inv-loop2 μ-loop2
-loop2-less c = search needs
+loop2-less c = omega arith
 
 loop2-again : tie.Need-loop2-again Inv-loop μ-loop Inv-loop2 μ-loop2
 loop2-again c =

@@ -1,4 +1,4 @@
--- `ring::eight::lay` meets its contract. The invariant: with the numbers that are still to be laid down, all is as it is to be. Assumes nothing.
+-- `ring::eight::put_eight` meets its contract. The invariant: with the numbers that are still to be put, all is as it is to be. Assumes nothing.
 use borrow.Author.Needs.{needs}
 use mathlib.Core.Path.{_≡_, refl, sym, ap, _∙_}
 use mathlib.Core.List.{List}
@@ -9,8 +9,8 @@ use native.Mathlib.Omega.{arith}
 use lib.ListN.{length, drop, getD, set, length-set, drop-of-length-le}
 use lib.Seq.{sets, drop-cons}
 use lib.Ieee.{Float, nan}
-use Rattle.ring.proofs.eight.lay.Statement.{statement}
-use Rattle.ring.proofs.eight.lay.Tie as tie
+use Rattle.ring.proofs.eight.put_eight.Statement.{statement}
+use Rattle.ring.proofs.eight.put_eight.Tie as tie
 
 record Inv (to₀ : List Float) (at : ℕ) (from to : List Float) (m : ℕ) : Type 0 where
   within : m ≤ 8
@@ -71,8 +71,8 @@ done to₀ at from to m h eight i = ap (sets to (at + m)) (sym (drop-of-length-l
 returns : tie.Need-returns Inv-loop μ-loop
 returns c = let at = c .before .loop in done _ _ _ (at .to) (at .m) (omega arith) (c .before .before .pre .0) (at .inv)
 
-pub lay-spec : {M : Type 1} → statement M
-lay-spec =
+pub put-eight-spec : {M : Type 1} → statement M
+put-eight-spec =
     tie.close
     (tie.spec
     Inv-loop
