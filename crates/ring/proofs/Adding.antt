@@ -9,7 +9,7 @@ use native.Mathlib.Omega.{arith}
 use lib.ListN.{length, getD, set, length-set}
 use lib.Seq.{getD-set-same, getD-set-other}
 use lib.Ieee.{Float, nan, binary64, add}
-use Rattle.ring.specs.Inside.{Added}
+use Rattle.ring.specs.Inside.{EachAdded}
 
 pub record Adding (product : ℕ → Float) (old : List Float) (p : ℕ) (sums : List Float) : Type 0 where
   pub within : p ≤ 8
@@ -36,5 +36,5 @@ module _ (product : ℕ → Float) (old : List Float) where
         next = λ q l. getD-set-other sums p q y nan (λ same. omega arith) ∙ a .next q (omega arith);
       }
 
-  pub adding-all : (sums : List Float) (p : ℕ) → 8 ≤ p → Adding product old p sums → Added product old sums
+  pub adding-all : (sums : List Float) (p : ℕ) → 8 ≤ p → Adding product old p sums → EachAdded product old sums
   adding-all sums p h a = record { room = a .room; each = λ q l. a .past q (omega arith) }

@@ -4,3 +4,4 @@ pub mod Adding
 pub mod Summing
 pub mod Moving
 pub mod Only
+pub mod Kept

@@ -12,13 +12,11 @@ use lib.Ieee.{Float, nan}
 use Rattle.exact.specs.Doubles.{nought}
 use Rattle.ring.specs.Ring.{ringSum, filteredFrom, slotOf}
 use Rattle.ring.specs.Inside.{output, Summed, Moved}
+use Rattle.ring.proofs.Slots.{next}
 
 -- inside one turn of the ring the slots go with the samples
 slot-on : (n k s p : ℕ) → s ≡ k % n → s + p < n → s + p ≡ (k + p) % n
 slot-on n k s p e h = sym (mod-eq-of-lt h) ∙ ap (λ (m : ℕ). (m + p) % n) e ∙ mod-add-mod k n p
-
-next : (s p : ℕ) → s + suc p ≡ suc s + p
-next s p = omega arith
 
 -- the numbers of a list that is written out
 each-one : (y : Float) (f : ℕ → Float) → y ≡ f 0 → (p : ℕ) → p < 1 → getD (y ∷ []) p nan ≡ f p

@@ -10,8 +10,18 @@ use lib.ListN.{length, take, getD, set, length-set}
 use lib.Seq.{sets, getD-set-same, getD-set-other, getD-take, length-take-le}
 use lib.Ieee.{Float, nan, binary64, add, mul}
 use Rattle.ring.specs.Ring.{tapAt, sumTo}
-use Rattle.ring.specs.Inside.{outputTo}
+use Rattle.ring.specs.Inside.{Ready, outputTo}
 use Rattle.ring.proofs.Tap.{tap-back, tap-round}
+
+-- ---- places
+pub next : (s p : ℕ) → s + suc p ≡ suc s + p
+next s p = omega arith
+
+rest : (i j t : ℕ) → t + j ≡ i → i - j ≡ t
+rest i j t e = omega arith
+
+pub ready-room : {taps ring : List Float} → Ready taps ring → length taps ≤ length ring
+ready-room ready = omega (arith, ready .few, ready .room)
 
 -- ---- numbers stored one after the other change only the places they are stored at
 pub sets-before : (xs l : List Float) (s j : ℕ) → j < s → getD (sets l s xs) j nan ≡ getD l j nan
@@ -29,11 +39,8 @@ sets-at (x ∷ xs) l s zero h g =
     ∙ sets-before xs (set l s x) (suc s) s (omega arith)
     ∙ getD-set-same l s x nan (omega arith)
 sets-at (x ∷ xs) l s (suc m) h g =
-    ap (λ (j : ℕ). getD (sets (set l s x) (suc s) xs) j nan) (on s m)
+    ap (λ (j : ℕ). getD (sets (set l s x) (suc s) xs) j nan) (next s m)
     ∙ sets-at xs (set l s x) (suc s) m (le-of-suc-le-suc h) (rw length-set (omega arith))
-  where
-    on : (s m : ℕ) → s + suc m ≡ suc s + m
-    on s m = omega arith
 
 -- ---- the product of output p at slot j
 abbrev pub product : List Float → List Float → ℕ → List Float → ℕ → ℕ → Float
@@ -56,15 +63,9 @@ module _ (taps ring : List Float) (s : ℕ) (xs : List Float) (turn : s + length
   module _ (j t : ℕ) where
     back : j ≤ s + p → t + j ≡ s + p → tapAt taps (s + p) j ≡ getD taps t nan
     back h e = tap-back taps (s + p) j (omega arith) h ∙ ap (λ (m : ℕ). getD taps m nan) (rest (s + p) j t e)
-      where
-        rest : (i j t : ℕ) → t + j ≡ i → i - j ≡ t
-        rest i j t e = omega arith
 
     round : s + p < j → j < length taps → t + j ≡ length taps + (s + p) → tapAt taps (s + p) j ≡ getD taps t nan
     round h g e = tap-round taps (s + p) j h g ∙ ap (λ (m : ℕ). getD taps m nan) (rest (length taps + (s + p)) j t e)
-      where
-        rest : (i j t : ℕ) → t + j ≡ i → i - j ≡ t
-        rest i j t e = omega arith
 
     pub at-before : j < s → t + j ≡ s + p → mul binary64 (getD taps t nan) (getD ring j nan) ≡ product taps ring s xs j p
     at-before h e = both j (back (omega arith) e) (sets-before (take (suc p) xs) ring s j h)

@@ -17,9 +17,12 @@ pub record Ready (taps ring : List Float) : Type 0 where
   pub few : length taps ≤ 256
   pub room : length ring ≡ 256
 
--- one tap
-abbrev pub scaled : Float → List Float → List Float
-scaled t row = map (λ x. add binary64 (mul binary64 t x) nought) row
+-- one tap: what becomes of a sample, and of a row
+abbrev pub byTap : Float → Float → Float
+byTap t x = add binary64 (mul binary64 t x) nought
+
+abbrev pub byOneTap : Float → List Float → List Float
+byOneTap t row = map (byTap t) row
 
 -- ---- several outputs: of the samples xs, the first of which goes to slot s, the p-th finds those up to itself in the ring
 -- its sum over the first j slots
@@ -40,7 +43,7 @@ abbrev pub crossed : List Float → ℕ → Float → Float → ℕ → Float
 crossed taps m old new p = cond (leb m p) (mul binary64 (getD taps (p - m) nan) new) (mul binary64 (getD taps (length taps - (m - p)) nan) old)
 
 -- each sum has its product added
-pub record Added (product : ℕ → Float) (sums sums' : List Float) : Type 0 where
+pub record EachAdded (product : ℕ → Float) (sums sums' : List Float) : Type 0 where
   pub room : length sums' ≡ 8
   pub each : (p : ℕ) → p < 8 → getD sums' p nan ≡ add binary64 (product p) (getD sums p nan)
 
@@ -50,7 +53,7 @@ pub record Summed (taps ring : List Float) (s : ℕ) (xs : List Float) (j : ℕ)
   pub each : (p : ℕ) → p < 8 → getD sums p nan ≡ outputTo taps ring s xs j p
 
 -- r slots more
-pub record Stepped (taps ring : List Float) (s : ℕ) (xs : List Float) (j r : ℕ) (sums : List Float) : Type 0 where
+pub record SlotsTaken (taps ring : List Float) (s : ℕ) (xs : List Float) (j r : ℕ) (sums : List Float) : Type 0 where
   pub some : 1 ≤ r
   pub within : j + r ≤ length taps
   pub outside : Outside s (j + r)
@@ -58,12 +61,12 @@ pub record Stepped (taps ring : List Float) (s : ℕ) (xs : List Float) (j r : �
 
 -- ---- the row as it is to be
 -- the samples before the k-th are filtered, and the others will be
-abbrev pub whole : List Float → ℕ → List Float → List Float → List Float
-whole taps k ring row = take k row ++ filteredFrom taps k ring (drop k row)
+abbrev pub rowToBe : List Float → ℕ → List Float → List Float → List Float
+rowToBe taps k ring row = take k row ++ filteredFrom taps k ring (drop k row)
 
 -- w samples from the k-th on are filtered
 pub record Moved (taps : List Float) (k w : ℕ) (ring row ring' row' : List Float) : Type 0 where
-  pub left : whole taps (k + w) ring' row' ≡ whole taps k ring row
+  pub left : rowToBe taps (k + w) ring' row' ≡ rowToBe taps k ring row
   pub same : length row' ≡ length row
   pub room : length ring' ≡ length ring
 

@@ -7,7 +7,7 @@ ghost use lib.Seq.{sets};
 ghost use lib.Ieee.{nan, binary64, mul};
 ghost use Rattle.exact.specs.Doubles.{nought};
 ghost use Rattle.ring.specs.Ring.{delay, slotOf};
-ghost use Rattle.ring.specs.Inside.{Ready, Outside, crossed, Added, Summed, Stepped, Moved};
+ghost use Rattle.ring.specs.Inside.{Ready, Outside, crossed, EachAdded, Summed, SlotsTaken, Moved};
 
 // Filters the eight samples from the k-th on; the first of them goes to slot s.
 pub(crate) fn eight(row: &mut [f64], ring: &mut [f64], taps: &[f64], k: usize, s: usize)
@@ -68,7 +68,7 @@ fn step(
     requires slot { ⌜ j < length (now taps) ⌝ }
     requires outside { ⌜ Outside s j ⌝ }
     requires summed { ⌜ Summed (now taps) (now ring) s (now fresh) j (now sums) ⌝ }
-    ensures { λ r. ⌜ Stepped (now (taps .entry)) (now (ring .entry)) s (now (fresh .entry)) j r (now (sums .exit)) ⌝ }
+    ensures { λ r. ⌜ SlotsTaken (now (taps .entry)) (now (ring .entry)) s (now (fresh .entry)) j r (now (sums .exit)) ⌝ }
 {
     if j == s {
         add_fresh(sums, fresh, ring, taps, s);
@@ -96,7 +96,7 @@ fn tap_place(s: usize, j: usize, n: usize) -> usize
 fn add_slot(sums: &mut [f64; 8], taps: &[f64], t: usize, x: f64)
     requires within { ⌜ t + 8 ≤ length (now taps) ⌝ }
     requires room { ⌜ length (now sums) ≡ 8 ⌝ }
-    ensures { λ r. ⌜ Added (λ p. mul binary64 (getD (now (taps .entry)) (t + p) nan) x) (now (sums .entry)) (now (sums .exit)) ⌝ }
+    ensures { λ r. ⌜ EachAdded (λ p. mul binary64 (getD (now (taps .entry)) (t + p) nan) x) (now (sums .entry)) (now (sums .exit)) ⌝ }
 {
     let mut p: usize = 0;
     while p < 8 {
@@ -127,7 +127,7 @@ fn add_crossed(sums: &mut [f64; 8], taps: &[f64], m: usize, old: f64, new: f64)
     requires slot { ⌜ m < 8 ⌝ }
     requires many { ⌜ 8 ≤ length (now taps) ⌝ }
     requires room { ⌜ length (now sums) ≡ 8 ⌝ }
-    ensures { λ r. ⌜ Added (crossed (now (taps .entry)) m old new) (now (sums .entry)) (now (sums .exit)) ⌝ }
+    ensures { λ r. ⌜ EachAdded (crossed (now (taps .entry)) m old new) (now (sums .entry)) (now (sums .exit)) ⌝ }
 {
     let mut p: usize = 0;
     while p < 8 {

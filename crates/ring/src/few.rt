@@ -6,11 +6,11 @@ ghost use Prim.Native.Nat.{_+_, _≤_, _<_};
 ghost use lib.ListN.{length, getD};
 ghost use lib.Ieee.{nan, binary64, add, mul};
 ghost use Rattle.ring.specs.Ring.{slotOf};
-ghost use Rattle.ring.specs.Inside.{Ready, scaled, output, Moved};
+ghost use Rattle.ring.specs.Inside.{Ready, byOneTap, output, Moved};
 
 // One tap has a ring of one slot, so that nothing is left of the sample before.
 pub(crate) fn only_tap(row: &mut [f64], tap: f64)
-    ensures { λ r. ⌜ now (row .exit) ≡ scaled tap (now (row .entry)) ⌝ }
+    ensures { λ r. ⌜ now (row .exit) ≡ byOneTap tap (now (row .entry)) ⌝ }
 {
     let mut k: usize = 0;
     while k < row.len() {

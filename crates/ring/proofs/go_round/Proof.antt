@@ -10,7 +10,7 @@ use lib.ListN.{length, take}
 use lib.Seq.{take-length, drop-length}
 use lib.Ieee.{Float}
 use Rattle.ring.specs.Ring.{filteredFrom, slotOf}
-use Rattle.ring.specs.Inside.{whole, Ready, Advanced}
+use Rattle.ring.specs.Inside.{rowToBe, Ready, Advanced}
 use Rattle.ring.proofs.Only.{only-of}
 use Rattle.ring.proofs.go_round.Statement.{statement}
 use Rattle.ring.proofs.go_round.Tie as tie
@@ -20,7 +20,7 @@ record Inv (row₀ ring₀ taps row ring : List Float) (k s : ℕ) : Type 0 wher
   same : length row ≡ length row₀
   room : length ring ≡ length ring₀
   slot : s ≡ slotOf taps k
-  left : whole taps k ring row ≡ filteredFrom taps 0 ring₀ row₀
+  left : rowToBe taps k ring row ≡ filteredFrom taps 0 ring₀ row₀
 
 abbrev Inv-loop : tie.InvT-loop
 Inv-loop row₀ ring₀ taps k₀ s₀ row ring k s = Inv row₀ ring₀ taps row ring k s
@@ -99,7 +99,7 @@ done row₀ ring₀ taps row ring k s e i =
     sym (append-nil row)
     ∙ ap (λ (l : List Float). l ++ []) (sym (take-length row))
     ∙ ap (λ (l : List Float). take (length row) row ++ filteredFrom taps (length row) ring l) (sym (drop-length row))
-    ∙ ap (λ (m : ℕ). whole taps m ring row) (sym e)
+    ∙ ap (λ (m : ℕ). rowToBe taps m ring row) (sym e)
     ∙ i .left
 
 returns-2 : tie.Need-returns-2 Inv-loop μ-loop

@@ -4,18 +4,14 @@ use mathlib.Core.Path.{refl}
 use Prim.Native.Nat.{_-_}
 use native.Mathlib.Omega.{arith}
 use lib.ListN.{length}
-use lib.Ieee.{Float, binary64, add, mul}
-use Rattle.exact.specs.Doubles.{nought}
 use Rattle.rows.proofs.Turns.{upto}
 use Rattle.rows.proofs.Valued.{Valued, valued-turn, valued-all}
+use Rattle.ring.specs.Inside.{byTap}
 use Rattle.ring.proofs.few.only_tap.Statement.{statement}
 use Rattle.ring.proofs.few.only_tap.Tie as tie
 
-abbrev new : Float → Float → Float
-new tap x = add binary64 (mul binary64 tap x) nought
-
 abbrev Inv-loop : tie.InvT-loop
-Inv-loop row₀ tap k₀ row k = Valued (new tap) row₀ row k
+Inv-loop row₀ tap k₀ row k = Valued (byTap tap) row₀ row k
 
 abbrev μ-loop : tie.MeasureT-loop
 μ-loop row₀ tap k₀ row k = length row₀ - k
@@ -46,7 +42,7 @@ loop-again : tie.Need-loop-again Inv-loop μ-loop
 loop-again c =
     let at = c .before .before .loop in
     let a = c .before .before .before .args in
-    valued-turn (new (a .tap)) (a .row .now) (at .row) (at .k) (omega arith) (at .inv) _ refl
+    valued-turn (byTap (a .tap)) (a .row .now) (at .row) (at .k) (omega arith) (at .inv) _ refl
 
 same-length : tie.Need-same-length Inv-loop μ-loop
 same-length c = c .before .loop .inv .same
@@ -55,7 +51,7 @@ returns : tie.Need-returns Inv-loop μ-loop
 returns c =
     let at = c .before .loop in
     let a = c .before .before .args in
-    valued-all (new (a .tap)) (a .row .now) (at .row) (at .k) (omega arith) (at .inv)
+    valued-all (byTap (a .tap)) (a .row .now) (at .row) (at .k) (omega arith) (at .inv)
 
 pub only-tap-spec : {M : Type 1} → statement M
 only-tap-spec =

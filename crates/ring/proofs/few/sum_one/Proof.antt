@@ -9,7 +9,7 @@ use lib.ListN.{length, getD}
 use lib.Ieee.{Float, nan, binary64, add, mul}
 use Rattle.ring.specs.Ring.{sumTo}
 use Rattle.ring.specs.Inside.{Ready, outputTo}
-use Rattle.ring.proofs.Slots.{more, at-before, at-new, at-after}
+use Rattle.ring.proofs.Slots.{ready-room, more, at-before, at-new, at-after}
 use Rattle.ring.proofs.few.sum_one.Statement.{statement}
 use Rattle.ring.proofs.few.sum_one.Tie as tie
 
@@ -56,7 +56,7 @@ module _ (ring : List Float) (s : ℕ) (taps : List Float) (x sum : Float) (j : 
   width = omega arith
 
   room : length taps ≤ length ring
-  room = omega (arith, ready .few, ready .room)
+  room = ready-room ready
 
   before-it : j < s → sum ≡ outputTo taps ring s (x ∷ []) j 0 → add binary64 (mul binary64 (getD taps (s - j) nan) (getD ring j nan)) sum ≡ outputTo taps ring s (x ∷ []) (j + 1) 0
   before-it h = more taps ring s (x ∷ []) width room 0 (lit< tt) j (j + 1) refl (at-before taps ring s (x ∷ []) width room 0 (lit< tt) j (s - j) h (omega arith))

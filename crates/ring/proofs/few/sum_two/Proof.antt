@@ -9,7 +9,7 @@ use lib.ListN.{length, getD}
 use lib.Ieee.{Float, nan, binary64, add, mul}
 use Rattle.ring.specs.Ring.{sumTo}
 use Rattle.ring.specs.Inside.{Ready, outputTo}
-use Rattle.ring.proofs.Slots.{more, at-before, at-new, at-old, at-after}
+use Rattle.ring.proofs.Slots.{ready-room, more, at-before, at-new, at-old, at-after}
 use Rattle.ring.proofs.few.sum_two.Statement.{statement}
 use Rattle.ring.proofs.few.sum_two.Tie as tie
 
@@ -55,7 +55,7 @@ loop-less c = omega arith
 -- one slot more: before the new samples', after them; and theirs
 module _ (ring : List Float) (s : ℕ) (taps : List Float) (x y a b : Float) (j : ℕ) (ready : Ready taps ring) (turn : s + 2 ≤ length taps) where
   room : length taps ≤ length ring
-  room = omega (arith, ready .few, ready .room)
+  room = ready-room ready
 
   module _ (t : ℕ) {a' b' : Float} (e : a' ≡ add binary64 (mul binary64 (getD taps t nan) (getD ring j nan)) a) (f : b' ≡ add binary64 (mul binary64 (getD taps (t + 1) nan) (getD ring j nan)) b) (i : Both ring s taps x y a b j) where
     before-them : j < s → t ≡ s - j → Both ring s taps x y a' b' (j + 1)
