@@ -1,3 +1,4 @@
 -- The definitions that the contracts cite.
 pub mod Digits
 pub mod Number
+pub mod Ways

@@ -1,8 +1,9 @@
-// Figures: where a text is parted, and the whole number that figures stand for.
+// Digits: where a text is parted, and the whole number that digits stand for.
 ghost use mathlib.Core.Path.{_≡_};
-ghost use Prim.Native.Nat.{_+_, _*_, _^_, _≤_, min};
+ghost use Prim.Native.Nat.{_+_, _-_, _*_, _^_, _≤_, min};
 ghost use lib.ListN.{length};
-ghost use Rattle.decimal.specs.Digits.{placeOf, digitsFrom, digitsOf};
+ghost use Rattle.decimal.specs.Digits.{placeOf, digitOf, digitsFrom, digitsOf};
+ghost use Rattle.decimal.specs.Number.{markOf};
 
 pub enum Digits {
     Value(u64),
@@ -22,6 +23,20 @@ pub fn place(text: &[u8], b: u8) -> usize
         i += 1;
     }
     i
+}
+
+// Where a letter or its capital first stands.
+pub(crate) fn mark(text: &[u8], b: u8) -> usize
+    requires { ⌜ 32 ≤ b ⌝ }
+    ensures { λ r. ⌜ r ≡ markOf b (now (text .entry)) ⌝ }
+{
+    least(place(text, b), place(text, b - 32))
+}
+
+fn least(a: usize, b: usize) -> usize
+    ensures { λ r. ⌜ r ≡ min a b ⌝ }
+{
+    if a < b { a } else { b }
 }
 
 // The place behind a byte that parts a text; at the text's end the end itself.
@@ -45,26 +60,48 @@ pub fn figures(text: &[u8]) -> Digits
     if 15 < text.len() {
         return Digits::Bad;
     }
-    follow(0, text)
+    follow(10, 0, text)
 }
 
-// The whole number that figures stand for behind those of `start`.
-pub(crate) fn follow(start: u64, text: &[u8]) -> Digits
-    requires { ⌜ (start + 1) * 10 ^ length (now text) ≤ 10 ^ 15 ⌝ }
-    ensures { λ r. ⌜ r ≡ digitsFrom start (now (text .entry)) ⌝ }
+// The whole number that digits of a base stand for behind those of `start`.
+pub(crate) fn follow(base: u64, start: u64, text: &[u8]) -> Digits
+    requires { ⌜ (1 ≤ base) × ((start + 1) * base ^ length (now text) ≤ 2 ^ 64) ⌝ }
+    ensures { λ r. ⌜ r ≡ digitsFrom base start (now (text .entry)) ⌝ }
 {
     let mut n = start;
     let mut i: usize = 0;
     while i < text.len() {
-        let b = text[i];
-        if b < b'0' {
+        let d = digit(text[i]);
+        if base <= d {
             return Digits::Bad;
         }
-        if b'9' < b {
-            return Digits::Bad;
-        }
-        n = n * 10 + (b - b'0') as u64;
+        n = n * base + d;
         i += 1;
     }
     Digits::Value(n)
+}
+
+// What a digit is worth, 16 for any other byte.
+pub(crate) fn digit(b: u8) -> u64
+    ensures { λ r. ⌜ r ≡ digitOf b ⌝ }
+{
+    if b < b'0' {
+        return 16;
+    }
+    if b <= b'9' {
+        return (b - b'0') as u64;
+    }
+    if b < b'A' {
+        return 16;
+    }
+    if b <= b'F' {
+        return (b - b'A') as u64 + 10;
+    }
+    if b < b'a' {
+        return 16;
+    }
+    if b <= b'f' {
+        return (b - b'a') as u64 + 10;
+    }
+    16
 }

@@ -3,3 +3,4 @@ pub mod digits;
 pub mod number;
 pub mod print;
 pub mod scale;
+pub mod significand;

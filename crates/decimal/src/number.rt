@@ -1,13 +1,12 @@
-// A word read as a number. The job text: "exactly 16 lowercase hex digits, the double's bits; or a decimal".
+// A word read as a number. The job text: "exactly 16 lowercase hex digits, the double's bits; or a decimal", or a hex float.
 ghost use mathlib.Core.Path.{_≡_};
 ghost use Rattle.decimal.specs.Digits.{digitsOf};
-ghost use Rattle.decimal.specs.Number.{numberOf, decimalOf, sizeOf, significandOf, powerOf, upOf, downOf};
+ghost use Rattle.decimal.specs.Number.{numberOf, decimalOf, unsignedOf, isHex, sizeOf, hexSizeOf, powerOf, powerAt, upOf, downOf};
 use super::digits::Digits;
-use super::digits::behind;
 use super::digits::figures;
-use super::digits::follow;
-use super::digits::place;
-use super::scale::scaled;
+use super::digits::mark;
+use super::scale::decimal_scaled;
+use super::scale::hex_scaled;
 use hex::Word;
 
 pub enum Number {
@@ -16,13 +15,7 @@ pub enum Number {
     Bad,
 }
 
-// The digits before the `e` as a whole number, and how many of them stand behind the point.
-pub enum Significand {
-    Whole(u64, u64),
-    Bad,
-}
-
-// What stands behind the `e`.
+// What stands behind the mark.
 pub enum Power {
     Up(u64),
     Down(u64),
@@ -50,53 +43,68 @@ fn decimal(word: &[u8]) -> Number
         return Number::Bad;
     }
     if word[0] == b'-' {
-        return sized(true, &word[1..]);
+        return unsigned(true, &word[1..]);
     }
-    sized(false, word)
+    unsigned(false, word)
 }
 
-// A decimal without its sign.
+// A number without its sign.
+fn unsigned(minus: bool, text: &[u8]) -> Number
+    ensures { λ r. ⌜ r ≡ unsignedOf minus (now (text .entry)) ⌝ }
+{
+    if is_hex(text) {
+        return hex_sized(minus, &text[2..]);
+    }
+    sized(minus, text)
+}
+
+fn is_hex(text: &[u8]) -> bool
+    ensures { λ r. ⌜ r ≡ isHex (now (text .entry)) ⌝ }
+{
+    if text.len() < 2 {
+        return false;
+    }
+    if text[0] != b'0' {
+        return false;
+    }
+    if text[1] == b'x' {
+        return true;
+    }
+    text[1] == b'X'
+}
+
 fn sized(minus: bool, text: &[u8]) -> Number
     ensures { λ r. ⌜ r ≡ sizeOf minus (now (text .entry)) ⌝ }
 {
-    let e = place(text, b'e');
-    let whole = significand_of(&text[..e]);
-    let Significand::Whole(n, down) = whole else {
-        return Number::Bad;
-    };
-    if e == text.len() {
-        return scaled(minus, n, 0, down);
-    }
-    let shift = power_of(&text[e + 1..]);
+    let e = mark(text, b'e');
+    let shift = power_at(text, e);
     match shift {
-        Power::Up(p) => scaled(minus, n, p, down),
-        Power::Down(p) => scaled(minus, n, 0, p + down),
+        Power::Up(p) => decimal_scaled(minus, &text[..e], p, 0),
+        Power::Down(p) => decimal_scaled(minus, &text[..e], 0, p),
         Power::Bad => Number::Bad,
     }
 }
 
-// Digits with at most one point, 1 to 15 of them.
-fn significand_of(text: &[u8]) -> Significand
-    ensures { λ r. ⌜ r ≡ significandOf (now (text .entry)) ⌝ }
+fn hex_sized(minus: bool, text: &[u8]) -> Number
+    ensures { λ r. ⌜ r ≡ hexSizeOf minus (now (text .entry)) ⌝ }
 {
-    let point = place(text, b'.');
-    let next = behind(point, text.len());
-    let count = point + (text.len() - next);
-    if count < 1 {
-        return Significand::Bad;
+    let e = mark(text, b'p');
+    let shift = power_at(text, e);
+    match shift {
+        Power::Up(p) => hex_scaled(minus, &text[..e], p, 0),
+        Power::Down(p) => hex_scaled(minus, &text[..e], 0, p),
+        Power::Bad => Number::Bad,
     }
-    if 15 < count {
-        return Significand::Bad;
+}
+
+// Behind the mark at a place.
+fn power_at(text: &[u8], p: usize) -> Power
+    ensures { λ r. ⌜ r ≡ powerAt p (now (text .entry)) ⌝ }
+{
+    if text.len() <= p {
+        return Power::Up(0);
     }
-    let whole = follow(0, &text[..point]);
-    let Digits::Value(n) = whole else {
-        return Significand::Bad;
-    };
-    let all = follow(n, &text[next..]);
-    let Digits::Value(m) = all else {
-        return Significand::Bad;
-    };
-    Significand::Whole(m, (text.len() - next) as u64)
+    power_of(&text[p + 1..])
 }
 
 // A sign, which may be missing, and 1 to 15 digits.

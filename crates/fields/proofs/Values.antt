@@ -114,8 +114,8 @@ module _ (text : List ℕ) (n : ℕ) (few : length text ≤ 9) (is : digitsOf te
           let z : _≡_ {A = ℕ} 0 1 = cc in
           omega arith
       by (suc k) e =
-          let from : digitsFrom 0 text ≡ digits.Value n = sym (digits-are text (omega arith) (omega arith)) ∙ is in
-          let below : n + 1 ≤ 10 ^ length text = rw (one-mul (10 ^ length text)) at (digits-most 0 n text from) in
+          let from : digitsFrom 10 0 text ≡ digits.Value n = sym (digits-are text (omega arith) (omega arith)) ∙ is in
+          let below : n + 1 ≤ 10 ^ length text = rw (one-mul (10 ^ length text)) at (digits-most 10 0 n text from) in
           let most : 10 ^ length text ≤ 10 ^ 9 = pow-le-pow-right (lit< tt) {j = 9} few in
           omega arith
 

@@ -8,6 +8,27 @@ ghost use Rattle.fma.specs.Pack.{quarter, Nearest, Normal, Kept, Pattern
 use super::significand::Scaled;
 use super::sticky;
 
+// A number of two words, times 2^x / 2^2208, rounded once. Where the upper word is 0, nothing may have been lost before.
+pub fn nearest_double(negative: bool, h: u64, l: u64, x: u16) -> f64
+    ensures { λ r. ⌜ ((s : ℕ) → Whole (words h l) x s → r ≡ round binary64 negative s (2 ^ 2208)) ⌝ }
+{
+    if h == 0 {
+        if l == 0 {
+            return nought(negative);
+        }
+    }
+    finish(negative, h, l, x as u64 + 64)
+}
+
+fn nought(negative: bool) -> f64
+    ensures { λ r. ⌜ r ≡ round binary64 negative 0 1 ⌝ }
+{
+    if negative {
+        return -0.0;
+    }
+    0.0
+}
+
 // Brought to one word with its top bit set, by the count of its leading zeros.
 fn normal(h: u64, l: u64, e: u64) -> Scaled
     requires { ⌜ (0 < words h l) × (64 ≤ e) × (e < 2 ^ 32) ⌝ }

@@ -1,16 +1,19 @@
 -- Any two results that a contract allows for one input are equal, buffers too. A contract that is one equation with a definition is `one` by
 -- itself; here are the others, each a record of several equations. Assumes nothing.
-use Prim.Native.Nat.{ℕ}
+use Prim.Native.Nat.{ℕ, _*_, _^_}
 use mathlib.Core.Path.{_≡_, refl, sym, ap, _∙_}
 use mathlib.Core.Bool.{Bool, true, false, true≢false}
 use mathlib.Core.List.{List, _++_}
+use mathlib.Core.Logic.{inl}
 use lib.ListN.{length, take, drop}
-use lib.Ieee.{Float}
+use lib.Ieee.{Float, binary64, round}
 use Rattle.naming.specs.declared.Name.{Name}
 use Rattle.quant.specs.declared.refusal.Answer.{Answer}
 use Rattle.quant.specs.Refusal.{codeOf}
 use Rattle.naming.specs.Name as Name
 use Rattle.hex.specs.Hex as Hex
+use Rattle.fma.specs.Words.{words}
+use Rattle.fma.specs.Sticky.{Whole}
 use Rattle.trig.specs.Trig.{Both}
 use Rattle.mixer.specs.Mixer.{Iq, Offset}
 use Rattle.iir.specs.Iir.{Iir}
@@ -30,6 +33,16 @@ use Rattle.numbers.specs.Numbers.{Stored, listed}
 
 pub one : {A : Type 0} {x y z : A} → x ≡ z → y ≡ z → x ≡ y
 one p q = p ∙ sym q
+
+-- ---- two words rounded: they stand for themselves, at least
+
+abbrev Rounded : Bool → ℕ → ℕ → ℕ → Float → Type 0
+Rounded negative h l x r = (s : ℕ) → Whole (words h l) x s → r ≡ round binary64 negative s (2 ^ 2208)
+
+pub one-double : (negative : Bool) (h l x : ℕ) (r s : Float) → Rounded negative h l x r → Rounded negative h l x s → r ≡ s
+one-double negative h l x r s a b =
+    let self : Whole (words h l) x (words h l * 2 ^ x) = record { sticky = inl refl; clean = λ n. refl } in
+    one (a (words h l * 2 ^ x) self) (b (words h l * 2 ^ x) self)
 
 -- ---- the steps: the answer and both rows
 

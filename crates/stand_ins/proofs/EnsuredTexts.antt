@@ -26,6 +26,7 @@ use Rattle.fields.proofs.pair.«pair_in» as pair-in
 use Rattle.fields.proofs.words.value_at as value-at
 use Rattle.fields.proofs.words.count as words-count
 use Rattle.job.proofs.line.read as job-read
+use Rattle.job.proofs.list.all_numbers as all-numbers
 use Rattle.job.proofs.turn.turn_by as turn-by
 use Rattle.numbers.proofs.numbers as numbers
 use Rattle.sheet.proofs.read.read as sheet-read
@@ -89,6 +90,9 @@ module _ {M : Type 1} (𝓤 : URA M) (H : Heap 𝓤) (A : Atoms 𝓤) (mem : Mem
 
   pub job-read-says : Says 𝓤 job-read.ended (job-read.clauses 𝓤 H A mem run) (λ κs a r e. call.job-read .Promise (now (a .0)) r)
   job-read-says κs a g r e = (refl, refl)
+
+  pub all-numbers-says : Says 𝓤 all-numbers.ended (all-numbers.clauses 𝓤 H A mem run) (λ κs a r e. call.all-numbers .Promise (record { text = now (a .0); at = a .1 .0 }) r)
+  all-numbers-says κs a g r e = (refl, refl)
 
   pub turn-by-says : Says 𝓤 turn-by.ended (turn-by.clauses 𝓤 H A mem run) (λ κs a r e. call.turn-by .Promise (record { line = now (a .0); k = 0; key = now (a .1 .0) }) r)
   turn-by-says κs a g r e = (refl, refl)

@@ -18,6 +18,7 @@ use Rattle.fields.specs.declared.words.Span.the-variants as span
 use Rattle.fields.specs.Words.{wordsOf, isWord, Found}
 use Rattle.fields.specs.Value as value
 use Rattle.job.specs.Line as line
+use Rattle.job.specs.List as list
 use Rattle.job.specs.Turn.{turnOf}
 use Rattle.numbers.specs.Numbers.{numbersOf, listed}
 use Rattle.quant.specs.declared.refusal.Answer.{Answer}
@@ -108,7 +109,7 @@ isShort (Bytes n) = eqb n 50
 isShort (Refused r line) = false
 
 pub texts : Texts
-unfolding isOne isShort ofBits round toBits hex.digitValue hex.digitOf hex.allDigits hex.number hex.digits hex.room hex.field hex.wordAt hex.written numberAt name.nameByte name.every name.accepted name.wordOf name.lowBytes name.bytesOfWord name.sixteen name.bytesOf name.pastEnd name.named name.namingOf name.isName name.inPlace name.sameName name.writable name.written number.parted number.significandOf number.powerOf number.scaledBy number.sizeOf number.decimalOf number.numberOf digits.placeOf digits.isFigure digits.digitsFrom digits.digitsOf value.numberField value.wholeField value.pairField value.nameOf value.nameField value.shapeField value.flagOf value.flagField value.signed value.levelOf value.levelField wordsOf isWord line.tablesOf line.channelOf line.shapeOf line.rowsOf line.sampleOf line.actionOf line.settingOf line.lineOf turnOf numbersOf sheet.channelsKey sheet.columnKey sheet.rowKey sheet.factorKey sheet.onto sheet.cut sheet.behind sheet.isIn sheet.position sheet.nothing sheet.countStep sheet.columnNamed sheet.columnStep sheet.rowNamed sheet.rowStep sheet.factorBits sheet.factorStep sheet.step sheet.complete sheet.onward sheet.readFrom sheet.outcome sheet.answerOf sheet.blank sheet.eight sheet.namesOf sheet.doubles sheet.under sheet.rowsFor sheet.matrixOf sheet.rowNames sheet.goodNames sheet.single sheet.among sheet.finiteBits sheet.fullBlocks sheet.countText sheet.columnsText sheet.factorsText sheet.blocksText sheet.sheetText sheet.patterns sheet.blocksOf sheet.sheetOf sheet.allFinite sheet.printFits sheet.columnsJudged sheet.factorAt sheet.factorsJudged sheet.printedBy sheet.printedOf sheet.bytesAfter answer.decimalOf answer.decimal answer.refusedKey answer.lineKey answer.refusedText answer.zeros answer.textFor answer.answerText answer.answerPrints answer.answerLeft linesOf first.linesBytes first.firstOf inset.takenOf inset.factorsAfter
+unfolding isOne isShort ofBits round toBits hex.digitValue hex.digitOf hex.allDigits hex.number hex.digits hex.room hex.field hex.wordAt hex.written numberAt name.nameByte name.every name.accepted name.wordOf name.lowBytes name.bytesOfWord name.sixteen name.bytesOf name.pastEnd name.named name.namingOf name.isName name.inPlace name.sameName name.writable name.written number.parted number.significandOf number.fewOf number.powerOf number.powerAt number.scaledBy number.sizeOf number.hexSizeOf number.isHex number.unsignedOf number.decimalOf number.numberOf digits.placeOf digits.digitOf digits.digitsFrom digits.digitsOf value.numberField value.wholeField value.pairField value.nameOf value.nameField value.shapeField value.flagOf value.flagField value.signed value.levelOf value.levelField wordsOf isWord line.tablesOf line.channelOf line.shapeOf line.rowsOf line.sampleOf line.actionOf line.settingOf line.lineOf list.allNumbers list.numbersFrom turnOf numbersOf sheet.channelsKey sheet.columnKey sheet.rowKey sheet.factorKey sheet.onto sheet.cut sheet.behind sheet.isIn sheet.position sheet.nothing sheet.countStep sheet.columnNamed sheet.columnStep sheet.rowNamed sheet.rowStep sheet.factorBits sheet.factorStep sheet.step sheet.complete sheet.onward sheet.readFrom sheet.outcome sheet.answerOf sheet.blank sheet.eight sheet.namesOf sheet.doubles sheet.under sheet.rowsFor sheet.matrixOf sheet.rowNames sheet.goodNames sheet.single sheet.among sheet.finiteBits sheet.fullBlocks sheet.countText sheet.columnsText sheet.factorsText sheet.blocksText sheet.sheetText sheet.patterns sheet.blocksOf sheet.sheetOf sheet.allFinite sheet.printFits sheet.columnsJudged sheet.factorAt sheet.factorsJudged sheet.printedBy sheet.printedOf sheet.bytesAfter answer.decimalOf answer.decimal answer.refusedKey answer.lineKey answer.refusedText answer.zeros answer.textFor answer.answerText answer.answerPrints answer.answerLeft linesOf first.linesBytes first.firstOf inset.takenOf inset.factorsAfter
 texts =
     record {
       hex-read = accepts _ text.isWord (given.first given.sixteen-digits) refl;
@@ -128,6 +129,7 @@ texts =
       pair-in = accepts _ text.isBoth given.bare-two refl;
       value-at = λ Asked f keeps asked refuses. true≢false (sym (stands _ (keeps _ asked)) ∙ refuses _ asked);
       job-read = accepts _ text.isLine given.run-text refl;
+      all-numbers = accepts _ (λ b. b) (given.first given.one-text) refl;
       turn-by = accepts _ text.isTurn given.turn-line refl;
       sheet-read = not-all-refused text.sheet-read _ _ (only-read 1) refl;
       sheet-print = not-all-refused text.sheet-print _ _ (only-print 1) refl;

@@ -92,6 +92,7 @@ pub record Texts : Type 1 where
   pub pair-in : NotAllRefused text.pair-in given.bare-two
   pub value-at : NotAllRefused text.value-at (given.bare given.q-text)
   pub job-read : NotAllRefused text.job-read given.run-text
+  pub all-numbers : NotAllRefused text.all-numbers (given.first given.one-text)
   pub turn-by : NotAllRefused text.turn-by given.turn-line
   pub sheet-read : NotAllRefused text.sheet-read (given.sheet 1)
   pub sheet-print : NotAllRefused text.sheet-print (given.printing 1)

@@ -38,6 +38,7 @@ use Rattle.job.specs.declared.line.Line.the-variants as line
 use Rattle.job.specs.declared.turn.Turn.{Turn}
 use Rattle.job.specs.declared.turn.Turn.the-variants as turn
 use Rattle.job.specs.Line.{lineOf}
+use Rattle.job.specs.List.{numbersFrom}
 use Rattle.job.specs.Turn.{turnOf}
 use Rattle.numbers.specs.Numbers.{Stored}
 use Rattle.sheet.specs.declared.read.Reading.{Reading}
@@ -200,6 +201,10 @@ isLine line.Print = true
 
 abbrev pub job-read : Call
 job-read = equation lineOf isLine
+
+-- whether every word from one on is a number: of no line, a program would refuse all numbers
+abbrev pub all-numbers : Call
+all-numbers = equation (λ (x : Place). numbersFrom (x .at) (wordsOf (x .text))) (λ b. b)
 
 abbrev pub isTurn : Turn → Bool
 isTurn (turn.By n x start span) = true

@@ -1,7 +1,9 @@
 -- `decimal::digits::figures` meets its contract. The count decides; else the figures are followed from 0. Assumes nothing.
 use mathlib.Core.Path.{sym, _∙_}
+use Prim.Native.Nat.{_^_}
 use native.Mathlib.Omega.{arith}
-use Rattle.decimal.proofs.Reading.{digits-none, digits-many, digits-are, few}
+use lib.Dec.{lit≤}
+use Rattle.decimal.proofs.Reading.{digits-none, digits-many, digits-are, few-fit}
 use Rattle.decimal.proofs.digits.figures.Statement.{statement}
 use Rattle.decimal.proofs.digits.figures.Tie as tie
 
@@ -12,7 +14,7 @@ returns-2 : tie.Need-returns-2
 returns-2 c = sym (digits-many _ (omega arith))
 
 follow-requires : tie.Need-follow-requires
-follow-requires c κs = few _ (omega arith)
+follow-requires c κs = (lit≤ tt, few-fit 10 _ 15 (2 ^ 64) (lit≤ tt) (omega arith) (lit≤ tt))
 
 returns-3 : tie.Need-returns-3
 returns-3 c = c .follow .ensures ∙ sym (digits-are _ (omega arith) (omega arith))

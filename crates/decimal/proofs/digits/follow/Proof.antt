@@ -1,52 +1,69 @@
--- `decimal::digits::follow` meets its contract. The invariant: what is read from here on is what was to be read, and there is room for the figures left. Assumes nothing.
-use Prim.Native.Nat.{suc, _+_, _-_, _*_, _^_, _≤_}
+-- `decimal::digits::follow` meets its contract. The invariant: what is read from here on is what was to be read, and there is room for the digits left. Assumes nothing.
+use Prim.Native.Nat.{ℕ, suc, _+_, _-_, _*_, _^_, _≤_, _<_}
 use mathlib.Core.Path.{_≡_, refl, sym, _∙_}
-use native.Mathlib.Omega.{arith}
-use native.Mathlib.Numerals.{add-one}
-use borrow.Author.Needs.{needs}
 use native.Mathlib.Nat.{sub-zero}
+use native.Mathlib.Numerals.{add-one}
+use native.Mathlib.Omega.{arith}
+use borrow.Author.Needs.{needs}
 use lib.ListN.{length, getD, drop}
-use Rattle.decimal.specs.Digits.{digitsFrom}
-use Rattle.decimal.proofs.Figures.{figure, too-low, too-high, no-more, room-now, room-next}
+use Rattle.decimal.specs.Digits.{digitOf, digitsFrom}
+use Rattle.decimal.proofs.Figures.{one-more, no-digit, no-more, room-now, room-next}
 use Rattle.decimal.proofs.digits.follow.Statement.{statement}
 use Rattle.decimal.proofs.digits.follow.Tie as tie
 
 abbrev Inv-loop : tie.InvT-loop
-Inv-loop start text n₀ i₀ n i = (i ≤ length text) × ((n + 1) * 10 ^ (length text - i) ≤ 10 ^ 15) × (digitsFrom n (drop i text) ≡ digitsFrom start text)
+Inv-loop base start text n₀ i₀ n i = (i ≤ length text) × ((n + 1) * base ^ (length text - i) ≤ 2 ^ 64) × (digitsFrom base n (drop i text) ≡ digitsFrom base start text)
 
 abbrev μ-loop : tie.MeasureT-loop
-μ-loop start text n₀ i₀ n i = length text - i
+μ-loop base start text n₀ i₀ n i = length text - i
 
 loop-holds : tie.Need-loop-holds Inv-loop μ-loop
-loop-holds c = (omega arith, simp sub-zero (c .pre), refl)
+loop-holds c = (omega arith, simp sub-zero (c .before .pre .1), refl)
 
-shared-slice-read-b : tie.Need-shared-slice-read-b Inv-loop μ-loop
-shared-slice-read-b c = search needs
+shared-slice-read-digit : tie.Need-shared-slice-read-digit Inv-loop μ-loop
+shared-slice-read-digit c = search needs
+
+digit-requires : tie.Need-digit-requires Inv-loop μ-loop
+digit-requires c κs = search needs
 
 returns : tie.Need-returns Inv-loop μ-loop
 returns c =
-    let at = c .before .before .before .loop in
-    let text = c .before .before .before .before .args .text .now in
-    sym (sym (at .inv .2) ∙ too-low (at .n) text (at .i) (omega arith) (c .if1 .taken))
+    let d = c .before in
+    let at = d .before .before .before .loop in
+    let args = d .before .before .before .before .before .args in
+    let no : args .base ≤ digitOf (getD (args .text .now) (at .i) 0) = omega (arith, c .if1 .taken, d .digit .ensures) in
+    sym (sym (at .inv .2) ∙ no-digit (args .base) (at .n) (args .text .now) (at .i) (omega arith) no)
 
-returns-2 : tie.Need-returns-2 Inv-loop μ-loop
-returns-2 c =
-    let at = c .before .before .before .before .loop in
-    let text = c .before .before .before .before .before .args .text .now in
-    sym (sym (at .inv .2) ∙ too-high (at .n) text (at .i) (omega arith) (c .if2 .taken))
+-- a digit more has room
+module _ (c : tie.Else1 Inv-loop μ-loop) where
+  abbrev start : tie.Start Inv-loop μ-loop
+  start = c .before .before .before .before .before .before
+
+  abbrev at : tie.At-loop Inv-loop μ-loop
+  at = c .before .before .before .before
+
+  abbrev b : ℕ
+  b = digitOf (getD (start .args .text .now) (at .loop .i) 0)
+
+  abbrev left : ℕ
+  left = length (start .args .text .now) - (at .loop .i + 1)
+
+  small : b < start .args .base
+  small = omega (arith, c .if1 .left, c .before .digit .ensures)
+
+  room : (at .loop .n * start .args .base + b + 1) * start .args .base ^ left ≤ 2 ^ 64
+  room =
+      let one : length (start .args .text .now) - at .loop .i ≡ suc left = omega arith in
+      room-next (start .args .base) (at .loop .n) left b (2 ^ 64) small (rw one at (at .loop .inv .1))
+
+  next : at .loop .n * start .args .base + b < 2 ^ 64
+  next = room-now (start .args .base) (at .loop .n * start .args .base + b) left (2 ^ 64) (start .pre .0) room
 
 mul-n : tie.Need-mul-n Inv-loop μ-loop
-mul-n c =
-    let at = c .before .before .before .before .loop in
-    omega (arith, room-now (at .n) _ (at .inv .1))
-
-cast-n : tie.Need-cast-n Inv-loop μ-loop
-cast-n c = search needs
+mul-n c = omega (arith, next c)
 
 add-n : tie.Need-add-n Inv-loop μ-loop
-add-n c =
-    let at = c .before .before .before .before .loop in
-    omega (arith, room-now (at .n) _ (at .inv .1))
+add-n c = omega (arith, next c, c .before .digit .ensures)
 
 add-i : tie.Need-add-i Inv-loop μ-loop
 add-i c = search needs
@@ -56,21 +73,21 @@ loop-less c = search needs
 
 loop-again : tie.Need-loop-again Inv-loop μ-loop
 loop-again c =
-    let at = c .before .before .before .before .loop in
-    let text = c .before .before .before .before .before .args .text .now in
-    let b = getD text (at .i) 0 in
-    let left : length text - at .i ≡ suc (length text - (at .i + 1)) = omega arith in
-    let room : (at .n + 1) * 10 ^ suc (length text - (at .i + 1)) ≤ 10 ^ 15 = rw left at (at .inv .1) in (
+    let l = at c .loop in
+    let args = start c .args in (
       omega arith,
-      room-next (at .n) (length text - (at .i + 1)) (b - 48) (omega arith) room,
-      rw add-one (sym (figure (at .n) text (at .i) (omega arith) (omega arith) (omega arith)) ∙ at .inv .2),
+      named (c .before .digit .result) (b c) (l .n * args .base) (args .base ^ left c) (c .before .digit .ensures) (room c),
+      rw (add-one (l .i), c .before .digit .ensures) (sym (one-more (args .base) (l .n) (args .text .now) (l .i) (omega arith) (small c)) ∙ l .inv .2),
     )
+  where
+    named : (x y m w : ℕ) → x ≡ y → (m + y + 1) * w ≤ 2 ^ 64 → (m + x + 1) * w ≤ 2 ^ 64
+    named x y m w e h = rw e h
 
-returns-3 : tie.Need-returns-3 Inv-loop μ-loop
-returns-3 c =
-    let at = c .before .loop in
-    let text = c .before .before .args .text .now in
-    sym (sym (at .inv .2) ∙ no-more (at .n) text (at .i) (omega arith))
+returns-2 : tie.Need-returns-2 Inv-loop μ-loop
+returns-2 c =
+    let l = c .before .loop in
+    let args = c .before .before .before .args in
+    sym (sym (l .inv .2) ∙ no-more (args .base) (l .n) (args .text .now) (l .i) (omega arith))
 
 pub follow-spec : {M : Type 1} → statement M
 follow-spec =
@@ -79,13 +96,12 @@ follow-spec =
     Inv-loop
     μ-loop
     loop-holds
-    shared-slice-read-b
+    shared-slice-read-digit
+    digit-requires
     returns
-    returns-2
     mul-n
-    cast-n
     add-n
     add-i
     loop-less
     loop-again
-    returns-3)
+    returns-2)

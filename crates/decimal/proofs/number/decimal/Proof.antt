@@ -13,30 +13,30 @@ returns c = sym (decimal-none _ (omega arith))
 shared-slice-read-if2 : tie.Need-shared-slice-read-if2
 shared-slice-read-if2 c = search needs
 
-sub-sized : tie.Need-sub-sized
-sub-sized c = search needs
+sub-unsigned : tie.Need-sub-unsigned
+sub-unsigned c = search needs
 
-part-sized-start : tie.Need-part-sized-start
-part-sized-start c = search needs
+part-unsigned-start : tie.Need-part-unsigned-start
+part-unsigned-start c = search needs
 
-part-sized-end : tie.Need-part-sized-end
-part-sized-end c = search needs
+part-unsigned-end : tie.Need-part-unsigned-end
+part-unsigned-end c = search needs
 
-sized-requires : tie.Need-sized-requires
-sized-requires c κs = search needs
+unsigned-requires : tie.Need-unsigned-requires
+unsigned-requires c κs = search needs
 
 returns-2 : tie.Need-returns-2
 returns-2 c =
     let word = c .before .before .before .before .before .before .args .word .now in
-    rw (decimal-minus word (omega arith) (c .before .before .if2 .taken), ← rest-part word 1) (c .sized .ensures)
+    rw (decimal-minus word (omega arith) (c .before .before .if2 .taken), ← rest-part word 1) (c .unsigned .ensures)
 
-sized-requires-2 : tie.Need-sized-requires-2
-sized-requires-2 c κs = search needs
+unsigned-requires-2 : tie.Need-unsigned-requires-2
+unsigned-requires-2 c κs = search needs
 
 returns-3 : tie.Need-returns-3
 returns-3 c =
     let word = c .before .before .before .before .before .args .word .now in
-    rw (decimal-bare word (omega arith) (c .before .if2 .left)) (c .sized2 .ensures)
+    rw (decimal-bare word (omega arith) (c .before .if2 .left)) (c .unsigned2 .ensures)
 
 pub decimal-spec : {M : Type 1} → statement M
 decimal-spec =
@@ -44,10 +44,10 @@ decimal-spec =
     (tie.spec
     returns
     shared-slice-read-if2
-    sub-sized
-    part-sized-start
-    part-sized-end
-    sized-requires
+    sub-unsigned
+    part-unsigned-start
+    part-unsigned-end
+    unsigned-requires
     returns-2
-    sized-requires-2
+    unsigned-requires-2
     returns-3)
