@@ -4,119 +4,142 @@ ghost use lib.ListN.{length};
 use super::state::least;
 use decimal::print::pattern;
 use decimal::print::put_double;
+use fields::words::is_word;
 use job_sheet::Inset;
 use naming::Name;
+use quant::judge::both;
 use quant::refusal::Answer;
 use quant::refusal::number;
 use tables::Channel;
 use tables::Tables;
 
-pub(crate) fn explain() {
-    io::write_all(
-        1,
-        b"bench reads a job on standard input and answers each of its lines: ok COUNT, refused NUMBER PLACE or syntax LINE.\n",
-    );
-    io::write_all(1, b"A job, for a start:\n\n");
-    io::write_all(
-        1,
-        b"channel q2 base=4.5e9 delta=0 phase=0\nshape hann hann\n",
-    );
-    io::write_all(
-        1,
-        b"play ch=q2 shape=hann amp=0.5 width=2e-8 plateau=0 drag=0 freq=0 phase=0 flex=0 start=0 span=2e-8\n",
-    );
-    io::write_all(
-        1,
-        b"run\nrows 2 64\nsample q2 rate=2e9 delay=0 level=0\nprint\n\n",
-    );
-    io::write_all(
-        1,
-        b"docs/JOBS.md has every line and what it does; jobs/ has examples.\n",
-    );
+// What a line is answered.
+pub enum Reply {
+    // Nothing, or not yet.
+    Nothing,
+    Syntax,
+    Of(Answer),
+    // What stands before the answer was not written.
+    Lost,
 }
 
-pub(crate) fn show_answer(a: Answer) {
+// Whether a line's reply was written.
+pub(crate) fn show_reply(r: Reply, line: usize) -> bool {
+    match r {
+        Reply::Nothing => true,
+        Reply::Syntax => show_syntax(line),
+        Reply::Of(answer) => show_answer(answer),
+        Reply::Lost => false,
+    }
+}
+
+// With the reason that the system gives, of the write that failed.
+pub(crate) fn lost() {
+    os::fail(b"bench: the answers cannot be written");
+}
+
+fn show_answer(a: Answer) -> bool {
     match a {
-        Answer::Done(count) => {
-            io::write_all(1, b"ok ");
-            end_with(count);
-        }
+        Answer::Done(count) => both(io::write_all(1, b"ok "), end_with(count)),
         Answer::Refused(why, place) => {
-            io::write_all(1, b"refused ");
-            io::print_decimal(1, number(why) as u64);
-            io::write_all(1, b" ");
-            end_with(place);
+            let begun = io::write_all(1, b"refused ");
+            let numbered = io::print_decimal(1, number(why) as u64);
+            let parted = io::write_all(1, b" ");
+            both(both(begun, numbered), both(parted, end_with(place)))
         }
     }
 }
 
-pub(crate) fn wrong_size() {
-    io::write_all(1, b"refused 13 0\n");
+pub(crate) fn wrong_size() -> bool {
+    io::write_all(1, b"refused 13 0\n")
 }
 
-pub(crate) fn show_syntax(line: usize) {
-    io::write_all(1, b"syntax ");
-    end_with(line);
+fn show_syntax(line: usize) -> bool {
+    both(io::write_all(1, b"syntax "), end_with(line))
 }
 
-// A sheet's answer; with fewer lines behind it than it says, the line is no line of a job.
-pub(crate) fn show_inset(inset: Inset, line: usize) {
-    match inset {
-        Inset::Sheet(answer) => show_answer(answer),
-        Inset::Fewer => show_syntax(line),
+// The reply to a line is that of the state or, where it has none, of the rows. Of a line of a sheet it is the sheet's, and `syntax` where it has none:
+// fewer lines are behind it than it says, or it cannot be read itself.
+pub(crate) fn reply_with(line: &[u8], first: Reply, inset: Inset, second: Reply) -> Reply {
+    if is_word(line, 0, b"sheet") {
+        return match inset {
+            Inset::Sheet(answer) => Reply::Of(answer),
+            Inset::Fewer => Reply::Syntax,
+        };
+    }
+    match first {
+        Reply::Nothing => second,
+        _ => first,
     }
 }
 
-fn end_with(n: usize) {
-    io::print_decimal(1, n as u64);
-    io::write_all(1, b"\n");
+fn end_with(n: usize) -> bool {
+    both(io::print_decimal(1, n as u64), io::write_all(1, b"\n"))
+}
+
+fn reply_if(written: bool) -> Reply {
+    if written {
+        return Reply::Of(Answer::Done(0));
+    }
+    Reply::Lost
 }
 
 // The channels in order of first adding.
-pub(crate) fn show_states(t: Tables) {
+pub(crate) fn show_states(t: Tables) -> Reply {
     let count = least(t.count, 8);
+    let mut written = true;
     let mut k: usize = 0;
     while k < count {
-        show_state(t.channels[k]);
+        written = both(show_state(t.channels[k]), written);
         k += 1;
     }
-    show_answer(Answer::Done(0));
+    reply_if(written)
 }
 
-fn show_state(c: Channel) {
+fn show_state(c: Channel) -> bool {
     let osc = c.osc;
-    io::write_all(1, b"state ");
-    show_name(c.name);
-    show_double(osc.base.0);
-    show_double(osc.delta.0);
-    show_double(osc.phase.0);
-    io::write_all(1, b"\n");
+    let begun = io::write_all(1, b"state ");
+    let named = show_name(c.name);
+    let numbers = both(
+        both(show_double(osc.base.0), show_double(osc.delta.0)),
+        show_double(osc.phase.0),
+    );
+    let ended = io::write_all(1, b"\n");
+    both(both(begun, named), both(numbers, ended))
 }
 
-fn show_name(n: Name) {
+fn show_name(n: Name) -> bool {
     let mut bytes = [0u8; 16];
     naming::write(n, &mut bytes, 0);
-    io::write_all(1, &bytes[..least(n.len, 16)]);
+    io::write_all(1, &bytes[..least(n.len, 16)])
 }
 
-fn show_double(x: f64) {
-    io::write_all(1, b" ");
-    io::print_hex(1, pattern(x), 16);
+fn show_double(x: f64) -> bool {
+    both(io::write_all(1, b" "), io::print_hex(1, pattern(x), 16))
+}
+
+// The rows, and whether they were written.
+pub(crate) fn show_rows(rows: usize, i: &[f64], q: &[f64]) -> Reply {
+    let first = show_row(1, i);
+    if rows == 2 {
+        return reply_if(both(first, show_row(2, q)));
+    }
+    reply_if(first)
 }
 
 // A row's samples, 256 at a time.
-pub(crate) fn show_row(r: usize, row: &[f64]) {
-    io::write_all(1, b"row ");
-    io::print_decimal(1, r as u64);
+fn show_row(r: usize, row: &[f64]) -> bool {
+    let begun = io::write_all(1, b"row ");
+    let mut written = both(begun, io::print_decimal(1, r as u64));
     let mut out = [b' '; 4352];
     let mut at: usize = 0;
     while at < row.len() {
         let n = least(row.len() - at, 256);
         fill(&row[at..at + n], &mut out);
-        io::write_all(1, &out[..17 * n]);
+        written = both(io::write_all(1, &out[..17 * n]), written);
         at += n;
     }
-    io::write_all(1, b"\n");
+    both(io::write_all(1, b"\n"), written)
 }
 
 // Each sample's digits behind the blank that stands there.

@@ -3,10 +3,8 @@ ghost use mathlib.Core.Path.{_≡_};
 ghost use Prim.Native.Nat.{_≤_, min};
 ghost use lib.ListN.{length};
 ghost use Rattle.bench.specs.Sheet.{withCrosstalk};
-use super::show::show_answer;
+use super::show::Reply;
 use super::show::show_states;
-use super::show::show_syntax;
-use super::show::wrong_size;
 use commands::command::Arranged;
 use crosstalk::names::Crosstalk;
 use fields::value::Called;
@@ -18,6 +16,7 @@ use quant::quantity::Amplitude;
 use quant::quantity::Frequency;
 use quant::quantity::Time;
 use quant::refusal::Answer;
+use quant::refusal::Refusal;
 use sampler::Request;
 use sheet::names::blank;
 use tables::Tabled;
@@ -46,36 +45,41 @@ pub(crate) fn start() -> State {
     }
 }
 
-// What a line does to the state, answered; rows, runs and samplings that are in order are not answered here.
-pub(crate) fn after(
-    s: State,
-    said: Line,
-    line: &[u8],
-    number: usize,
-    splines: &mut [[f64; 72]],
-) -> State {
+// The state after a line, and the reply.
+pub struct Changed {
+    pub state: State,
+    pub reply: Reply,
+}
+
+// What a line does to the state; steps on rows, runs, samplings and sheets have no reply here.
+pub(crate) fn after(s: State, said: Line, line: &[u8], splines: &mut [[f64; 72]]) -> Changed {
     let t = s.tables;
     match said {
-        Line::Syntax => {
-            show_syntax(number);
-            s
-        }
+        Line::Syntax => with_reply(s, Reply::Syntax),
         Line::Tables(amp, time, oversize) => renewed(s, tables::make(amp, time, oversize)),
-        Line::Channel(name, osc) => with_tables(s, tables::add_channel(t, name, osc)),
-        Line::Shape(name) => with_tables(s, tables::add_shape(t, name, splines)),
+        Line::Channel(name, osc) => tabled(s, tables::add_channel(t, name, osc)),
+        Line::Shape(name) => tabled(s, tables::add_shape(t, name, splines)),
         Line::Spline(name, degree, controls, knots) => {
-            with_tables(s, spline(t, name, degree, controls, knots, line, splines))
+            tabled(s, spline(t, name, degree, controls, knots, line, splines))
         }
-        Line::Command(_) => with_gathered(s, least(s.gathered, 1024) + 1),
+        Line::Command(_) => with_reply(
+            with_gathered(s, least(s.gathered, 1024) + 1),
+            Reply::Nothing,
+        ),
         Line::Run => unless_too_many(s),
-        Line::States => {
-            show_states(t);
-            s
-        }
-        Line::Crosstalk(n) => with_names(s, n, line),
+        Line::States => with_reply(s, show_states(t)),
+        Line::Crosstalk(n) => with_reply(with_names(s, n, line), Reply::Of(Answer::Done(0))),
         Line::Rows(n, length) => with_rows(s, n, length),
-        _ => s,
+        _ => with_reply(s, Reply::Nothing),
     }
+}
+
+fn with_reply(state: State, reply: Reply) -> Changed {
+    Changed { state, reply }
+}
+
+fn wrong_size() -> Reply {
+    Reply::Of(Answer::Refused(Refusal::WrongSize, 0))
 }
 
 // The numbers of a spline stand from word 5 on; a job has not as many bytes as 131,072 of them.
@@ -125,20 +129,20 @@ fn fewer(n: u64, most: usize) -> usize
     most
 }
 
-fn renewed(s: State, made: Tabled) -> State {
+fn renewed(s: State, made: Tabled) -> Changed {
     let answer = made.answer;
     match answer {
-        Answer::Done(_) => with_gathered(with_tables(s, made), 0),
-        Answer::Refused(_, _) => {
-            show_answer(answer);
-            s
-        }
+        Answer::Done(_) => with_reply(with_gathered(with_tables(s, made), 0), Reply::Of(answer)),
+        Answer::Refused(_, _) => with_reply(s, Reply::Of(answer)),
     }
 }
 
-fn with_tables(s: State, made: Tabled) -> State {
+fn tabled(s: State, made: Tabled) -> Changed {
     let answer = made.answer;
-    show_answer(answer);
+    with_reply(with_tables(s, made), Reply::Of(answer))
+}
+
+fn with_tables(s: State, made: Tabled) -> State {
     let tables = made.tables;
     let crosstalk = s.crosstalk;
     State {
@@ -157,17 +161,15 @@ fn with_gathered(s: State, n: usize) -> State {
 }
 
 // More than 1,024 commands are not run; they are forgotten as those that ran.
-fn unless_too_many(s: State) -> State {
+fn unless_too_many(s: State) -> Changed {
     if s.gathered <= 1024 {
-        return s;
+        return with_reply(s, Reply::Nothing);
     }
-    wrong_size();
-    with_gathered(s, 0)
+    with_reply(with_gathered(s, 0), wrong_size())
 }
 
 // The names of a line; of more than 8 only the count is kept, and sampling refuses it.
 fn with_names(s: State, n: u64, line: &[u8]) -> State {
-    show_answer(Answer::Done(0));
     let count = at_most_511(n);
     let names = names_in(line, least(count, 8));
     let crosstalk = Crosstalk { count, names };
@@ -209,16 +211,14 @@ fn name_at(line: &[u8], k: usize) -> Name {
     }
 }
 
-fn with_rows(s: State, n: u64, length: u64) -> State {
+fn with_rows(s: State, n: u64, length: u64) -> Changed {
     if !size_fits(n, length) {
-        wrong_size();
-        return s;
+        return with_reply(s, wrong_size());
     }
-    show_answer(Answer::Done(0));
     let mut u = s;
     u.rows = n as usize;
     u.length = length as usize;
-    u
+    with_reply(u, Reply::Of(Answer::Done(0)))
 }
 
 // One or two rows of at most 65,536 samples.
@@ -248,9 +248,9 @@ pub(crate) fn kept(said: Line, before: Arranged) -> Arranged {
     }
 }
 
-pub(crate) fn is_run(said: Line, s: State) -> bool {
+pub(crate) fn is_run(said: Line, gathered: usize) -> bool {
     match said {
-        Line::Run => s.gathered <= 1024,
+        Line::Run => gathered <= 1024,
         _ => false,
     }
 }
@@ -267,8 +267,7 @@ pub(crate) fn ran(s: State, tabled: Tabled) -> State {
     with_gathered(with_tables(s, tabled), 0)
 }
 
-pub(crate) fn request(said: Line, s: State) -> Request {
-    let rows = s.rows;
+pub(crate) fn request(said: Line, rows: usize) -> Request {
     match said {
         Line::Sample(a) => {
             let channel = a.channel;

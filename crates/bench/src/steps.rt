@@ -3,9 +3,10 @@
 ghost use Prim.Native.Nat.{_≤_};
 ghost use lib.ListN.{length};
 ghost use Rattle.bench.specs.Sheet.{Leaves, TookBy, Tells};
-use super::show::show_answer;
-use super::show::show_inset;
-use super::show::show_row;
+use super::say::part;
+use super::show::Reply;
+use super::show::reply_with;
+use super::show::show_rows;
 use super::state::State;
 use super::state::after;
 use super::state::at_most_511;
@@ -25,21 +26,29 @@ use mixer::offset;
 use numbers::numbers;
 use quant::refusal::Answer;
 
-// The state after a line; and the job goes on at `next`, behind the line and so many lines more.
+// The state after a line, and the reply; and the job goes on at `next`, behind the line and so many lines more.
 pub struct Told {
     pub state: State,
+    pub reply: Reply,
     pub lines: usize,
     pub next: usize,
 }
 
-// The line from `at` to `end`, the number-th.
+// The steps on rows that have numbers.
+pub enum RowStep {
+    Iq,
+    Offset,
+    Iir,
+    Fir,
+}
+
+// The line from `at` to `end`.
 pub(crate) fn tell(
     said: Line,
     s: State,
     text: &[u8],
     at: usize,
     end: usize,
-    number: usize,
     splines: &mut [[f64; 72]],
     factors: &mut [f64],
     i: &mut [f64],
@@ -48,19 +57,24 @@ pub(crate) fn tell(
     requires { ⌜ (at ≤ end) × (end ≤ length (now text)) ⌝ }
     ensures { λ r. ⌜ Tells said (now (text .entry)) end (s .crosstalk) (now (factors .entry)) r (now (factors .exit)) ⌝ }
 {
-    let u = after(s, said, &text[at..end], number, splines);
+    let changed = after(s, said, &text[at..end], splines);
+    let u = changed.state;
+    let first = changed.reply;
     take_factors(said, &text[at..end], factors);
     let past = end + 1;
     let behind = least(past, text.len());
     let before = s.crosstalk;
     let c = u.crosstalk;
-    let taken = sheet_behind(said, before, c, &text[behind..], factors, number);
+    let taken = sheet_behind(said, before, c, &text[behind..], factors);
     let crossed = taken.crosstalk;
     let state = with_crosstalk(u, crossed);
-    on_rows(said, state, &text[at..end], i, q);
+    let inset = taken.inset;
+    let second = on_rows(said, state, &text[at..end], i, q);
+    let reply = reply_with(part(text, at, end), first, inset, second);
     let next = past + taken.bytes;
     Told {
         state,
+        reply,
         lines: taken.lines as usize,
         next,
     }
@@ -75,7 +89,7 @@ fn take_factors(said: Line, line: &[u8], factors: &mut [f64])
     }
 }
 
-// The sheet behind a line of a sheet: read, answered, and its lines and bytes told; refused, the crosstalk is that before it. Behind any other line
+// The sheet behind a line of a sheet: read, and its answer, lines and bytes told; refused, the crosstalk is that before it. Behind any other line
 // none: the crosstalk is that after it.
 fn sheet_behind(
     said: Line,
@@ -83,59 +97,53 @@ fn sheet_behind(
     after: Crosstalk,
     behind: &[u8],
     factors: &mut [f64],
-    number: usize,
 ) -> Taken
     ensures { λ r. ⌜ TookBy said (now (behind .entry)) before after (now (factors .entry)) r (now (factors .exit)) ⌝ }
 {
     match said {
-        Line::Sheet(n) => {
-            let taken = take_sheet(behind, n, before, factors);
-            let inset = taken.inset;
-            show_inset(inset, number);
-            taken
-        }
+        Line::Sheet(n) => take_sheet(behind, n, before, factors),
         _ => fewer(after),
     }
 }
 
-// The state is that after the line: a line of rows has set their sizes.
-fn on_rows(said: Line, s: State, line: &[u8], i: &mut [f64], q: &mut [f64]) {
+// The state is that after the line: a line of rows has set their sizes. Steps on rows and prints have a reply here.
+fn on_rows(said: Line, s: State, line: &[u8], i: &mut [f64], q: &mut [f64]) -> Reply {
     let n = least(s.length, i.len());
     let m = least(second(s), q.len());
-    on_parts(said, s.rows, line, &mut i[..n], &mut q[..m]);
+    on_parts(said, s.rows, line, &mut i[..n], &mut q[..m])
 }
 
-fn on_parts(said: Line, rows: usize, line: &[u8], i: &mut [f64], q: &mut [f64]) {
+fn on_parts(said: Line, rows: usize, line: &[u8], i: &mut [f64], q: &mut [f64]) -> Reply {
     match said {
         Line::Rows(n, length) => {
             if size_fits(n, length) {
                 clear(i);
                 clear(q);
             }
+            Reply::Nothing
         }
-        Line::Print => print(rows, i, q),
-        Line::Iq => step(said, rows, line, 1, i, q),
-        Line::Offset(_) => step(said, rows, line, 1, i, q),
-        Line::Iir(_) => step(said, rows, line, 2, i, q),
-        Line::Fir(_) => step(said, rows, line, 2, i, q),
-        _ => {}
+        Line::Print => show_rows(rows, i, q),
+        Line::Iq => step(RowStep::Iq, rows, line, 1, i, q),
+        Line::Offset(_) => step(RowStep::Offset, rows, line, 1, i, q),
+        Line::Iir(_) => step(RowStep::Iir, rows, line, 2, i, q),
+        Line::Fir(_) => step(RowStep::Fir, rows, line, 2, i, q),
+        _ => Reply::Nothing,
     }
 }
 
 // A step's numbers begin at word k; one more than the longest step has is enough to be refused.
-fn step(said: Line, rows: usize, line: &[u8], k: usize, i: &mut [f64], q: &mut [f64]) {
+fn step(which: RowStep, rows: usize, line: &[u8], k: usize, i: &mut [f64], q: &mut [f64]) -> Reply {
     let mut given = [0.0; 257];
     let n = least(numbers(line, k, &mut given), 257);
-    show_answer(stepped(said, rows, i, q, &given[..n]));
+    Reply::Of(stepped(which, rows, i, q, &given[..n]))
 }
 
-fn stepped(said: Line, rows: usize, i: &mut [f64], q: &mut [f64], given: &[f64]) -> Answer {
-    match said {
-        Line::Iq => iq(rows, i, q, given),
-        Line::Offset(_) => offset(rows, i, q, given),
-        Line::Iir(_) => iir(rows, i, q, given),
-        Line::Fir(_) => fir(rows, i, q, given),
-        _ => Answer::Done(0),
+fn stepped(which: RowStep, rows: usize, i: &mut [f64], q: &mut [f64], given: &[f64]) -> Answer {
+    match which {
+        RowStep::Iq => iq(rows, i, q, given),
+        RowStep::Offset => offset(rows, i, q, given),
+        RowStep::Iir => iir(rows, i, q, given),
+        RowStep::Fir => fir(rows, i, q, given),
     }
 }
 
@@ -145,12 +153,4 @@ fn clear(row: &mut [f64]) {
         row[k] = 0.0;
         k += 1;
     }
-}
-
-fn print(rows: usize, i: &[f64], q: &[f64]) {
-    show_row(1, i);
-    if rows == 2 {
-        show_row(2, q);
-    }
-    show_answer(Answer::Done(0));
 }

@@ -1,7 +1,11 @@
 // The lines of a job, in order: each is read, told to the bench, and answered.
 ghost use Prim.Native.Nat.{_<_, _≤_};
 ghost use lib.ListN.{length};
-use super::show::show_answer;
+use super::fault::is_returned;
+use super::say::part;
+use super::sentence::answered;
+use super::sentence::answered_run;
+use super::sentence::answered_sample;
 use super::state::is_run;
 use super::state::is_sample;
 use super::state::kept;
@@ -20,12 +24,15 @@ use owned::execute_owned;
 use owned_sampler::sample_owned;
 use pulse::list::Pulse;
 use quant::complex::Complex;
+use quant::judge::both;
 use quant::quantity::Time;
+use quant::refusal::Answer;
 use sampler::Request;
 use tables::Tables;
 
 pub(crate) fn each(text: &[u8]) {
     let mut commands = [idle(); 1024];
+    let mut starts = [0usize; 1025];
     let mut pulses = [no_pulse(); 8192];
     let mut bins = [[0.0; 77]; 512];
     let mut splines = [[0.0; 72]; 8];
@@ -36,6 +43,7 @@ pub(crate) fn each(text: &[u8]) {
     let mut marks = [0usize; 8192];
     let mut factors = [0.0; 64];
     let mut s = start();
+    let mut warned = false;
     let mut number: usize = 0;
     let mut at: usize = 0;
     while at < text.len() {
@@ -44,20 +52,31 @@ pub(crate) fn each(text: &[u8]) {
         number += 1;
         let slot = least(s.gathered, 1023);
         commands[slot] = kept(said, commands[slot]);
-        let runs = is_run(said, s);
+        // Where the line begins stays beside the command that it is; any other line's is written over.
+        let place = least(s.gathered, 1024);
+        starts[place] = at;
+        let runs = is_run(said, s.gathered);
         let told = tell(
             said,
             s,
             text,
             at,
             end,
-            number,
             &mut splines,
             &mut factors,
             &mut i,
             &mut q,
         );
         s = told.state;
+        let reply = told.reply;
+        // That lines end in carriage returns is said once.
+        let returned = is_returned(reply, part(text, at, end));
+        if !answered(reply, both(returned, warned), text, at, end, number) {
+            return;
+        }
+        warned = either(returned, warned);
+        let from = at;
+        let line = number;
         number += told.lines;
         at = told.next;
         if runs {
@@ -66,12 +85,16 @@ pub(crate) fn each(text: &[u8]) {
             let tabled = e.tabled;
             pulses = e.pulses;
             s = ran(s, tabled);
+            let answer = tabled.answer;
+            if !answered_run(answer, t, text, &starts, line) {
+                return;
+            }
         } else if is_sample(said) {
             let t = s.tables;
             let c = s.crosstalk;
-            sample_line(
+            let answer = sample_line(
                 t,
-                request(said, s),
+                request(said, s.rows),
                 c,
                 s.length,
                 second(s),
@@ -84,6 +107,9 @@ pub(crate) fn each(text: &[u8]) {
                 &mut work,
                 &mut marks,
             );
+            if !answered_sample(answer, t, c, text, from, end, line) {
+                return;
+            }
         }
     }
 }
@@ -103,10 +129,10 @@ fn sample_line(
     scratch: &mut [f64],
     work: &mut [[f64; 5]],
     marks: &mut [usize],
-) {
+) -> Answer {
     let n = least(first, i.len());
     let m = least(second, q.len());
-    show_answer(sample_owned(
+    sample_owned(
         t,
         r,
         c,
@@ -118,11 +144,18 @@ fn sample_line(
         scratch,
         work,
         marks,
-    ));
+    )
+}
+
+fn either(x: bool, y: bool) -> bool {
+    if x {
+        return true;
+    }
+    y
 }
 
 // Where the line at a place ends, within its text.
-fn end_of(text: &[u8], at: usize) -> usize
+pub(crate) fn end_of(text: &[u8], at: usize) -> usize
     requires { ⌜ at < length (now text) ⌝ }
     ensures { λ r. ⌜ (at ≤ r) × (r ≤ length (now (text .entry))) ⌝ }
 {

@@ -1,17 +1,17 @@
 -- `bench::show::show_row` is safe and ends: 256 samples take 4,352 bytes. Assumes nothing.
 use Prim.Native.Nat.{_-_, _≤_}
 use mathlib.Core.Path.{_≡_, sym}
-use borrow.Author.Needs.{needs}
 use lib.ListN.{length}
 use lib.Seq.{length-take-le}
+use borrow.Author.Needs.{needs}
 use Rattle.bench.proofs.show.show_row.Statement.{statement}
 use Rattle.bench.proofs.show.show_row.Tie as tie
 
 abbrev Inv-loop : tie.InvT-loop
-Inv-loop r row out₀ at₀ t7 out at = (at ≤ length row) × (length out ≡ 4352)
+Inv-loop r row begun written₀ out₀ at₀ t9 written out at = (at ≤ length row) × (length out ≡ 4352)
 
 abbrev μ-loop : tie.MeasureT-loop
-μ-loop r row out₀ at₀ t7 out at = length row - at
+μ-loop r row begun written₀ out₀ at₀ t9 written out at = length row - at
 
 slice-aggregate-write-all : tie.Need-slice-aggregate-write-all Inv-loop μ-loop
 slice-aggregate-write-all c = search needs
@@ -21,6 +21,9 @@ write-all-requires c κs = search needs
 
 print-decimal-requires : tie.Need-print-decimal-requires Inv-loop μ-loop
 print-decimal-requires c κs = search needs
+
+both-requires : tie.Need-both-requires Inv-loop μ-loop
+both-requires c κs = search needs
 
 loop-holds : tie.Need-loop-holds Inv-loop μ-loop
 loop-holds c = search needs
@@ -64,6 +67,9 @@ slice-aggregate-write-all-2 c = sym (length-take-le _ _ (search needs))
 write-all-requires-2 : tie.Need-write-all-requires-2 Inv-loop μ-loop
 write-all-requires-2 c κs = search needs
 
+both-requires-2 : tie.Need-both-requires-2 Inv-loop μ-loop
+both-requires-2 c κs = search needs
+
 add-at : tie.Need-add-at Inv-loop μ-loop
 add-at c = search needs
 
@@ -79,6 +85,9 @@ slice-aggregate-write-all-3 c = search needs
 write-all-requires-3 : tie.Need-write-all-requires-3 Inv-loop μ-loop
 write-all-requires-3 c κs = search needs
 
+both-requires-3 : tie.Need-both-requires-3 Inv-loop μ-loop
+both-requires-3 c κs = search needs
+
 returns : tie.Need-returns Inv-loop μ-loop
 returns c = search needs
 
@@ -91,6 +100,7 @@ show-row-spec =
     slice-aggregate-write-all
     write-all-requires
     print-decimal-requires
+    both-requires
     loop-holds
     sub-least
     least-requires
@@ -105,9 +115,11 @@ show-row-spec =
     array-share-prefix-out
     slice-aggregate-write-all-2
     write-all-requires-2
+    both-requires-2
     add-at
     loop-less
     loop-again
     slice-aggregate-write-all-3
     write-all-requires-3
+    both-requires-3
     returns)

@@ -5,10 +5,10 @@ use Rattle.bench.proofs.show.show_states.Statement.{statement}
 use Rattle.bench.proofs.show.show_states.Tie as tie
 
 abbrev Inv-loop : tie.InvT-loop
-Inv-loop t count k₀ k = Unit {0}
+Inv-loop t count written₀ k₀ written k = Unit {0}
 
 abbrev μ-loop : tie.MeasureT-loop
-μ-loop t count k₀ k = count - k
+μ-loop t count written₀ k₀ written k = count - k
 
 least-requires : tie.Need-least-requires Inv-loop μ-loop
 least-requires c κs = search needs
@@ -25,6 +25,9 @@ element-copy-out-show-state c = search needs
 show-state-requires : tie.Need-show-state-requires Inv-loop μ-loop
 show-state-requires c κs = search needs
 
+both-requires : tie.Need-both-requires Inv-loop μ-loop
+both-requires c κs = search needs
+
 add-k : tie.Need-add-k Inv-loop μ-loop
 add-k c = search needs
 
@@ -34,8 +37,8 @@ loop-less c = search needs
 loop-again : tie.Need-loop-again Inv-loop μ-loop
 loop-again c = search needs
 
-show-answer-requires : tie.Need-show-answer-requires Inv-loop μ-loop
-show-answer-requires c κs = search needs
+reply-if-requires : tie.Need-reply-if-requires Inv-loop μ-loop
+reply-if-requires c κs = search needs
 
 returns : tie.Need-returns Inv-loop μ-loop
 returns c = search needs
@@ -51,8 +54,9 @@ show-states-spec =
     mul-show-state
     element-copy-out-show-state
     show-state-requires
+    both-requires
     add-k
     loop-less
     loop-again
-    show-answer-requires
+    reply-if-requires
     returns)

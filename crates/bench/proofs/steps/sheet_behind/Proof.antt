@@ -46,9 +46,6 @@ enum-known-said c = search needs
 take-sheet-requires : tie.Need-take-sheet-requires
 take-sheet-requires c κs = search needs
 
-show-inset-requires : tie.Need-show-inset-requires
-show-inset-requires c κs = search needs
-
 fewer-requires : tie.Need-fewer-requires
 fewer-requires c κs = search needs
 
@@ -56,10 +53,10 @@ same-length : tie.Need-same-length
 same-length c = search needs
 
 returns : tie.Need-returns
-returns c = took _ _ _ _ _ _ _ _ (c .before .before .before .before .before .before .said .given .1) (c .before .before .before .take-sheet .ensures)
+returns c = took _ _ _ _ _ _ _ _ (c .before .before .before .before .before .said .given .1) (c .before .before .take-sheet .ensures)
 
 returns-2 : tie.Need-returns-2
 returns-2 c = none _ _ _ _ _ _ (λ n e. miss others 10 tt (subst (OneOf others) (ap (tagOf Line.the-type) e) (c .before .match .keys2))) (c .fewer .ensures)
 
 pub sheet-behind-spec : {M : Type 1} → statement M
-sheet-behind-spec = tie.close (tie.spec enum-known-said take-sheet-requires show-inset-requires fewer-requires same-length returns returns-2)
+sheet-behind-spec = tie.close (tie.spec enum-known-said take-sheet-requires fewer-requires same-length returns returns-2)

@@ -23,9 +23,6 @@ slice-aggregate-stepped c = sym (length-take-le _ _ (search needs))
 stepped-requires : tie.Need-stepped-requires
 stepped-requires c κs = search needs
 
-show-answer-requires : tie.Need-show-answer-requires
-show-answer-requires c κs = search needs
-
 same-length : tie.Need-same-length
 same-length c = search needs
 
@@ -45,7 +42,6 @@ step-spec =
     array-share-prefix-given
     slice-aggregate-stepped
     stepped-requires
-    show-answer-requires
     same-length
     same-length-2
     returns)

@@ -14,6 +14,7 @@ use Rattle.job_sheet.specs.declared.Taken.{Taken}
 use Rattle.crosstalk.specs.declared.names.Crosstalk.{Crosstalk}
 use Rattle.job.specs.declared.line.Line.{Line}
 use Rattle.job_sheet.specs.Inset.{Took, Within}
+use Rattle.bench.specs.declared.show.Reply.{Reply}
 use Rattle.bench.specs.declared.state.State.{State}
 use Rattle.bench.specs.Sheet.{Leaves, TookBy, GoesOn, Tells}
 use Rattle.bench.proofs.steps.tell.Statement.{statement}
@@ -37,10 +38,10 @@ module _ (text : List ℕ) (end behind : ℕ) (inside : end ≤ length text) (e 
       let long = rw (length-take (length text - behind) (drop behind text), length-drop behind text) at (w .bytes) in
       record { lines-passed = omega (arith, w .lines); near = omega (arith, long, e) }
 
-  tells : (said : Line) (c d : Crosstalk) (before between after : List Float) (r : Taken) (s : State) → Leaves said before between
+  tells : (said : Line) (c d : Crosstalk) (before between after : List Float) (r : Taken) (s : State) (reply : Reply) → Leaves said before between
       → TookBy said (take (length text - behind) (drop behind text)) c d between r after → s .crosstalk ≡ r .crosstalk
-      → Tells said text end c before (record { state = s; lines = r .lines; next = end + 1 + r .bytes }) after
-  tells said c d before between after r s leaves took crossed =
+      → Tells said text end c before (record { state = s; reply = reply; lines = r .lines; next = end + 1 + r .bytes }) after
+  tells said c d before between after r s reply leaves took crossed =
       record {
         taken = r;
         sheet = λ count f. subst (λ (l : List ℕ). Took l count c before r after) rest-is (subst (λ (l : List Float). Took (take (length text - behind) (drop behind text)) count c l r after) (leaves count f) (took .sheet count f));
@@ -97,29 +98,35 @@ with-crosstalk-requires : tie.Need-with-crosstalk-requires
 with-crosstalk-requires c κs = search needs
 
 sub-on-rows : tie.Need-sub-on-rows
-sub-on-rows c = omega (arith, c .before .before .before .before .before .before .before .before .before .before .before .before .before .before .before .before .before .before .before .before .before .before .before .pre)
+sub-on-rows c = omega (arith, c .before .before .before .before .before .before .before .before .before .before .before .before .before .before .before .before .before .before .before .before .before .before .before .before .pre)
 
 part-on-rows-start : tie.Need-part-on-rows-start
-part-on-rows-start c = omega (arith, c .before .before .before .before .before .before .before .before .before .before .before .before .before .before .before .before .before .before .before .before .before .before .before .pre)
+part-on-rows-start c = omega (arith, c .before .before .before .before .before .before .before .before .before .before .before .before .before .before .before .before .before .before .before .before .before .before .before .before .pre)
 
 part-on-rows-end : tie.Need-part-on-rows-end
-part-on-rows-end c = omega (arith, c .before .before .before .before .before .before .before .before .before .before .before .before .before .before .before .before .before .before .before .before .before .before .before .pre)
+part-on-rows-end c = omega (arith, c .before .before .before .before .before .before .before .before .before .before .before .before .before .before .before .before .before .before .before .before .before .before .before .before .pre)
 
 on-rows-requires : tie.Need-on-rows-requires
 on-rows-requires c κs = search needs
 
+part-requires : tie.Need-part-requires
+part-requires c κs = search needs
+
+reply-with-requires : tie.Need-reply-with-requires
+reply-with-requires c κs = search needs
+
 add-next : tie.Need-add-next
 add-next c =
-    let took = c .before .before .before .before .before .before .before .before .before .before .before .before .before in
-    let start = took .before .before .before .before .before .before .before .before .before .before .before .before .before .before .before .before .before .before .before in
+    let took = c .before .before .before .before .before .before .before .before .before .before .before .before .before .before .before in
+    let start = took .before .before .before .before .before .before .before .before .before .before .before .before .before .before .before .before .before .before .before .before in
     let goes = goes-on (start .args .text .now) (start .args .end) _ (start .pre .1) (took .before .before .before .before .before .least .ensures) _ (took .sheet-behind .ensures .within) in
     omega (arith, goes .near, start .good .1 .1 .0 .1)
 
 same-length : tie.Need-same-length
-same-length c = let took = c .before .before .before .before .before .before .before .before .before .before .before .before .before in took .before .before .before .before .before .before .before .before .before .before .before .before .after .kept .1 .1 .1 .1 .0
+same-length c = let took = c .before .before .before .before .before .before .before .before .before .before .before .before .before .before .before in took .before .before .before .before .before .before .before .before .before .before .before .before .before .after .kept .1 .1 .1 .0
 
 same-length-2 : tie.Need-same-length-2
-same-length-2 c = let took = c .before .before .before .before .before .before .before .before .before .before .before .before .before in took .sheet-behind .kept .1 .1 .1 .1 .0 ∙ took .before .before .before .before .before .before .before .before .take-factors .kept .1 .1 .0
+same-length-2 c = let took = c .before .before .before .before .before .before .before .before .before .before .before .before .before .before .before in took .sheet-behind .kept .1 .1 .1 .1 .0 ∙ took .before .before .before .before .before .before .before .before .take-factors .kept .1 .1 .0
 
 same-length-3 : tie.Need-same-length-3
 same-length-3 c = search needs
@@ -129,10 +136,10 @@ same-length-4 c = search needs
 
 returns : tie.Need-returns
 returns c =
-    let took = c .before .before .before .before .before .before .before .before .before .before .before .before .before in
-    let start = took .before .before .before .before .before .before .before .before .before .before .before .before .before .before .before .before .before .before .before in
-    tells (start .args .text .now) (start .args .end) _ (start .pre .1) (took .before .before .before .before .before .least .ensures) _ _ _ _ _ _ _ _ (took .before .before .before .before .before .before .before .before .take-factors .ensures) (took .sheet-behind .ensures)
-    (ap (λ (x : State). x .crosstalk) (c .before .before .before .before .before .before .before .before .before .with-crosstalk .ensures))
+    let took = c .before .before .before .before .before .before .before .before .before .before .before .before .before .before .before in
+    let start = took .before .before .before .before .before .before .before .before .before .before .before .before .before .before .before .before .before .before .before .before in
+    tells (start .args .text .now) (start .args .end) _ (start .pre .1) (took .before .before .before .before .before .least .ensures) _ _ _ _ _ _ _ _ _ (took .before .before .before .before .before .before .before .before .take-factors .ensures) (took .sheet-behind .ensures)
+    (ap (λ (x : State). x .crosstalk) (c .before .before .before .before .before .before .before .before .before .before .before .with-crosstalk .ensures))
 
 pub tell-spec : {M : Type 1} → statement M
 tell-spec =
@@ -157,6 +164,8 @@ tell-spec =
     part-on-rows-start
     part-on-rows-end
     on-rows-requires
+    part-requires
+    reply-with-requires
     add-next
     same-length
     same-length-2

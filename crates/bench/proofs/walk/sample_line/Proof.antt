@@ -26,9 +26,6 @@ slice-aggregate-sample-owned-2 c = sym (length-take-le _ _ (search needs))
 sample-owned-requires : tie.Need-sample-owned-requires
 sample-owned-requires c κs = search needs
 
-show-answer-requires : tie.Need-show-answer-requires
-show-answer-requires c κs = search needs
-
 same-length : tie.Need-same-length
 same-length c = search needs
 
@@ -58,7 +55,6 @@ sample-line-spec =
     slice-relend-prefix-sample-owned-2
     slice-aggregate-sample-owned-2
     sample-owned-requires
-    show-answer-requires
     same-length
     same-length-2
     same-length-3

@@ -1,0 +1,54 @@
+-- `bench::words::stranger` is safe and ends: at most eight names are passed. Assumes nothing.
+use Prim.Native.Nat.{_-_}
+use borrow.Author.Needs.{needs}
+use Rattle.bench.proofs.words.stranger.Statement.{statement}
+use Rattle.bench.proofs.words.stranger.Tie as tie
+
+abbrev Inv-loop : tie.InvT-loop
+Inv-loop t c k₀ k = Unit {0}
+
+abbrev μ-loop : tie.MeasureT-loop
+μ-loop t c k₀ k = 8 - k
+
+loop-holds : tie.Need-loop-holds Inv-loop μ-loop
+loop-holds c = search needs
+
+mul-is-known : tie.Need-mul-is-known Inv-loop μ-loop
+mul-is-known c = search needs
+
+element-copy-out-is-known : tie.Need-element-copy-out-is-known Inv-loop μ-loop
+element-copy-out-is-known c = search needs
+
+is-known-requires : tie.Need-is-known-requires Inv-loop μ-loop
+is-known-requires c κs = search needs
+
+returns : tie.Need-returns Inv-loop μ-loop
+returns c = search needs
+
+add-k : tie.Need-add-k Inv-loop μ-loop
+add-k c = search needs
+
+loop-less : tie.Need-loop-less Inv-loop μ-loop
+loop-less c = search needs
+
+loop-again : tie.Need-loop-again Inv-loop μ-loop
+loop-again c = search needs
+
+returns-2 : tie.Need-returns-2 Inv-loop μ-loop
+returns-2 c = search needs
+
+pub stranger-spec : {M : Type 1} → statement M
+stranger-spec =
+    tie.close
+    (tie.spec
+    Inv-loop
+    μ-loop
+    loop-holds
+    mul-is-known
+    element-copy-out-is-known
+    is-known-requires
+    returns
+    add-k
+    loop-less
+    loop-again
+    returns-2)
