@@ -326,7 +326,7 @@ fn sampling_refusals() {
         factors: &[1.0, 0.0, 0.0, 1.0],
     };
     assert_eq!(no_list("x", None), Some(7));
-    assert_eq!(no_list("a", Some(&crosstalk)), Some(14));
+    assert_eq!(no_list("a", Some(&crosstalk)), Some(18));
 }
 
 fn bins() {

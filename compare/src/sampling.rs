@@ -91,7 +91,7 @@ pub fn compare(seeds: u64, program: &[String]) -> ExitCode {
 /// Some jobs and the Rust's answers, for the program's stored run: the jobs, or the answers. At most 60 that are sampled, 12 of each refusal.
 pub fn stored(answers: bool) {
     let mut rng = Rng::new(1000);
-    let mut seen = [0; 16];
+    let mut seen = [0; 24];
     for k in 0..6000 {
         let job = job(&mut rng, k, 12);
         let small = job.plays.len() < 6 && job.oscs.len() < 5 && job.lengths[0] < 40;
@@ -128,7 +128,7 @@ fn told(job: &Job) -> Told {
         return Told {
             lines: head + &answer(number, place, &i, &q, job.from),
             number: number.into(),
-            end: format!("refused by {number} before any pulse, as document 01 says"),
+            end: format!("refused by {number} before any pulse, as the documents say"),
             mixed: 0,
             excluded: None,
         };
@@ -184,7 +184,7 @@ fn order(job: &Job) -> &'static str {
     }
 }
 
-/// Document 01: "Its order: 1, 13, 2, 14, 7, then each pulse".
+/// Document 01: "Its order: 1, 13, 2, 14, 7, then each pulse"; document 02, P2: 17 and 18 in place of 14, "names taken in reading order".
 pub(crate) fn refused_before(job: &Job) -> Option<(u8, usize)> {
     let [i, q, scratch] = job.lengths;
     let n = job.names.len();
@@ -211,12 +211,12 @@ pub(crate) fn refused_before(job: &Job) -> Option<(u8, usize)> {
         return Some((2, 0));
     }
     for (at, name) in job.names.iter().enumerate() {
-        if let Some(more) = job.names[at + 1..].iter().position(|other| other == name) {
-            return Some((14, at + more + 2));
+        if job.names[..at].contains(name) {
+            return Some((17, at + 1));
         }
-    }
-    if !job.names.iter().all(known) {
-        return Some((14, 0));
+        if !known(name) {
+            return Some((18, at + 1));
+        }
     }
     (!known(&job.channel)).then_some((7, 0))
 }
@@ -368,17 +368,8 @@ pub(crate) fn job(rng: &mut Rng, k: u64, longest: u64) -> Job {
                 *last = [f64::INFINITY, f64::NAN][rng.below(2) as usize];
             }
         }
-        9 => {
-            if let [.., other, last] = &mut names[..] {
-                *last = *other;
-            }
-        }
+        9 | 11 => spoil(rng, &mut names),
         10 => channel = [CHANNELS[7], "nowhere", "", "a=b"][rng.below(4) as usize],
-        11 => {
-            if let Some(first) = names.first_mut() {
-                *first = CHANNELS[7];
-            }
-        }
         _ => {}
     }
     let from = if length > 256 {
@@ -535,6 +526,18 @@ fn kind(rng: &mut Rng, unit: f64, length: f64) -> Play<'static> {
         frequency: [0.0, -0.0, 1.0, rng.sample()][rng.below(4) as usize] / unit,
         phase: 0.0,
         flexible: false,
+    }
+}
+
+/// One to three names become a copy of another, or one that may have no channel, at any place.
+fn spoil(rng: &mut Rng, names: &mut [&'static str]) {
+    let n = names.len() as u64;
+    for _ in 0..if n == 0 { 0 } else { 1 + rng.below(3) } {
+        let at = rng.below(n) as usize;
+        names[at] = match rng.below(2) {
+            0 => names[rng.below(n) as usize],
+            _ => CHANNELS[7],
+        };
     }
 }
 

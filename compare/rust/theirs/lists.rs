@@ -130,14 +130,14 @@ impl Lists {
     }
 }
 
-/// A channel that has no list panics in the map: 14 where it was looked up for its crosstalk, 7 else.
+/// A channel that has no list panics in the map: 18 where it was looked up for its crosstalk, 7 else.
 fn missing_list(refusal: Refusal, of: &Channel, crosstalk: Option<&Crosstalk>) -> Refusal {
     if !refusal.text.starts_with("no entry found") {
         return refusal;
     }
     let named = crosstalk.is_some_and(|crosstalk| crosstalk.names.contains(&of.name));
     Refusal {
-        number: Some(if named { 14 } else { 7 }),
+        number: Some(if named { 18 } else { 7 }),
         ..refusal
     }
 }

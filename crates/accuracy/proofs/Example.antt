@@ -28,7 +28,7 @@ use Rattle.tables.specs.Tables.{foundFrom}
 use Rattle.merge.specs.Sum.{keptFrom, summedBy}
 use Rattle.merge.specs.Join.{joined, joinedTwo}
 use Rattle.merge.specs.Taking.{partsIn, packed, zipped}
-use Rattle.crosstalk.specs.Crosstalk.{allNames, doubledFrom, allKnown, rowFrom, partOf, partsAt, planned}
+use Rattle.crosstalk.specs.Crosstalk.{allNames, namesJudged, rowFrom, partOf, partsAt, planned}
 use Rattle.mix.specs.Part.{onPart}
 use Rattle.mix.specs.Plateau.{carried}
 use Rattle.placing.specs.Phases.{phase0, dphase, startPair, rotationPair, phaseNumbers}
@@ -55,7 +55,7 @@ record Computed : Type 0 where
   not-closer : Closer → ⊥
 
 computed : Computed
-unfolding add sub mul div rem lt eq round ofBits ofInt ceiling cutOf exp2Of wrapped reduced horner cosineAt sineAt cosineOf sineOf allFinite nameByte every lowBytes bytesOfWord sixteen bytesOf pastEnd isName sameName indexAt sameNumbers sameRow placeOf phase0 dphase startPair rotationPair phaseNumbers judged foundFrom keptFrom summedBy joined joinedTwo packed zipped allNames doubledFrom allKnown rowFrom partOf partsAt planned onPart carried ofMark allRows firstsAfter ranPulses ranBins sampled powerG
+unfolding add sub mul div rem lt eq round ofBits ofInt ceiling cutOf exp2Of wrapped reduced horner cosineAt sineAt cosineOf sineOf allFinite nameByte every lowBytes bytesOfWord sixteen bytesOf pastEnd isName sameName indexAt sameNumbers sameRow placeOf phase0 dphase startPair rotationPair phaseNumbers judged foundFrom keptFrom summedBy joined joinedTwo packed zipped allNames namesJudged rowFrom partOf partsAt planned onPart carried ofMark allRows firstsAfter ranPulses ranBins sampled powerG
 computed =
     record {
       done = refl;

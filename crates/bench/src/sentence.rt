@@ -127,7 +127,6 @@ fn in_sheet(refusal: Refusal, text: &[u8], at: usize) {
 // The answer to a sampling.
 pub(crate) fn answered_sample(
     answer: Answer,
-    t: Tables,
     c: Crosstalk,
     text: &[u8],
     at: usize,
@@ -141,7 +140,7 @@ pub(crate) fn answered_sample(
         return true;
     };
     head(line, refusal);
-    why_sampled(refusal, place, part(text, at, end), t, c);
+    why_sampled(refusal, place, part(text, at, end), c);
     say(b"\n");
     true
 }

@@ -107,7 +107,7 @@ pub(crate) fn each(text: &[u8]) {
                 &mut work,
                 &mut marks,
             );
-            if !answered_sample(answer, t, c, text, from, end, line) {
+            if !answered_sample(answer, c, text, from, end, line) {
                 return;
             }
         }

@@ -36,12 +36,13 @@ pub(crate) fn why(refusal: Refusal, line: &[u8], known: bool) {
         5 => quote_value(line, 2, b"shape="),
         7 => unknown(line, known),
         13 => size(line),
-        14 | 15 => quote(line),
+        15 => quote(line),
+        17 | 19 => quote(value(line)),
         _ => {}
     }
 }
 
-// Row n of the table, from 1, and a blank where more follows. What is said for 2 goes by the line, and 14 is a sheet's: a sampling's is below.
+// Row n of the table, from 1, and a blank where more follows. What is said for 2 goes by the line, and nothing is refused by 14.
 fn say_row(n: usize) {
     let table: &[u8] = b"
 a setting that cannot be used: a rate is above 0, a level from -20 to 20, no tolerance below 0, and each is finite
@@ -57,31 +58,32 @@ starts at or past the end of the row
 is too short: half its width is over before its first sample
 ends past the row
 a wrong size:
-a name that stands twice, or a row that is no column:
+
 breaks the layout:
 a spline has degree 0 to 5, degree + 1 to 32 controls, controls + degree + 1 knots, and no knot below the one before it:
+the name stood before:
+no channel has the name:
+no column has the name:
 ";
     let at = behind(table, 0, n);
     say(part(table, at, line_end(table, at)));
     match n {
-        3 | 5 | 7 | 13..=16 => say(b" "),
+        3 | 5 | 7 | 13..=19 => say(b" "),
         _ => {}
     }
 }
 
-// Of a sampling. 2 and 14 may be the crosstalk's; from 8 to 12 it is a pulse's, and the place is how many were added before it.
-pub(crate) fn why_sampled(refusal: Refusal, place: usize, line: &[u8], t: Tables, c: Crosstalk) {
+// Of a sampling. 2, 17 and 18 may be the crosstalk's; from 8 to 12 it is a pulse's, and the place is how many were added before it.
+pub(crate) fn why_sampled(refusal: Refusal, place: usize, line: &[u8], c: Crosstalk) {
     let n = number(refusal);
-    if n == 14 {
-        crossed(place, t, c);
-        return;
+    match n {
+        2 => malformed_sampling(line, c),
+        17 | 18 => crossed(n, place, c),
+        _ => {
+            pulse(n, place);
+            why(refusal, line, true);
+        }
     }
-    if n == 2 {
-        malformed_sampling(line, c);
-        return;
-    }
-    pulse(n, place);
-    why(refusal, line, true);
 }
 
 fn pulse(n: usize, place: usize) {
@@ -246,33 +248,28 @@ pub(crate) fn is_known(t: Tables, n: Name) -> bool {
     }
 }
 
-// 14: the place is where a name stands again, from 1, or 0 where a name is no channel's.
-fn crossed(place: usize, t: Tables, c: Crosstalk) {
-    if place == 0 {
-        say(b"the crosstalk has a name that is no channel's: ");
-        quote_at(c, stranger(t, c));
-        return;
-    }
+// 17 and 18: the place is the name's position, from 1.
+fn crossed(n: usize, position: usize, c: Crosstalk) {
     say(b"name ");
-    say_number(place);
-    say(b" of the crosstalk stands there twice: ");
-    quote_at(c, place - 1);
-}
-
-// The place of the first name that is no channel's.
-fn stranger(t: Tables, c: Crosstalk) -> usize {
-    let mut k: usize = 0;
-    while k < 8 {
-        if !is_known(t, c.names[k]) {
-            return k;
-        }
-        k += 1;
+    say_number(position);
+    say(b" of the crosstalk: ");
+    say_row(n);
+    if 0 < position {
+        quote_at(c, position - 1);
     }
-    k
 }
 
 fn quote_at(c: Crosstalk, k: usize) {
     if k < 8 {
         quote_name(c.names[k]);
     }
+}
+
+// What stands behind the key of a sheet's line.
+fn value(line: &[u8]) -> &[u8] {
+    part(
+        line,
+        std::num::wrapping_add_usize(place(line, b'='), 1),
+        line.len(),
+    )
 }

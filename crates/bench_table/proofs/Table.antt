@@ -25,7 +25,7 @@ use Rattle.tables.specs.Tables.{foundFrom}
 use Rattle.merge.specs.Sum.{keptFrom, summedBy}
 use Rattle.merge.specs.Join.{joined, joinedTwo}
 use Rattle.merge.specs.Taking.{packed, zipped}
-use Rattle.crosstalk.specs.Crosstalk.{allNames, doubledFrom, allKnown, rowFrom, partOf, partsAt, planned}
+use Rattle.crosstalk.specs.Crosstalk.{allNames, namesJudged, rowFrom, partOf, partsAt, planned}
 use Rattle.mix.specs.Part.{onPart}
 use Rattle.mix.specs.Plateau.{carried}
 use Rattle.mixdown.specs.Runs.{ofMark}
@@ -40,7 +40,7 @@ use Rattle.bench_table.specs.Line.{Every}
 use Rattle.bench_table.specs.Table.{table}
 
 pub bench-table : Every table
-unfolding add sub mul div rem neg lt eq le sum round ofBits ofInt ceiling cutOf exp2Of fma wrapped reduced horner cosineAt sineAt cosineOf sineOf allFinite nameByte every lowBytes bytesOfWord sixteen bytesOf pastEnd isName sameName ran sectionsFrom finiteSections given pipelined turns points indexAt partedOf allFine pointFine finitePoints finePoints sameNumbers sameRow placeOf envelopeOf phase0 dphase startPair rotationPair phaseNumbers judged foundFrom keptFrom summedBy joined joinedTwo packed zipped allNames doubledFrom allKnown rowFrom partOf partsAt planned onPart carried ofMark allRows firstsAfter good required movedBy turnedAt run.acted run.ran ranPulses ranBins sampled
+unfolding add sub mul div rem neg lt eq le sum round ofBits ofInt ceiling cutOf exp2Of fma wrapped reduced horner cosineAt sineAt cosineOf sineOf allFinite nameByte every lowBytes bytesOfWord sixteen bytesOf pastEnd isName sameName ran sectionsFrom finiteSections given pipelined turns points indexAt partedOf allFine pointFine finitePoints finePoints sameNumbers sameRow placeOf envelopeOf phase0 dphase startPair rotationPair phaseNumbers judged foundFrom keptFrom summedBy joined joinedTwo packed zipped allNames namesJudged rowFrom partOf partsAt planned onPart carried ofMark allRows firstsAfter good required movedBy turnedAt run.acted run.ran ranPulses ranBins sampled
 bench-table =
     -- B1
     record { place = refl; judge = refl; sample = refl; row = refl }

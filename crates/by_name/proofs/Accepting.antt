@@ -1,9 +1,9 @@
 -- A plan of what was read is accepted exactly where the tables have the channel and every column: the sheet's own rules leave nothing else
 -- to refuse. Assumes nothing.
-use Prim.Native.Nat.{ℕ, suc, _*_, _^_, _≤_}
+use Prim.Native.Nat.{ℕ, _*_, _^_, _≤_}
 use native.Mathlib.Omega.{arith}
-use mathlib.Core.Path.{_≡_, refl, ap, subst, _∙_}
-use mathlib.Core.Bool.{Bool, true, false, _&&_, cond}
+use mathlib.Core.Path.{_≡_, refl, ap, _∙_}
+use mathlib.Core.Bool.{true, _&&_}
 use mathlib.Core.List.{List, [], _∷_, _++_}
 use borrow.Author.Tests.{le-leb}
 use lib.Dec.{ltb}
@@ -12,19 +12,17 @@ use lib.Ieee.Scale.{finite}
 use lib.ListN.{length, take, length-take}
 use Rattle.exact.proofs.Truth.{both}
 use Rattle.naming.specs.declared.Name.{Name}
-use Rattle.naming.specs.Name.{isName, sameName}
-use Rattle.naming.proofs.Named.{same-exactly}
+use Rattle.naming.specs.Name.{isName}
 use Rattle.rows.specs.Rows.{allFinite}
-use Rattle.sheet.specs.Sheet.{SoFar, doubles, under, rowsFor, Sheet, goodNames, single, finiteBits}
+use Rattle.sheet.specs.Sheet.{SoFar, doubles, under, rowsFor, Sheet, goodNames, finiteBits}
 use Rattle.sheet.proofs.Filling.{doubles-long}
 use Rattle.sheet_laws.specs.Words.{In, here, there, contents}
 use Rattle.sheet_laws.proofs.Arranged.{fine}
 use Rattle.sheet_laws.proofs.Factors.{rows-long, wide}
-use Rattle.sheet_laws.proofs.Names.{single-first, single-rest}
 use Rattle.tables.specs.declared.Tables.{Tables}
 use Rattle.crosstalk.specs.declared.names.Crosstalk.{Crosstalk}
 use Rattle.crosstalk.specs.declared.parts.Plan.{Plan}
-use Rattle.crosstalk.specs.Crosstalk.{allNames, repeatOf, doubledFrom}
+use Rattle.crosstalk.specs.Crosstalk.{allNames}
 use Rattle.crosstalk.proofs.Laws.{Passes, passed-all, accepted-is}
 use Rattle.by_name.specs.Words.{Given, Planned, AllKnown}
 use Rattle.by_name.proofs.Finding.{all-one, one-all}
@@ -36,20 +34,6 @@ all-good : (ns : List Name) → goodNames ns ≡ true → allNames ns ≡ true
 unfolding goodNames allNames
 all-good [] e = refl
 all-good (n ∷ ns) e = let two = both (isName n) (goodNames ns) e in rw (two .0, all-good ns (two .1))
-
-no-repeat : (n : Name) (k : ℕ) (ns : List Name) → (In n ns → ⊥) → repeatOf n k ns ≡ 0
-unfolding repeatOf
-no-repeat n k [] out = refl
-no-repeat n k (m ∷ ms) out = go (sameName m n) refl (no-repeat n (suc k) ms (λ h. out (there h)))
-  where
-    go : (b : Bool) → sameName m n ≡ b → repeatOf n (suc k) ms ≡ 0 → cond b k (repeatOf n (suc k) ms) ≡ 0
-    go true s e = absurd (out (subst (λ (x : Name). In x (m ∷ ms)) (same-exactly m n .0 s) here))
-    go false s e = e
-
-none-doubled : (k : ℕ) (ns : List Name) → single ns ≡ true → doubledFrom k ns ≡ 0
-unfolding doubledFrom
-none-doubled k [] one = refl
-none-doubled k (n ∷ ns) one = rw (no-repeat n (suc k) ns (single-first n ns one)) (none-doubled (suc k) ns (single-rest n ns one))
 
 -- ---- numbers
 
@@ -90,8 +74,7 @@ module _ (text : List ℕ) (before : List Float) (s : Sheet) (c : Crosstalk) (fa
         fine =
             rw (names, count, k .good, all-good (s .columns) (w .names), numbers-are text before s c factors g)
             (rows-finite (contents s) (s .columns) (fine s w));
-        single = rw names (none-doubled 1 (s .columns) (w .singleColumns));
-        lists = rw names (one-all t (s .columns) (k .columns));
+        clear = rw names (one-all t [] (s .columns) (w .singleColumns) (k .columns));
         known = k .channel;
       }
 
@@ -105,5 +88,5 @@ module _ (text : List ℕ) (before : List Float) (s : Sheet) (c : Crosstalk) (fa
       record {
         good = both (isName r) _ (both _ (allFinite (take (c .count * c .count) factors)) (p .fine) .0) .0;
         channel = p .known;
-        columns = all-one t (s .columns) (rw names at (p .lists));
+        columns = all-one t [] (s .columns) 0 (rw names at (p .clear));
       }

@@ -11,7 +11,8 @@ use lib.ListN.{take}
 use Rattle.exact.specs.Doubles.{one}
 use Rattle.naming.specs.declared.Name.{Name}
 use Rattle.sheet.specs.declared.read.Reading.{Reading}
-use Rattle.sheet.specs.Sheet.{isIn, Block, Sheet, Read}
+use Rattle.naming.specs.Name.{isIn}
+use Rattle.sheet.specs.Sheet.{Block, Sheet, Read}
 use Rattle.sheet_laws.specs.Words.{In, Permuted, countIn, entries, SameUpToOrder}
 use Rattle.sheet_laws.proofs.Names.{never, in-is, is-in}
 use Rattle.sheet_laws.proofs.Rows.{block-for, self, back, still-in}

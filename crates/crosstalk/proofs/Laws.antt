@@ -1,17 +1,19 @@
--- An accepted plan holds exactly the lists that take part, at most eight, each at one of the tables' eight places; and the unit matrix
--- gives what a channel that is not named gets: its own list alone. Assumes nothing.
+-- A plan is refused in one of four ways or holds exactly the lists that take part, at most eight, each at one of the tables' eight places; and
+-- the unit matrix gives what a channel that is not named gets: its own list alone. Assumes nothing.
 use Prim.Native.Nat.{ℕ, zero, suc, _+_, _*_, _≤_, _<_}
 use native.Mathlib.Omega.{arith}
 use mathlib.Core.Path.{_≡_, refl, ap, _∙_}
 use mathlib.Core.Bool.{Bool, true, false, cond, true≢false}
 use mathlib.Core.List.{List, [], _∷_, map}
-use borrow.Author.Tests.{eqb-true}
 use lib.Ieee.{Float, nan, eq, ofBits, ofFields}
 use lib.ListN.{length, take, drop, getD, length-map, length-take, length-drop}
 use lib.Seq.{take-at, getD-take, getD-drop, length-take-le}
 use Rattle.exact.specs.Doubles.{nought, one}
 use Rattle.naming.specs.declared.Name.{Name}
+use Rattle.quant.specs.declared.refusal.Answer.{Answer}
+use Rattle.quant.specs.declared.refusal.Answer.the-variants.{Done, Refused}
 use Rattle.quant.specs.declared.refusal.Refusal.{Refusal}
+use Rattle.quant.specs.declared.refusal.Refusal.the-variants as why
 use Rattle.naming.specs.Name.{sameName}
 use Rattle.naming.proofs.Named.{same-exactly}
 use Rattle.tables.specs.declared.Found.{Found}
@@ -22,40 +24,68 @@ use Rattle.tables.proofs.Finding.{found-eight}
 use Rattle.merge.specs.Taking.{Part, part, placeOfPart, factorOfPart, packed, zipped, partsIn}
 use Rattle.crosstalk.specs.declared.names.Crosstalk.{Crosstalk}
 use Rattle.crosstalk.specs.declared.parts.Plan.{Plan}
-use Rattle.crosstalk.specs.Crosstalk.{namesIn, crossFits, crossFine, doubledAt, isKnown, allKnown, refusedPlan, acceptedPlan, planned}
+use Rattle.crosstalk.specs.Crosstalk.{namesIn, crossFits, crossFine, isKnown, namesJudged, refusedPlan, acceptedPlan, unlessNamed, planned}
 use Rattle.crosstalk.specs.Crosstalk.{rowFrom, rowOf, partOf, rowParts, ownParts, rowAt, partsAt, partsFor}
 use Rattle.crosstalk.proofs.Fitting.{fitting, row-below, row-within}
-use Rattle.crosstalk.proofs.Repeats.{nameAt}
+use Rattle.crosstalk.specs.Faults.{nameAt, FirstAtFault}
+use Rattle.crosstalk.proofs.Faults.{name-told, told-done}
 
--- ---- what an accepted plan tells
+-- ---- what a plan says
 
 -- nothing refuses
 pub record Passes (t : Tables) (channel : Name) (c : Crosstalk) (factors : List Float) : Type 0 where
   pub fits : crossFits (c .count) (length factors) ≡ true
   pub fine : crossFine channel c (take (c .count * c .count) factors) ≡ true
-  pub single : doubledAt (namesIn c) ≡ 0
-  pub lists : allKnown t (namesIn c) ≡ true
+  pub clear : namesJudged t [] (namesIn c) ≡ Done 0
   pub known : isKnown (found t channel) ≡ true
 
--- one judgement: what is not refused passed it
-through : (b : Bool) (x : Plan) (r : Refusal) (k : ℕ) → cond b x (refusedPlan r k) .refused ≡ false → (b ≡ true) × (x .refused ≡ false)
-through true x r k e = (refl, e)
-through false x r k e = absurd (true≢false e)
-
 module _ (t : Tables) (channel : Name) (c : Crosstalk) (factors : List Float) where
-  pub passed-all : planned t channel c factors .refused ≡ false → Passes t channel c factors
+  -- the one way to each plan, in the order of the refusals
+  pub data Way : Plan → Type 0 where
+    wrong-size : crossFits (c .count) (length factors) ≡ false → Way (refusedPlan why.WrongSize 0)
+    malformed : crossFits (c .count) (length factors) ≡ true → crossFine channel c (take (c .count * c .count) factors) ≡ false → Way (refusedPlan why.Malformed 0)
+    at-fault : crossFits (c .count) (length factors) ≡ true → crossFine channel c (take (c .count * c .count) factors) ≡ true
+        → (r : Refusal) (k : ℕ) → FirstAtFault t (namesIn c) r k → Way (refusedPlan r k)
+    unknown : crossFits (c .count) (length factors) ≡ true → crossFine channel c (take (c .count * c .count) factors) ≡ true
+        → namesJudged t [] (namesIn c) ≡ Done 0 → isKnown (found t channel) ≡ false → Way (refusedPlan why.UnknownChannel 0)
+    accepted : Passes t channel c factors → Way (acceptedPlan (packed (partsFor t channel c factors)))
+
+  pub way : Way (planned t channel c factors)
   unfolding planned
-  passed-all e =
-      let a = through _ _ _ _ e in
-      let b = through _ _ _ _ (a .1) in
-      let d = through _ _ _ _ (b .1) in
-      let f = through _ _ _ _ (d .1) in
-      let g = through _ _ _ _ (f .1) in
-      record { fits = a .0; fine = b .0; single = eqb-true (doubledAt (namesIn c)) 0 (d .0); lists = f .0; known = g .0 }
+  way = by (crossFits (c .count) (length factors)) (crossFine channel c (take (c .count * c .count) factors)) (namesJudged t [] (namesIn c)) (isKnown (found t channel)) refl refl refl refl
+    where
+      by : (u v : Bool) (a : Answer) (y : Bool) → crossFits (c .count) (length factors) ≡ u → crossFine channel c (take (c .count * c .count) factors) ≡ v
+          → namesJudged t [] (namesIn c) ≡ a → isKnown (found t channel) ≡ y
+          → Way (cond u (cond v (unlessNamed a (cond y (acceptedPlan (packed (partsFor t channel c factors))) (refusedPlan why.UnknownChannel 0))) (refusedPlan why.Malformed 0)) (refusedPlan why.WrongSize 0))
+      by false v a y f g h k = wrong-size f
+      by true false a y f g h k = malformed f g
+      by true true (Refused r j) y f g h k = at-fault f g r j (name-told t (namesIn c) r j .0 h)
+      by true true (Done n) y f g h k = passed y k (h ∙ ap Done (told-done t (namesIn c) n h))
+        where
+          passed : (y : Bool) → isKnown (found t channel) ≡ y → namesJudged t [] (namesIn c) ≡ Done 0
+              → Way (cond y (acceptedPlan (packed (partsFor t channel c factors))) (refusedPlan why.UnknownChannel 0))
+          passed false k h = unknown f g h k
+          passed true k h = accepted (record { fits = f; fine = g; clear = h; known = k })
+
+  pub passed-all : planned t channel c factors .refused ≡ false → Passes t channel c factors
+  passed-all e = by (planned t channel c factors) way e
+    where
+      by : (p : Plan) → Way p → p .refused ≡ false → Passes t channel c factors
+      by p (wrong-size f) e = absurd (true≢false e)
+      by p (malformed f g) e = absurd (true≢false e)
+      by p (at-fault f g r k h) e = absurd (true≢false e)
+      by p (unknown f g h k) e = absurd (true≢false e)
+      by p (accepted passes) e = passes
 
   pub accepted-is : Passes t channel c factors → planned t channel c factors ≡ acceptedPlan (packed (partsFor t channel c factors))
   unfolding planned
-  accepted-is p = rw (p .fits, p .fine, p .single, p .lists, p .known)
+  accepted-is p = rw (p .fits, p .fine, p .clear, p .known)
+
+  -- the first name at fault is told, in the plan's own place in the order
+  pub name-planned : crossFits (c .count) (length factors) ≡ true → crossFine channel c (take (c .count * c .count) factors) ≡ true
+      → (r : Refusal) (k : ℕ) → FirstAtFault t (namesIn c) r k → planned t channel c factors ≡ refusedPlan r k
+  unfolding planned
+  name-planned fits fine r k f = rw (fits, fine, name-told t (namesIn c) r k .1 f)
 
 -- ---- what the two arrays hold
 

@@ -2,5 +2,5 @@ pub mod Sizes
 pub mod Fitting
 pub mod Scanning
 pub mod Pushing
-pub mod Repeats
+pub mod Faults
 pub mod Laws

@@ -1,17 +1,21 @@
 -- What is judged of names, one name after the other: of ns, whose first is n, by n and the rest. Assumes nothing.
-use Prim.Native.Nat.{ℕ, suc, _+_}
+use Prim.Native.Nat.{ℕ, _+_, _<_}
 use native.Mathlib.Numerals.{add-one}
 use native.Mathlib.Omega.{arith}
-use borrow.Author.Tests.{ne-eqb}
 use mathlib.Core.Path.{_≡_}
-use mathlib.Core.Bool.{true, false}
-use mathlib.Core.List.{List, [], _∷_}
+use mathlib.Core.Bool.{true, false, cond}
+use mathlib.Core.List.{List, [], _∷_, _++_}
+use lib.ListN.{length, take, drop, getD}
+use lib.Seq.{take-suc, length-take-le}
 use Rattle.naming.specs.declared.Name.{Name}
-use Rattle.naming.specs.Name.{isName, sameName}
+use Rattle.naming.specs.Name.{isName, sameName, isIn}
+use Rattle.quant.specs.declared.refusal.Answer.the-variants.{Done, Refused}
+use Rattle.quant.specs.declared.refusal.Refusal.the-variants.{DoubledName, NoList}
 use Rattle.tables.specs.declared.Found.the-variants.{At, Nowhere}
 use Rattle.tables.specs.declared.Tables.{Tables}
-use Rattle.tables.specs.Tables.{found}
-use Rattle.crosstalk.specs.Crosstalk.{allNames, repeatOf, doubledFrom, allKnown, rowFrom}
+use Rattle.tables.specs.Tables.{noName, found}
+use Rattle.tables.proofs.Finding.{next-left}
+use Rattle.crosstalk.specs.Crosstalk.{allNames, isKnown, namesJudged, rowFrom}
 
 -- ---- no name is left
 
@@ -20,21 +24,17 @@ module _ (ns : List Name) (e : ns ≡ []) where
   unfolding allNames
   names-end = rw e
 
-  pub known-end : (t : Tables) → allKnown t ns ≡ true
-  unfolding allKnown
-  known-end t = rw e
+  pub judged-end : (t : Tables) (before : List Name) → namesJudged t before ns ≡ Done 0
+  unfolding namesJudged
+  judged-end t before = rw e
+
+  pub in-end : (n : Name) → isIn n ns ≡ false
+  unfolding isIn
+  in-end n = rw e
 
   pub row-end : (k : ℕ) (m : Name) → rowFrom k m ns ≡ Nowhere
   unfolding rowFrom
   row-end k m = rw e
-
-  pub repeat-end : (k : ℕ) (m : Name) → repeatOf m k ns ≡ 0
-  unfolding repeatOf
-  repeat-end k m = rw e
-
-  pub doubled-end : (k : ℕ) → doubledFrom k ns ≡ 0
-  unfolding doubledFrom
-  doubled-end k = rw e
 
 -- ---- a name, and the rest
 
@@ -47,13 +47,13 @@ module _ (ns rest : List Name) (n : Name) (e : ns ≡ n ∷ rest) where
   unfolding allNames
   names-later h = rw (e, h)
 
-  pub known-not : (t : Tables) → found t n ≡ Nowhere → allKnown t ns ≡ false
-  unfolding allKnown
-  known-not t f = rw (e, f)
+  pub in-here : (m : Name) → sameName n m ≡ true → isIn m ns ≡ true
+  unfolding isIn
+  in-here m h = rw (e, h)
 
-  pub known-later : (t : Tables) (i : ℕ) → found t n ≡ At i → allKnown t rest ≡ allKnown t ns
-  unfolding allKnown
-  known-later t i f = rw (e, f)
+  pub in-later : (m : Name) → sameName n m ≡ false → isIn m rest ≡ isIn m ns
+  unfolding isIn
+  in-later m h = rw (e, h)
 
   pub row-here : (k : ℕ) (m : Name) → sameName n m ≡ true → rowFrom k m ns ≡ At k
   unfolding rowFrom
@@ -63,23 +63,14 @@ module _ (ns rest : List Name) (n : Name) (e : ns ≡ n ∷ rest) where
   unfolding rowFrom
   row-later k m h = rw (e, h, add-one k)
 
-  pub repeat-here : (k : ℕ) (m : Name) → sameName n m ≡ true → repeatOf m k ns ≡ k
-  unfolding repeatOf
-  repeat-here k m h = rw (e, h)
+-- ---- the names before a place, and those from it on
 
-  pub repeat-later : (k : ℕ) (m : Name) → sameName n m ≡ false → repeatOf m (k + 1) rest ≡ repeatOf m k ns
-  unfolding repeatOf
-  repeat-later k m h = rw (e, h, add-one k)
-
-  -- n stands again at j + 1
-  pub doubled-here : (k j : ℕ) → repeatOf n (k + 1) rest ≡ j + 1 → doubledFrom k ns ≡ j + 1
-  unfolding doubledFrom
-  doubled-here k j h =
-      let again : repeatOf n (suc k) rest ≡ suc j = rw (add-one k, add-one j) at h in
-      rw (e, again, ne-eqb (suc j) 0 (λ z. omega arith), add-one j)
-
-  pub doubled-later : (k : ℕ) → repeatOf n (k + 1) rest ≡ 0 → doubledFrom (k + 1) rest ≡ doubledFrom k ns
-  unfolding doubledFrom
-  doubled-later k h =
-      let not-again : repeatOf n (suc k) rest ≡ 0 = rw (add-one k) at h in
-      rw (e, not-again, add-one k)
+module _ (t : Tables) (names : List Name) (count i : ℕ) (within : i < count) (there : i < length names) where
+  pub judged-next : let n = getD names i noName in
+      namesJudged t (take i names) (drop i (take count names))
+      ≡ cond (isIn n (take i names)) (Refused DoubledName (i + 1))
+      (cond (isKnown (found t n)) (namesJudged t (take (i + 1) names) (drop (i + 1) (take count names))) (Refused NoList (i + 1)))
+  unfolding namesJudged
+  judged-next =
+      let grown : take (i + 1) names ≡ take i names ++ getD names i noName ∷ [] = rw (add-one i) (take-suc names i noName there) in
+      rw (next-left names count i noName within there, grown, length-take-le i names (omega arith))

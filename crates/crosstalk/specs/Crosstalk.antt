@@ -1,17 +1,18 @@
 -- Document 01: "a channel among the names takes its row; factor 0 skips a list"; "A channel not named takes its own list"; and of a
--- sampling call's order 13, 2, 14, 7. Definitions only.
+-- sampling call's order 13, 2, 17 and 18, 7. Definitions only.
 use Prim.Native.Nat.{ℕ, suc, _+_, _*_}
 use mathlib.Core.Bool.{Bool, true, false, _&&_, cond}
-use mathlib.Core.List.{List, [], _∷_}
-use lib.Dec.{leb, eqb}
+use mathlib.Core.List.{List, [], _∷_, _++_}
+use lib.Dec.{leb}
 use lib.Ieee.{Float, eq}
 use lib.ListN.{length, take, drop, set}
 use Rattle.exact.specs.Doubles.{nought, one}
 use Rattle.naming.specs.declared.Name.{Name}
+use Rattle.quant.specs.declared.refusal.Answer.{Answer}
 use Rattle.quant.specs.declared.refusal.Answer.the-variants.{Done, Refused}
 use Rattle.quant.specs.declared.refusal.Refusal.{Refusal}
 use Rattle.quant.specs.declared.refusal.Refusal.the-variants as why
-use Rattle.naming.specs.Name.{isName, sameName}
+use Rattle.naming.specs.Name.{isName, sameName, isIn}
 use Rattle.rows.specs.Rows.{allFinite}
 use Rattle.tables.specs.declared.Found.{Found}
 use Rattle.tables.specs.declared.Found.the-variants.{At, Nowhere}
@@ -40,30 +41,19 @@ allNames (n ∷ ns) = isName n && allNames ns
 abbrev pub crossFine : Name → Crosstalk → List Float → Bool
 crossFine channel c read = isName channel && allNames (namesIn c) && allFinite read
 
--- ---- 14
-
--- where a name first stands again, counted from k; 0 where it does not
-unfoldable pub repeatOf : Name → ℕ → List Name → ℕ
-repeatOf n k [] = 0
-repeatOf n k (m ∷ ms) = cond (sameName m n) k (repeatOf n (suc k) ms)
-
--- "The first name that occurs twice in reading order is told": the first that stands again later, by its first repeat
-unfoldable pub doubledFrom : ℕ → List Name → ℕ
-doubledFrom k [] = 0
-doubledFrom k (n ∷ ns) = cond (eqb (repeatOf n (suc k) ns) 0) (doubledFrom (suc k) ns) (repeatOf n (suc k) ns)
-
--- "the first repeat's position, from 1"; 0 where no name is doubled
-abbrev pub doubledAt : List Name → ℕ
-doubledAt ns = doubledFrom 1 ns
+-- ---- 17 and 18
 
 abbrev pub isKnown : Found → Bool
 isKnown (At i) = true
 isKnown Nowhere = false
 
--- each name has a channel, and so a list
-unfoldable pub allKnown : Tables → List Name → Bool
-allKnown t [] = true
-allKnown t (n ∷ ns) = isKnown (found t n) && allKnown t ns
+-- Document 02, P2: "17 (doubled), 18 (no list) .., in that order at one name, names taken in reading order". Of the names behind those
+-- `before`, the first that stood before or that no channel has, by its position from 1; `Done 0` where there is none.
+unfoldable pub namesJudged : Tables → List Name → List Name → Answer
+namesJudged t before [] = Done 0
+namesJudged t before (n ∷ ns) =
+    cond (isIn n before) (Refused why.DoubledName (length before + 1))
+    (cond (isKnown (found t n)) (namesJudged t (before ++ n ∷ []) ns) (Refused why.NoList (length before + 1)))
 
 -- ---- the lists that take part
 
@@ -114,16 +104,17 @@ refusedPlan r place = record { refused = true; answer = Refused r place; taking 
 abbrev pub acceptedPlan : Taking → Plan
 acceptedPlan k = record { refused = false; answer = Done 0; taking = k }
 
--- 13, 2, 14 for a doubled name and then for a missing list, 7
+-- a plan that is made unless a name is at fault
+abbrev pub unlessNamed : Answer → Plan → Plan
+unlessNamed (Done n) p = p
+unlessNamed (Refused r place) p = refusedPlan r place
+
+-- 13, 2, the names, 7
 unfoldable pub planned : Tables → Name → Crosstalk → List Float → Plan
 planned t channel c factors =
-    let names = namesIn c in
     cond (crossFits (c .count) (length factors))
     (cond (crossFine channel c (take (c .count * c .count) factors))
-    (cond (eqb (doubledAt names) 0)
-    (cond (allKnown t names)
-    (cond (isKnown (found t channel)) (acceptedPlan (packed (partsFor t channel c factors))) (refusedPlan why.UnknownChannel 0))
-    (refusedPlan why.Crosstalk 0))
-    (refusedPlan why.Crosstalk (doubledAt names)))
+    (unlessNamed (namesJudged t [] (namesIn c))
+    (cond (isKnown (found t channel)) (acceptedPlan (packed (partsFor t channel c factors))) (refusedPlan why.UnknownChannel 0)))
     (refusedPlan why.Malformed 0))
     (refusedPlan why.WrongSize 0)

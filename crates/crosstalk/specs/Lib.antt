@@ -1,1 +1,2 @@
 pub mod Crosstalk
+pub mod Faults

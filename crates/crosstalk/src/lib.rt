@@ -1,12 +1,12 @@
 // Which channels' lists take part in a sampling, with which factors, or the refusal. The crosstalk half of the Rust's `merge_and_sample`.
-// Document 01: "a channel among the names takes its row; factor 0 skips a list". Of a sampling call's order 13, 2, 14, 7 are judged here.
+// Document 01: "a channel among the names takes its row; factor 0 skips a list". Of a sampling call's order 13, 2, 17 and 18, 7 are judged here.
 ghost use mathlib.Core.Path.{_≡_};
 ghost use Prim.Native.Nat.{_≤_};
-ghost use Rattle.crosstalk.specs.Crosstalk.{crossFits, crossFine, isKnown, planned};
+ghost use Rattle.crosstalk.specs.Crosstalk.{crossFits, crossFine, planned};
 use names::Crosstalk;
-use names::all_known;
 use names::all_names;
-use names::doubled_at;
+use names::is_known;
+use names::names_judged;
 use naming::Name;
 use naming::is_name;
 use parts::Plan;
@@ -14,9 +14,9 @@ use parts::accepted;
 use parts::parts_for;
 use parts::refused;
 use quant::judge::both;
+use quant::refusal::Answer;
 use quant::refusal::Refusal;
 use rows::all_finite;
-use tables::Found;
 use tables::Tables;
 use tables::find;
 
@@ -34,12 +34,9 @@ pub fn plan(t: Tables, channel: Name, c: Crosstalk, factors: &[f64]) -> Plan
     if !is_fine(channel, c, &factors[..n * n]) {
         return refused(Refusal::Malformed, 0);
     }
-    let place = doubled_at(c);
-    if place != 0 {
-        return refused(Refusal::Crosstalk, place);
-    }
-    if !all_known(t, c) {
-        return refused(Refusal::Crosstalk, 0);
+    let names = names_judged(t, c);
+    if let Answer::Refused(why, place) = names {
+        return refused(why, place);
     }
     if !is_known(find(t, channel)) {
         return refused(Refusal::UnknownChannel, 0);
@@ -62,13 +59,4 @@ fn is_fine(channel: Name, c: Crosstalk, factors: &[f64]) -> bool
     ensures { λ r. ⌜ r ≡ crossFine channel c (now (factors .entry)) ⌝ }
 {
     both(both(is_name(channel), all_names(c)), all_finite(factors))
-}
-
-fn is_known(at: Found) -> bool
-    ensures { λ r. ⌜ r ≡ isKnown at ⌝ }
-{
-    match at {
-        Found::At(_) => true,
-        Found::Nowhere => false,
-    }
 }

@@ -1,10 +1,13 @@
 // The names of a crosstalk matrix, and what is judged of them.
 ghost use mathlib.Core.Path.{_≡_};
 ghost use Prim.Native.Nat.{_≤_};
-ghost use Rattle.crosstalk.specs.Crosstalk.{namesIn, allNames, doubledAt, allKnown, rowOf};
+ghost use mathlib.Core.List.{[]};
+ghost use Rattle.crosstalk.specs.Crosstalk.{namesIn, allNames, isKnown, namesJudged, rowOf};
 use naming::Name;
 use naming::is_name;
 use naming::same;
+use quant::refusal::Answer;
+use quant::refusal::Refusal;
 use tables::Found;
 use tables::Tables;
 use tables::find;
@@ -29,44 +32,38 @@ pub(crate) fn all_names(c: Crosstalk) -> bool
     true
 }
 
-// "The first name that occurs twice in reading order is told": where it first stands again, from 1; 0 where no name does.
-pub(crate) fn doubled_at(c: Crosstalk) -> usize
+// "names taken in reading order": the first that stood before (17) or has no list (18), by its position from 1; done where there is none.
+pub(crate) fn names_judged(t: Tables, c: Crosstalk) -> Answer
     requires { ⌜ c .count ≤ 8 ⌝ }
-    ensures { λ r. ⌜ r ≡ doubledAt (namesIn c) ⌝ }
+    ensures { λ r. ⌜ r ≡ namesJudged t [] (namesIn c) ⌝ }
 {
-    let mut place: usize = 0;
+    let mut answer = Answer::Done(0);
     let mut i: usize = 0;
     'scan: while i < c.count {
-        let mut k = i + 1;
-        while k < c.count {
+        let mut k: usize = 0;
+        while k < i {
             if same(c.names[k], c.names[i]) {
-                place = k + 1;
+                answer = Answer::Refused(Refusal::DoubledName, i + 1);
                 break 'scan;
             }
             k += 1;
         }
+        if !is_known(find(t, c.names[i])) {
+            answer = Answer::Refused(Refusal::NoList, i + 1);
+            break 'scan;
+        }
         i += 1;
     }
-    place
+    answer
 }
 
-// Whether each name has a channel.
-pub(crate) fn all_known(t: Tables, c: Crosstalk) -> bool
-    requires { ⌜ c .count ≤ 8 ⌝ }
-    ensures { λ r. ⌜ r ≡ allKnown t (namesIn c) ⌝ }
+pub(crate) fn is_known(at: Found) -> bool
+    ensures { λ r. ⌜ r ≡ isKnown at ⌝ }
 {
-    let mut i: usize = 0;
-    while i < c.count {
-        match find(t, c.names[i]) {
-            Found::At(_) => {
-                i += 1;
-            }
-            Found::Nowhere => {
-                return false;
-            }
-        }
+    match at {
+        Found::At(_) => true,
+        Found::Nowhere => false,
     }
-    true
 }
 
 // Where a channel stands among the names: its row.

@@ -1,5 +1,5 @@
 -- Which numbers the definitions of the calls can refuse with: by their cases and tests. Assumes nothing.
-use Prim.Native.Nat.{ℕ, _*_}
+use Prim.Native.Nat.{ℕ}
 use mathlib.Core.Path.{_≡_, refl, sym, subst, _∙_}
 use mathlib.Core.Bool.{Bool, true, false, _||_, cond, true≢false}
 use mathlib.Core.List.{List, [], _∷_}
@@ -20,10 +20,12 @@ use Rattle.pulse.specs.declared.bin.Bin.{Bin}
 use Rattle.pulse.specs.declared.envelope.Shape.{Shape}
 use Rattle.pulse.specs.declared.list.Pulse.{Pulse}
 use Rattle.tables.specs.declared.Tables.{Tables}
-use Rattle.tables.specs.Tables.{found}
-use Rattle.merge.specs.Taking.{packed, partsIn}
+use Rattle.merge.specs.Taking.{partsIn}
 use Rattle.crosstalk.specs.declared.names.Crosstalk.{Crosstalk}
-use Rattle.crosstalk.specs.Crosstalk.{namesIn, crossFits, crossFine, doubledAt, allKnown, isKnown, partsFor, acceptedPlan, refusedPlan, planned}
+use Rattle.crosstalk.specs.declared.parts.Plan.{Plan}
+use Rattle.crosstalk.specs.Crosstalk.{namesIn, planned}
+use Rattle.crosstalk.specs.Faults.{AtFault, doubled, no-list}
+use Rattle.crosstalk.proofs.Laws.{Way, wrong-size, malformed, at-fault, unknown, accepted, way}
 use Rattle.shape.specs.declared.envelope.Enveloped.{Enveloped}
 use Rattle.shape.specs.declared.envelope.Enveloped.the-variants as enveloped
 use Rattle.shape.specs.declared.parts.Parts.{Parts}
@@ -114,20 +116,20 @@ judged-said s b numbers p len = by (judged s b numbers p len) refl
 
 -- ---- the plan of a sampling
 
-pub planned-said : (t : Tables) (channel : Name) (c : Crosstalk) (factors : List Float) → Said (13 ∷ 2 ∷ 14 ∷ 7 ∷ []) Unit (planned t channel c factors .answer)
-unfolding planned among
-planned-said t channel c factors =
-    go (crossFits (c .count) (length factors)) (crossFine channel c (take (c .count * c .count) factors)) (eqb (doubledAt (namesIn c)) 0) (allKnown t (namesIn c)) (isKnown (found t channel))
+pub planned-said : (t : Tables) (channel : Name) (c : Crosstalk) (factors : List Float) → Said (13 ∷ 2 ∷ 17 ∷ 18 ∷ 7 ∷ []) Unit (planned t channel c factors .answer)
+unfolding among
+planned-said t channel c factors = by (planned t channel c factors) (way t channel c factors)
   where
-    go : (u v w x y : Bool)
-        → Said (13 ∷ 2 ∷ 14 ∷ 7 ∷ []) Unit
-        (cond u (cond v (cond w (cond x (cond y (acceptedPlan (packed (partsFor t channel c factors))) (refusedPlan why.UnknownChannel 0)) (refusedPlan why.Crosstalk 0)) (refusedPlan why.Crosstalk (doubledAt (namesIn c)))) (refusedPlan why.Malformed 0)) (refusedPlan why.WrongSize 0) .answer)
-    go true true true true true = tt
-    go true true true true false = (refl, tt)
-    go true true true false y = (refl, tt)
-    go true true false x y = (refl, tt)
-    go true false w x y = (refl, tt)
-    go false v w x y = (refl, tt)
+    named : (q : Refusal) (i : ℕ) → AtFault t (namesIn c) i q → among (13 ∷ 2 ∷ 17 ∷ 18 ∷ 7 ∷ []) (numberOf q) ≡ true
+    named q i (doubled _) = refl
+    named q i (no-list _ _) = refl
+
+    by : (p : Plan) → Way t channel c factors p → Said (13 ∷ 2 ∷ 17 ∷ 18 ∷ 7 ∷ []) Unit (p .answer)
+    by p (wrong-size _) = (refl, tt)
+    by p (malformed _ _) = (refl, tt)
+    by p (at-fault _ _ q k first) = (named q (first .place) (first .fault), tt)
+    by p (unknown _ _ _ _) = (refl, tt)
+    by p (accepted _) = tt
 
 -- ---- pulses one after another, and commands
 

@@ -1,7 +1,7 @@
--- Which numbers a sheet is refused with: read, 13, 15, 2 and 14, line by line; printed, 13, 2 and 14. Assumes nothing.
+-- Which numbers a sheet is refused with: read, 13, 15, 2, 17 and 19, line by line; printed, 13, 2 and 17. Assumes nothing.
 use Prim.Native.Nat.{ℕ, suc, _+_, _*_}
 use mathlib.Core.Path.{_≡_, refl}
-use mathlib.Core.Bool.{Bool, true, false, _&&_, _||_, not, cond}
+use mathlib.Core.Bool.{Bool, true, false, _&&_, not, cond}
 use mathlib.Core.List.{List, [], _∷_, _++_}
 use lib.Dec.{leb, ltb, eqb}
 use lib.Ieee.{Float, binary64, ofBits}
@@ -9,7 +9,7 @@ use lib.Ieee.Scale.{finite}
 use lib.ListN.{length, take, drop}
 use Rattle.exact.specs.Among.{among}
 use Rattle.hex.specs.Hex.{allDigits, number}
-use Rattle.naming.specs.Name.{isName, namingOf}
+use Rattle.naming.specs.Name.{isName, namingOf, isIn}
 use Rattle.naming.specs.declared.Name.{Name}
 use Rattle.naming.specs.declared.Naming.{Naming}
 use Rattle.naming.specs.declared.Naming.the-variants.{Named, Bad}
@@ -19,7 +19,7 @@ use Rattle.quant.specs.declared.refusal.Refusal.{Refusal}
 use Rattle.quant.specs.declared.refusal.Refusal.the-variants as why
 use Rattle.quant.specs.Refusal.{numberOf}
 use Rattle.sheet.specs.declared.print.Printed.{Printed}
-use Rattle.sheet.specs.Sheet.{cut, Behind, value, other, behind, channelsKey, columnKey, rowKey, factorKey, isIn, SoFar, nothing, Step, goes, stops, countStep, columnNamed, columnStep, rowNamed, rowStep, factorBits, factorStep, step, complete}
+use Rattle.sheet.specs.Sheet.{cut, Behind, value, other, behind, channelsKey, columnKey, rowKey, factorKey, SoFar, nothing, Step, goes, stops, countStep, columnNamed, columnStep, rowNamed, rowStep, factorBits, factorStep, step, complete}
 use Rattle.sheet.specs.Sheet.{Outcome, accepts, refuses, onward, readFrom, outcome, answerOf, matrixOf, sheetOf, sheetText, columnsJudged, factorAt, factorsJudged, printedBy, printFits, printedOf, printedAnswer, bytesAfter}
 use Rattle.sheet_answer.specs.Answer.{answerText, answerPrints, answerLeft}
 use Rattle.every_call.specs.Demand.{Said}
@@ -27,7 +27,7 @@ use Rattle.every_call.specs.Demand.{Said}
 -- ---- read
 
 abbrev sheetNumbers : List ℕ
-sheetNumbers = 13 ∷ 15 ∷ 2 ∷ 14 ∷ []
+sheetNumbers = 13 ∷ 15 ∷ 2 ∷ 17 ∷ 19 ∷ []
 
 abbrev Numbered : Refusal → Type 0
 Numbered r = among sheetNumbers (numberOf r) ≡ true
@@ -40,9 +40,13 @@ malformed : Numbered why.Malformed
 unfolding among
 malformed = refl
 
-doubled : Numbered why.Crosstalk
+doubled : Numbered why.DoubledName
 unfolding among
 doubled = refl
+
+no-column : Numbered why.NoColumn
+unfolding among
+no-column = refl
 
 abbrev Good : Step → Type 0
 Good (goes s) = Unit {0}
@@ -62,7 +66,7 @@ count-good (value (d ∷ (e ∷ es))) = layout
 column-named-good : (s : SoFar) (n : Naming) → Good (columnNamed s n)
 unfolding columnNamed
 column-named-good s Bad = malformed
-column-named-good s (Named n) = one-of (isIn n (s .columns)) (stops why.Crosstalk) _ doubled tt
+column-named-good s (Named n) = one-of (isIn n (s .columns)) (stops why.DoubledName) _ doubled tt
 
 column-good : (s : SoFar) (b : Behind) → Good (columnStep s b)
 unfolding columnStep
@@ -72,7 +76,7 @@ column-good s (value bytes) = column-named-good s (namingOf bytes)
 row-named-good : (s : SoFar) (n : Naming) → Good (rowNamed s n)
 unfolding rowNamed
 row-named-good s Bad = malformed
-row-named-good s (Named n) = one-of (isIn n (s .rows) || not (isIn n (s .columns))) (stops why.Crosstalk) _ doubled tt
+row-named-good s (Named n) = one-of (isIn n (s .rows)) (stops why.DoubledName) _ doubled (one-of (isIn n (s .columns)) _ (stops why.NoColumn) tt no-column)
 
 row-good : (s : SoFar) (b : Behind) → Good (rowStep s b)
 unfolding rowStep
@@ -136,7 +140,7 @@ module _ (before : List Float) where
 -- ---- printed
 
 abbrev printNumbers : List ℕ
-printNumbers = 13 ∷ 2 ∷ 14 ∷ []
+printNumbers = 13 ∷ 2 ∷ 17 ∷ []
 
 columns-said : (before ns : List Name) → Said printNumbers Unit (columnsJudged before ns)
 unfolding columnsJudged among
@@ -144,7 +148,7 @@ columns-said before [] = tt
 columns-said before (n ∷ ns) = go (isName n) (isIn n before) (columns-said (before ++ n ∷ []) ns)
   where
     go : (b c : Bool) → Said printNumbers Unit (columnsJudged (before ++ n ∷ []) ns)
-        → Said printNumbers Unit (cond (not b) (Refused why.Malformed (length before + 2)) (cond c (Refused why.Crosstalk (length before + 2)) (columnsJudged (before ++ n ∷ []) ns)))
+        → Said printNumbers Unit (cond (not b) (Refused why.Malformed (length before + 2)) (cond c (Refused why.DoubledName (length before + 2)) (columnsJudged (before ++ n ∷ []) ns)))
     go false c h = (refl, tt)
     go true true h = (refl, tt)
     go true false h = h

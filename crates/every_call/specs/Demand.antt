@@ -71,11 +71,11 @@ refusing measure = record { call = value.measure; answer = envelopedAnswer; numb
 refusing envelope = record { call = buffer.envelope; answer = λ y. envelopedAnswer (y .answer); numbers = 11 ∷ 12 ∷ 8 ∷ []; Kept = λ x y. y .scratch ≡ x .scratch }
 refusing judge = record { call = value.judge; answer = judgedAnswer; numbers = 8 ∷ 9 ∷ 10 ∷ 11 ∷ 12 ∷ []; Kept = none }
 refusing state = record { call = value.state; answer = toldAnswer; numbers = 2 ∷ 7 ∷ []; Kept = none }
-refusing plan = record { call = value.plan; answer = λ y. y .answer; numbers = 13 ∷ 2 ∷ 14 ∷ 7 ∷ []; Kept = none }
+refusing plan = record { call = value.plan; answer = λ y. y .answer; numbers = 13 ∷ 2 ∷ 17 ∷ 18 ∷ 7 ∷ []; Kept = none }
 refusing steps = record { call = value.answer; answer = λ y. y; numbers = 13 ∷ 2 ∷ []; Kept = none }
 refusing name-read = record { call = text.name-read; answer = namingAnswer; numbers = 2 ∷ []; Kept = none }
-refusing sheet-read = record { call = text.sheet-read; answer = λ y. y .reading .answer; numbers = 13 ∷ 15 ∷ 2 ∷ 14 ∷ []; Kept = λ x y. y .matrix ≡ x .matrix }
-refusing sheet-print = record { call = text.sheet-print; answer = λ y. printedAnswer (y .printed); numbers = 13 ∷ 2 ∷ 14 ∷ []; Kept = λ x y. y .out ≡ x .out }
+refusing sheet-read = record { call = text.sheet-read; answer = λ y. y .reading .answer; numbers = 13 ∷ 15 ∷ 2 ∷ 17 ∷ 19 ∷ []; Kept = λ x y. y .matrix ≡ x .matrix }
+refusing sheet-print = record { call = text.sheet-print; answer = λ y. printedAnswer (y .printed); numbers = 13 ∷ 2 ∷ 17 ∷ []; Kept = λ x y. y .out ≡ x .out }
 refusing sheet-answer = record { call = text.sheet-answer; answer = λ y. printedAnswer (y .printed); numbers = 13 ∷ []; Kept = λ x y. y .out ≡ x .out }
 -- of both the commands or pulses before the refused one remain, as `system` says of `execute` and `sample`
 refusing mix-lists = record { call = buffer.mix-lists; answer = λ y. y .out .answer; numbers = 13 ∷ 8 ∷ 9 ∷ 10 ∷ 11 ∷ 12 ∷ []; Kept = λ x y. (y .work ≡ x .work) × (y .marks ≡ x .marks) }

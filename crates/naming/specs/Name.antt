@@ -2,7 +2,7 @@
 -- value as two 64-bit words and a length". Definitions only.
 use Prim.Native.Nat.{ℕ, zero, suc, _+_, _*_, _/_, _%_, _^_}
 use mathlib.Core.Path.{_≡_}
-use mathlib.Core.Bool.{Bool, true, _&&_, not, cond}
+use mathlib.Core.Bool.{Bool, true, false, _&&_, _||_, not, cond}
 use mathlib.Core.List.{List, [], _∷_, _++_}
 use lib.Dec.{leb, ltb, eqb}
 use lib.ListN.{length, take, drop}
@@ -84,6 +84,11 @@ inPlace len i b = cond (ltb i len) (nameByte b) (isZero b)
 -- whether two names have the same three numbers
 unfoldable pub sameName : Name → Name → Bool
 sameName a b = eqb (a .first) (b .first) && eqb (a .second) (b .second) && eqb (a .len) (b .len)
+
+-- whether a name is one of a list
+unfoldable pub isIn : Name → List Name → Bool
+isIn n [] = false
+isIn n (m ∷ ms) = sameName m n || isIn n ms
 
 -- ---- writing
 

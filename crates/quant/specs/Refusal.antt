@@ -3,9 +3,9 @@ use Prim.Native.Nat.{ℕ}
 use Rattle.quant.specs.declared.refusal.Answer.{Answer}
 use Rattle.quant.specs.declared.refusal.Answer.the-variants.{Done, Refused}
 use Rattle.quant.specs.declared.refusal.Refusal.{Refusal}
-use Rattle.quant.specs.declared.refusal.Refusal.the-variants.{Unfit, Malformed, Full, Oversize, UnknownShape, NegativePlateau, UnknownChannel, NotFinite, BeforeRow, StartPastRow, ShapeTooShort, EndPastRow, WrongSize, Crosstalk, Layout, WrongSpline}
+use Rattle.quant.specs.declared.refusal.Refusal.the-variants.{Unfit, Malformed, Full, Oversize, UnknownShape, NegativePlateau, UnknownChannel, NotFinite, BeforeRow, StartPastRow, ShapeTooShort, EndPastRow, WrongSize, Layout, WrongSpline, DoubledName, NoList, NoColumn}
 
--- 17 to 23 are kept for document 02
+-- document 02, P2: "14 becomes 17 (doubled), 18 (no list), 19 (no such column)"; 20 to 23 are kept for the rest of document 02
 abbrev pub numberOf : Refusal → ℕ
 numberOf Unfit = 1
 numberOf Malformed = 2
@@ -20,9 +20,11 @@ numberOf StartPastRow = 10
 numberOf ShapeTooShort = 11
 numberOf EndPastRow = 12
 numberOf WrongSize = 13
-numberOf Crosstalk = 14
 numberOf Layout = 15
 numberOf WrongSpline = 16
+numberOf DoubledName = 17
+numberOf NoList = 18
+numberOf NoColumn = 19
 
 -- "A refusal returns its number and a place"; "Acceptance returns the count": its number is 0. What an answer does not return is 0.
 pub record Reply : Type 0 where

@@ -2,7 +2,8 @@
 ghost use mathlib.Core.Path.{_≡_};
 ghost use Rattle.quant.specs.Refusal.{numberOf, codeOf};
 
-// One case for each number of document 01's table, in its order: `numberOf` gives the number.
+// One case for each number of document 01's table and of document 02, in their order: `numberOf` gives the number. No case gives 14: 17, 18 and 19
+// are told instead.
 pub enum Refusal {
     // 1: sample rate, 1/rate, delay, tolerance or align level unfit
     Unfit,
@@ -30,12 +31,16 @@ pub enum Refusal {
     EndPastRow,
     // 13: a lent buffer, command list, row, matrix, tap or section count has a wrong size
     WrongSize,
-    // 14: a crosstalk name is doubled, has no list, or a row name is no column
-    Crosstalk,
     // 15: a sheet breaks its layout
     Layout,
     // 16: a spline's knots fall, or its counts are wrong
     WrongSpline,
+    // 17: a crosstalk name stood before
+    DoubledName,
+    // 18: a crosstalk name has no list
+    NoList,
+    // 19: a sheet's row is no column
+    NoColumn,
 }
 
 // The count of commands run or pulses added; or the refusal and its place. `replyOf` gives number, place and count.
@@ -61,9 +66,11 @@ pub fn number(r: Refusal) -> usize
         Refusal::ShapeTooShort => 11,
         Refusal::EndPastRow => 12,
         Refusal::WrongSize => 13,
-        Refusal::Crosstalk => 14,
         Refusal::Layout => 15,
         Refusal::WrongSpline => 16,
+        Refusal::DoubledName => 17,
+        Refusal::NoList => 18,
+        Refusal::NoColumn => 19,
     }
 }
 

@@ -2,12 +2,10 @@
 use Prim.Native.Nat.{ℕ}
 use native.Mathlib.Omega.{arith}
 use mathlib.Core.Path.{_≡_, refl, sym, _∙_}
-use mathlib.Core.Bool.{Bool, true, false, cond, true≢false}
+use mathlib.Core.Bool.{Bool, true, false, true≢false}
 use mathlib.Core.List.{List}
-use lib.Dec.{eqb}
 use lib.Ieee.{Float}
-use lib.ListN.{length, take}
-use Prim.Native.Nat.{_*_}
+use lib.ListN.{length}
 use Rattle.naming.specs.declared.Name.{Name}
 use Rattle.quant.specs.declared.refusal.Answer.the-variants.{Done, Refused}
 use Rattle.quant.specs.declared.refusal.Refusal.{Refusal}
@@ -18,10 +16,10 @@ use Rattle.quant.specs.declared.settings.Settings.{Settings}
 use Rattle.quant.specs.Settings.{fittingOf}
 use Rattle.pulse.specs.declared.list.Pulse.{Pulse}
 use Rattle.tables.specs.declared.Tables.{Tables}
-use Rattle.tables.specs.Tables.{found}
-use Rattle.merge.specs.Taking.{packed}
 use Rattle.crosstalk.specs.declared.names.Crosstalk.{Crosstalk}
-use Rattle.crosstalk.specs.Crosstalk.{namesIn, crossFits, crossFine, doubledAt, allKnown, isKnown, partsFor, refusedPlan, acceptedPlan, planned}
+use Rattle.crosstalk.specs.declared.parts.Plan.{Plan}
+use Rattle.crosstalk.specs.Crosstalk.{planned}
+use Rattle.crosstalk.proofs.Laws.{Way, wrong-size, malformed, at-fault, unknown, accepted, way}
 use Rattle.mixdown.specs.Sampled.{Rowed}
 use Rattle.sampler.specs.declared.Request.{Request}
 use Rattle.sampler.specs.Sizes.{sizesFit}
@@ -30,21 +28,17 @@ use Rattle.sampler.specs.Sampler.{eachPulse, byClock, sampled}
 -- a refused plan is not done
 module _ (t : Tables) (channel : Name) (c : Crosstalk) (factors : List Float) where
   pub plan-told : (n : ℕ) → planned t channel c factors .answer ≡ Done n → planned t channel c factors .refused ≡ false
-  unfolding planned
-  plan-told n e = go (crossFits (c .count) (length factors)) (crossFine channel c (take (c .count * c .count) factors)) (eqb (doubledAt (namesIn c)) 0) (allKnown t (namesIn c)) (isKnown (found t channel)) e
+  plan-told n e = by (planned t channel c factors) (way t channel c factors) e
     where
-      not-done : (r : Refusal) (k : ℕ) → Refused r k ≡ Done n → true ≡ false
-      not-done r k f = let z : _≡_ {A = ℕ} 0 1 = cc in absurd (omega arith)
+      not-done : {r : Refusal} {k : ℕ} → Refused r k ≡ Done n → true ≡ false
+      not-done f = let z : _≡_ {A = ℕ} 0 1 = cc in absurd (omega arith)
 
-      go : (p q u v w : Bool)
-          → cond p (cond q (cond u (cond v (cond w (acceptedPlan (packed (partsFor t channel c factors))) (refusedPlan why.UnknownChannel 0)) (refusedPlan why.Crosstalk 0)) (refusedPlan why.Crosstalk (doubledAt (namesIn c)))) (refusedPlan why.Malformed 0)) (refusedPlan why.WrongSize 0) .answer ≡ Done n
-          → cond p (cond q (cond u (cond v (cond w (acceptedPlan (packed (partsFor t channel c factors))) (refusedPlan why.UnknownChannel 0)) (refusedPlan why.Crosstalk 0)) (refusedPlan why.Crosstalk (doubledAt (namesIn c)))) (refusedPlan why.Malformed 0)) (refusedPlan why.WrongSize 0) .refused ≡ false
-      go true true true true true f = refl
-      go true true true true false f = not-done why.UnknownChannel 0 f
-      go true true true false w f = not-done why.Crosstalk 0 f
-      go true true false v w f = not-done why.Crosstalk (doubledAt (namesIn c)) f
-      go true false u v w f = not-done why.Malformed 0 f
-      go false q u v w f = not-done why.WrongSize 0 f
+      by : (p : Plan) → Way t channel c factors p → p .answer ≡ Done n → p .refused ≡ false
+      by p (wrong-size _) f = not-done f
+      by p (malformed _ _) f = not-done f
+      by p (at-fault _ _ _ _ _) f = not-done f
+      by p (unknown _ _ _ _) f = not-done f
+      by p (accepted _) f = refl
 
 module _ (t : Tables) (r : Request) (c : Crosstalk) (factors : List Float) (bins : List (List Float)) (pulses : List Pulse) (st : Rowed) (work : List (List Float)) (marks : List ℕ) where
   abbrev sized : Bool

@@ -39,7 +39,7 @@ fits Unfit = false
 abbrev pub isFit : Request → Bool
 isFit r = fits (fittingOf (r .rate) (r .delay) (r .level))
 
--- a call passes its refusals, and each pulse is judged: it meets no 1, no 13 for what is lent, and none of 13, 2, 14 and 7 for the crosstalk and the channel
+-- a call passes its refusals, and each pulse is judged: it meets no 1, no 13 for what is lent, and none of 13, 2, 17, 18 and 7 for the crosstalk and the channel
 pub record Passes (t : Tables) (r : Request) (c : Crosstalk) (factors : List Float) (bins : List (List Float)) (pulses : List Pulse) (st : Rowed) (work : List (List Float)) (marks : List ℕ) : Type 0 where
   pub fit : fittingOf (r .rate) (r .delay) (r .level) ≡ Fit (settingsOf r)
   pub sizes : sizesFit (r .rows) (length (st .i)) (length (st .q)) (length (st .scratch)) (length bins) (length pulses) (length work) (length marks) ≡ true
@@ -51,7 +51,7 @@ refusedBefore r why = record { refused = true; answer = Refused why 0; settings 
 abbrev pub preparedBy : Request → Plan → Prepared
 preparedBy r p = record { refused = p .refused; answer = p .answer; settings = settingsOf r; taking = p .taking }
 
--- 1, 13, then 13, 2, 14 and 7 of the crosstalk and the channel
+-- 1, 13, then 13, 2, 17 and 18, 7 of the crosstalk and the channel
 unfoldable pub preparedOf : Tables → Request → Crosstalk → List Float → ℕ → ℕ → ℕ → ℕ → ℕ → ℕ → ℕ → Prepared
 preparedOf t r c factors bins pulses i q scratch work marks =
     cond (isFit r)

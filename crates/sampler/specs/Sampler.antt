@@ -1,4 +1,5 @@
--- Document 01: "A sampling call takes one channel. Its order: 1, 13, 2, 14, 7, then each pulse". Definitions only.
+-- Document 01: "A sampling call takes one channel. Its order: 1, 13, 2, 14, 7, then each pulse"; by document 02, 17 and 18 stand in place of 14.
+-- Definitions only.
 use Prim.Native.Nat.{ℕ}
 use mathlib.Core.Bool.{cond}
 use mathlib.Core.List.{List}
@@ -44,7 +45,7 @@ module _ (t : Tables) (r : Request) (bins : List (List Float)) (pulses : List Pu
       let o = ranBins s (r .rows) (mergedOf t bins pulses parts) (binsBy t bins parts) 0 st in
       left (o .answer) (o .left) (g .rows) (g .marks)
 
-  -- 13, 2, 14 and 7 of the crosstalk and the channel
+  -- 13, 2, 17 and 18, 7 of the crosstalk and the channel
   abbrev pub byPlan : Settings → Plan → Left
   byPlan s p = cond (p .refused) (left (p .answer) st work marks) (eachPulse s (p .taking))
 

@@ -92,7 +92,7 @@ pub fn sample(
     )
 }
 
-// "Its order: 1, 13, 2, 14, 7, then each pulse": all but the last.
+// "Its order: 1, 13, 2, 14, 7, then each pulse", and 17 and 18 in place of 14: all but the last.
 fn prepare(
     t: Tables,
     r: Request,

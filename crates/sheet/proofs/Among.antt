@@ -9,9 +9,9 @@ use borrow.Author.Tests.{lt-ltb, le-ltb, ltb-true, ltb-false}
 use lib.Dec.{ltb, leb·suc-suc}
 use lib.ListN.{length, getD, take, drop, length-drop}
 use lib.Seq.{length-take-le}
-use Rattle.naming.specs.Name.{sameName}
+use Rattle.naming.specs.Name.{sameName, isIn}
 use Rattle.naming.specs.declared.Name.{Name}
-use Rattle.sheet.specs.Sheet.{isIn, position}
+use Rattle.sheet.specs.Sheet.{position}
 use Rattle.sheet.proofs.Parts.{part-cons, part-end}
 
 module _ (n : Name) (l : List Name) (many : ℕ) (within : many ≤ length l) (i : ℕ) where

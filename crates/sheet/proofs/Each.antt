@@ -9,9 +9,9 @@ use borrow.Author.Tests.{not-true}
 use lib.ListN.{length}
 use Rattle.naming.proofs.Named.{same-exactly}
 use Rattle.exact.proofs.Truth.{both, neither}
-use Rattle.naming.specs.Name.{sameName}
+use Rattle.naming.specs.Name.{sameName, isIn}
 use Rattle.naming.specs.declared.Name.{Name}
-use Rattle.sheet.specs.Sheet.{isIn, single, among}
+use Rattle.sheet.specs.Sheet.{single, among}
 
 pub same-self : (n : Name) → sameName n n ≡ true
 same-self n = same-exactly n n .1 refl

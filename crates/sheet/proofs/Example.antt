@@ -5,7 +5,7 @@ use mathlib.Core.Path.{_≡_, refl}
 use lib.Ieee.{nan, ofBits, toBits}
 use lib.ListN.{replicate}
 use Rattle.hex.specs.Hex.{allDigits, number, digits, digitValue, digitOf}
-use Rattle.naming.specs.Name.{nameByte, every, accepted, wordOf, lowBytes, bytesOfWord, sixteen, bytesOf, named, namingOf, sameName}
+use Rattle.naming.specs.Name.{nameByte, every, accepted, wordOf, lowBytes, bytesOfWord, sixteen, bytesOf, named, namingOf, sameName, isIn}
 use Rattle.quant.specs.declared.refusal.Answer.the-variants.{Done, Refused}
 use Rattle.quant.specs.declared.refusal.Refusal.the-variants.{WrongSize, Layout}
 use Rattle.sheet.specs.Sheet as sheet
@@ -54,9 +54,9 @@ printed = channels-2 ++ column-q10 ++ column-q2 ++ row-q10 ++ one ++ nought ++ r
 
 -- what `outcome` computes with
 unfoldable reading : ℕ
-unfolding sheet.channelsKey sheet.columnKey sheet.rowKey sheet.factorKey sheet.onto sheet.cut sheet.behind sheet.isIn sheet.nothing
+unfolding sheet.channelsKey sheet.columnKey sheet.rowKey sheet.factorKey sheet.onto sheet.cut sheet.behind sheet.nothing
     sheet.countStep sheet.columnNamed sheet.columnStep sheet.rowNamed sheet.rowStep sheet.factorBits sheet.factorStep sheet.step sheet.complete
-    sheet.onward sheet.readFrom outcome answerOf allDigits number digitValue nameByte every accepted wordOf named namingOf sameName ofBits
+    sheet.onward sheet.readFrom outcome answerOf allDigits number digitValue nameByte every accepted wordOf named namingOf sameName isIn ofBits
 reading = 0
 
 -- what comes back and is printed, besides

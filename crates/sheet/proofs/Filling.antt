@@ -13,11 +13,11 @@ use lib.Ieee.{Float, binary64, ofBits}
 use lib.ListN.{length, getD, take, drop, length-append, length-drop}
 use lib.Seq.{getD-take, getD-drop, length-take-le}
 use Rattle.exact.proofs.Truth.{both}
-use Rattle.naming.specs.Name.{sameName}
+use Rattle.naming.specs.Name.{sameName, isIn}
 use Rattle.naming.specs.declared.Name.{Name}
 use Rattle.sheet.specs.Puts.{pasted}
 use Rattle.sheet.specs.Reader.{soFar, Fits}
-use Rattle.sheet.specs.Sheet.{SoFar, isIn, position, among, complete, doubles, under, rowsFor}
+use Rattle.sheet.specs.Sheet.{SoFar, position, among, complete, doubles, under, rowsFor}
 use Rattle.sheet.specs.declared.state.State.{State}
 use Rattle.sheet.proofs.Among.{is-in}
 use Rattle.sheet.proofs.Each.{each, same-self}

@@ -17,13 +17,13 @@ use Rattle.naming.proofs.Named.{well-formed, length-bytes, writes}
 use Rattle.exact.proofs.Truth.{both}
 use Rattle.naming.proofs.Words.{length-sixteen}
 use Rattle.naming.specs.Name as quant
-use Rattle.naming.specs.Name.{bytesOf, sixteen, isName}
+use Rattle.naming.specs.Name.{bytesOf, sixteen, isName, isIn}
 use Rattle.naming.specs.declared.Name.{Name}
 use Rattle.quant.specs.declared.refusal.Answer.the-variants.{Done, Refused}
 use Rattle.quant.specs.declared.refusal.Refusal.{Refusal}
-use Rattle.quant.specs.declared.refusal.Refusal.the-variants.{Malformed, WrongSize, Crosstalk}
+use Rattle.quant.specs.declared.refusal.Refusal.the-variants.{Malformed, WrongSize, DoubledName}
 use Rattle.sheet.specs.Puts.{Put, nameLine, factorLine, blockText, twoLines, namesSize}
-use Rattle.sheet.specs.Sheet.{channelsKey, columnKey, rowKey, factorKey, isIn, goodNames, allFinite, patterns, countText, columnsText, factorsText, blocksText, blocksOf, sheetOf, sheetText, printFits, columnsJudged, factorAt, factorsJudged, printedBy, printedOf, bytesAfter, Print}
+use Rattle.sheet.specs.Sheet.{channelsKey, columnKey, rowKey, factorKey, goodNames, allFinite, patterns, countText, columnsText, factorsText, blocksText, blocksOf, sheetOf, sheetText, printFits, columnsJudged, factorAt, factorsJudged, printedBy, printedOf, bytesAfter, Print}
 use Rattle.sheet.specs.declared.print.Printed.{Printed}
 use Rattle.sheet.proofs.Parts.{part-cons}
 
@@ -71,7 +71,7 @@ module _ (names : List Name) (count : ℕ) (within : count ≤ length names) (i 
 
   pub columns-next : columnsJudged (take i names) (drop i (take count names))
       ≡ cond (not (isName (getD names i d))) (Refused Malformed (i + 2))
-      (cond (isIn (getD names i d) (take i names)) (Refused Crosstalk (i + 2)) (columnsJudged (take (suc i) names) (drop (suc i) (take count names))))
+      (cond (isIn (getD names i d) (take i names)) (Refused DoubledName (i + 2)) (columnsJudged (take (suc i) names) (drop (suc i) (take count names))))
   unfolding columnsJudged
   columns-next = rw (part-cons names count within i d h, take-suc names i d (omega arith), length-take-le i names (omega arith))
 
@@ -209,7 +209,7 @@ good-columns before (n ∷ ns) k e = by (isName n) (isIn n before) e (good-colum
   where
     by : (t u : Bool)
         → cond (not t) (Refused Malformed (length before + 2))
-        (cond u (Refused Crosstalk (length before + 2)) (columnsJudged (before ++ n ∷ []) ns)) ≡ Done k
+        (cond u (Refused DoubledName (length before + 2)) (columnsJudged (before ++ n ∷ []) ns)) ≡ Done k
         → (columnsJudged (before ++ n ∷ []) ns ≡ Done k → goodNames ns ≡ true) → (t && goodNames ns) ≡ true
     by false u q more = let z : _≡_ {A = ℕ} 0 1 = cc in absurd (omega arith)
     by true true q more = let z : _≡_ {A = ℕ} 0 1 = cc in absurd (omega arith)

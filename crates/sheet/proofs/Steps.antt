@@ -15,13 +15,13 @@ use lib.ListN.{length, getD, take, drop, set, replicate, length-set, length-drop
 use lib.Seq.{drop-cons, drop-length, drop-set-lt, length-take-le, take-all, take-append-add, take-suc-set}
 use Rattle.hex.specs.Hex.{allDigits, number, room, field, wordAt}
 use Rattle.hex.specs.declared.Word.the-variants as word
-use Rattle.naming.specs.Name.{namingOf}
+use Rattle.naming.specs.Name.{namingOf, isIn}
 use Rattle.naming.specs.declared.Name.{Name}
 use Rattle.naming.specs.declared.Naming.{Naming}
 use Rattle.naming.specs.declared.Naming.the-variants.{Named, Bad}
 use Rattle.quant.specs.declared.refusal.Refusal.the-variants.{Layout}
 use Rattle.sheet.specs.Reader.{soFar, begun, Fits}
-use Rattle.sheet.specs.Sheet.{channelsKey, columnKey, rowKey, factorKey, behind, eight, step, complete, value, SoFar, goes, stops, countStep, columnNamed, columnStep, rowNamed, rowStep, factorBits, factorStep, isIn, blank, among}
+use Rattle.sheet.specs.Sheet.{channelsKey, columnKey, rowKey, factorKey, behind, eight, step, complete, value, SoFar, goes, stops, countStep, columnNamed, columnStep, rowNamed, rowStep, factorBits, factorStep, blank, among}
 use Rattle.sheet.specs.declared.state.State.{State}
 use Rattle.sheet.proofs.Each.{among-append, among-more, single-more}
 use Rattle.sheet.proofs.Parts.{few}

@@ -2,21 +2,21 @@
 -- printing leaves. Lines count from 1. Definitions only.
 use Prim.Native.Nat.{ℕ, suc, _+_, _-_, _*_, _/_, _^_}
 use mathlib.Core.Path.{_≡_}
-use mathlib.Core.Bool.{Bool, true, false, _&&_, _||_, not, cond}
+use mathlib.Core.Bool.{Bool, true, _&&_, not, cond}
 use mathlib.Core.List.{List, [], _∷_, _++_}
 use lib.Dec.{leb, ltb, eqb}
 use lib.Ieee.{Float, binary64, ofBits, toBits}
 use lib.Ieee.Scale.{finite}
 use lib.ListN.{length, take, drop, replicate}
 use Rattle.hex.specs.Hex.{allDigits, number, digits}
-use Rattle.naming.specs.Name.{namingOf, sameName, isName, bytesOf}
+use Rattle.naming.specs.Name.{namingOf, sameName, isIn, isName, bytesOf}
 use Rattle.naming.specs.declared.Name.{Name}
 use Rattle.naming.specs.declared.Naming.{Naming}
 use Rattle.naming.specs.declared.Naming.the-variants.{Named, Bad}
 use Rattle.quant.specs.declared.refusal.Answer.{Answer}
 use Rattle.quant.specs.declared.refusal.Answer.the-variants.{Done, Refused}
 use Rattle.quant.specs.declared.refusal.Refusal.{Refusal}
-use Rattle.quant.specs.declared.refusal.Refusal.the-variants.{Malformed, WrongSize, Crosstalk, Layout}
+use Rattle.quant.specs.declared.refusal.Refusal.the-variants.{Malformed, WrongSize, Layout, DoubledName, NoColumn}
 use Rattle.sheet.specs.declared.print.Printed.{Printed}
 use Rattle.sheet.specs.declared.read.Reading.{Reading}
 
@@ -68,11 +68,6 @@ behind (k ∷ ks) (b ∷ line) = cond (eqb k b) (behind ks line) other
 
 -- ---- names among names
 
--- whether a name is one of a list
-unfoldable pub isIn : Name → List Name → Bool
-isIn n [] = false
-isIn n (m ∷ ms) = sameName m n || isIn n ms
-
 -- how many names stand before the first that is n; all of them where none is
 unfoldable pub position : Name → List Name → ℕ
 position n [] = 0
@@ -103,24 +98,23 @@ countStep (value []) = stops Layout
 countStep (value (d ∷ [])) = cond (leb 49 d && leb d 56) (goes (record { count = d - 48; columns = []; rows = []; factors = [] })) (stops Layout)
 countStep (value (d ∷ (e ∷ es))) = stops Layout
 
--- a column's name: 2 where it breaks the rule, 14 where it is doubled
+-- a column's name: 2 where it breaks the rule, 17 where it is doubled
 unfoldable pub columnNamed : SoFar → Naming → Step
 columnNamed s Bad = stops Malformed
 columnNamed s (Named n) =
-    cond (isIn n (s .columns)) (stops Crosstalk) (goes (record { count = s .count; columns = s .columns ++ n ∷ []; rows = s .rows; factors = s .factors }))
+    cond (isIn n (s .columns)) (stops DoubledName) (goes (record { count = s .count; columns = s .columns ++ n ∷ []; rows = s .rows; factors = s .factors }))
 
 -- `column=NAME`: 15 where the key is another
 unfoldable pub columnStep : SoFar → Behind → Step
 columnStep s other = stops Layout
 columnStep s (value bytes) = columnNamed s (namingOf bytes)
 
--- a row's name: 2 where it breaks the rule, 14 where it is doubled or no column
+-- a row's name: 2 where it breaks the rule, 17 where it is doubled, 19 where it is no column
 unfoldable pub rowNamed : SoFar → Naming → Step
 rowNamed s Bad = stops Malformed
 rowNamed s (Named n) =
-    cond (isIn n (s .rows) || not (isIn n (s .columns)))
-    (stops Crosstalk)
-    (goes (record { count = s .count; columns = s .columns; rows = s .rows ++ n ∷ []; factors = s .factors }))
+    cond (isIn n (s .rows)) (stops DoubledName)
+    (cond (isIn n (s .columns)) (goes (record { count = s .count; columns = s .columns; rows = s .rows ++ n ∷ []; factors = s .factors })) (stops NoColumn))
 
 -- `row=NAME`: 15 where the key is another
 unfoldable pub rowStep : SoFar → Behind → Step
@@ -331,12 +325,12 @@ printFits count names matrix room =
 
 -- The lines of the sheet that would be printed, in reading order: the first bad one decides, and no bad one is `Done 0`.
 
--- the columns' lines, behind the first and those of the columns `before`: 2 where a name breaks the rule, 14 where it is one of these
+-- the columns' lines, behind the first and those of the columns `before`: 2 where a name breaks the rule, 17 where it is one of these
 unfoldable pub columnsJudged : List Name → List Name → Answer
 columnsJudged before [] = Done 0
 columnsJudged before (n ∷ ns) =
     cond (not (isName n)) (Refused Malformed (length before + 2))
-    (cond (isIn n before) (Refused Crosstalk (length before + 2)) (columnsJudged (before ++ n ∷ []) ns))
+    (cond (isIn n before) (Refused DoubledName (length before + 2)) (columnsJudged (before ++ n ∷ []) ns))
 
 -- the line of the factor at i, from 0: the first, the columns', the `row=` lines down to its block's, and the factors' down to its own
 unfoldable pub factorAt : ℕ → ℕ → ℕ

@@ -2,7 +2,8 @@
 ghost use mathlib.Core.Path.{_≡_};
 ghost use Prim.Native.Nat.{_+_, _≤_};
 ghost use lib.ListN.{take, drop};
-ghost use Rattle.sheet.specs.Sheet.{blank, position, isIn};
+ghost use Rattle.naming.specs.Name.{isIn};
+ghost use Rattle.sheet.specs.Sheet.{blank, position};
 use naming::Name;
 use naming::same;
 

@@ -87,7 +87,7 @@ fn columns_judged(names: [Name; 8], count: usize) -> Answer
             return Answer::Refused(Refusal::Malformed, line);
         }
         if stands_in(names[k], names, 0, k) {
-            return Answer::Refused(Refusal::Crosstalk, line);
+            return Answer::Refused(Refusal::DoubledName, line);
         }
         k += 1;
     }

@@ -147,7 +147,7 @@ fn column_step(s: State, line: &[u8]) -> Stepped
     }
 }
 
-// A column must not be doubled.
+// A column must not be doubled (17).
 fn with_column(s: State, n: Name) -> Stepped
     requires { ⌜ Fits s × (s .column < s .count) ⌝ }
     ensures { λ r. ⌜ Steps r (columnNamed (soFar s) (Named n)) ⌝ }
@@ -155,7 +155,7 @@ fn with_column(s: State, n: Name) -> Stepped
     let columns = s.columns;
     let at = s.column;
     if stands_in(n, columns, 0, at) {
-        return stopped(Refusal::Crosstalk);
+        return stopped(Refusal::DoubledName);
     }
     let mut t = s;
     t.columns[at] = n;
@@ -177,7 +177,7 @@ fn row_step(s: State, line: &[u8]) -> Stepped
     }
 }
 
-// A row must not be doubled, and must be a column.
+// A row must not be doubled (17), and must be a column (19).
 fn with_row(s: State, n: Name) -> Stepped
     requires { ⌜ Fits s × (s .row < s .count) ⌝ }
     ensures { λ r. ⌜ Steps r (rowNamed (soFar s) (Named n)) ⌝ }
@@ -185,11 +185,11 @@ fn with_row(s: State, n: Name) -> Stepped
     let rows = s.rows;
     let at = s.row;
     if stands_in(n, rows, 0, at) {
-        return stopped(Refusal::Crosstalk);
+        return stopped(Refusal::DoubledName);
     }
     let columns = s.columns;
     if !stands_in(n, columns, 0, s.column) {
-        return stopped(Refusal::Crosstalk);
+        return stopped(Refusal::NoColumn);
     }
     let mut t = s;
     t.rows[at] = n;

@@ -12,11 +12,11 @@ use lib.Ieee.Scale.{finite}
 use lib.ListN.{length, length-append}
 use lib.Seq.{append-snoc}
 use Rattle.hex.specs.Hex.{digits}
-use Rattle.naming.specs.Name.{every, isName, bytesOf}
+use Rattle.naming.specs.Name.{every, isName, bytesOf, isIn}
 use Rattle.naming.specs.declared.Name.{Name}
 use Rattle.naming.proofs.Named.{well-formed, length-bytes}
 use Rattle.exact.proofs.Truth.{both}
-use Rattle.sheet.specs.Sheet.{channelsKey, columnKey, rowKey, factorKey, isIn, SoFar, nothing, complete, accepts, readFrom, cut, outcome, Block, Sheet, rowNames, goodNames, single, among, finiteBits, fullBlocks, WellFormed, countText, columnsText, factorsText, blocksText, sheetText}
+use Rattle.sheet.specs.Sheet.{channelsKey, columnKey, rowKey, factorKey, SoFar, nothing, complete, accepts, readFrom, cut, outcome, Block, Sheet, rowNames, goodNames, single, among, finiteBits, fullBlocks, WellFormed, countText, columnsText, factorsText, blocksText, sheetText}
 use Rattle.sheet.proofs.Printing.{factors-long}
 use Rattle.sheet_laws.specs.Words.{factorsOf, contents}
 use Rattle.sheet_laws.proofs.Lines.{plain, plain-above, every-both, plain-name, plain-digits, Accepts, line-taken}

@@ -2,24 +2,24 @@
 -- true. Assumes nothing.
 use Prim.Native.Nat.{ℕ, _+_, _-_, _^_, _≤_, _<_}
 use mathlib.Core.Path.{_≡_, refl, sym}
-use mathlib.Core.Bool.{Bool, true, false, _&&_, _||_, not, cond}
+use mathlib.Core.Bool.{Bool, true, false, _&&_, cond}
 use mathlib.Core.List.{List, [], _∷_, _++_}
 use native.Mathlib.Omega.{arith}
-use borrow.Author.Tests.{leb-true, eqb-true, not-false}
+use borrow.Author.Tests.{leb-true, eqb-true}
 use lib.Dec.{leb, eqb}
 use lib.Ieee.{binary64, ofBits}
 use lib.Ieee.Scale.{finite}
 use lib.ListN.{length}
 use Rattle.hex.specs.Hex.{allDigits, number, digits}
-use Rattle.naming.specs.Name.{namingOf, isName, bytesOf}
+use Rattle.naming.specs.Name.{namingOf, isName, bytesOf, isIn}
 use Rattle.naming.specs.declared.Name.{Name}
 use Rattle.naming.specs.declared.Naming.{Naming}
 use Rattle.naming.specs.declared.Naming.the-variants.{Named, Bad}
 use Rattle.quant.specs.declared.refusal.Refusal.{Refusal}
-use Rattle.quant.specs.declared.refusal.Refusal.the-variants.{Malformed, Crosstalk, Layout}
+use Rattle.quant.specs.declared.refusal.Refusal.the-variants.{Malformed, Layout, DoubledName, NoColumn}
 use Rattle.naming.proofs.Named.{read, bytes-back, is-named}
 use Rattle.exact.proofs.Truth.{both}
-use Rattle.sheet.specs.Sheet.{channelsKey, columnKey, rowKey, factorKey, Behind, value, other, behind, isIn, SoFar, goes, stops, countStep, columnNamed, columnStep, rowNamed, rowStep, factorBits, factorStep}
+use Rattle.sheet.specs.Sheet.{channelsKey, columnKey, rowKey, factorKey, Behind, value, other, behind, SoFar, Step, goes, stops, countStep, columnNamed, columnStep, rowNamed, rowStep, factorBits, factorStep}
 use Rattle.sheet_laws.proofs.Spelled.{number-small, digits-back}
 use Rattle.sheet_laws.proofs.Steps.{known}
 
@@ -35,13 +35,13 @@ passed true t u r e = (refl, goes-to e)
 passed false t u r e = absurd (not-stops e)
 
 -- a test that would have refused it
-escaped : (b : Bool) (t u : SoFar) (r : Refusal) → cond b (stops r) (goes t) ≡ goes u → (b ≡ false) × (u ≡ t)
-escaped true t u r e = absurd (not-stops e)
-escaped false t u r e = (refl, goes-to e)
+escaped : (b : Bool) (x : Step) (u : SoFar) (r : Refusal) → cond b (stops r) x ≡ goes u → (b ≡ false) × (x ≡ goes u)
+escaped true x u r e = absurd (not-stops e)
+escaped false x u r e = (refl, e)
 
 -- ---- a line behind its key
 
-behind-is : (key line x : List ℕ) → behind key line ≡ value x → line ≡ key ++ x
+pub behind-is : (key line x : List ℕ) → behind key line ≡ value x → line ≡ key ++ x
 unfolding behind
 behind-is [] line x e = cc
 behind-is (k ∷ ks) [] x e = absurd (let z : _≡_ {A = ℕ} 0 1 = cc in omega arith)
@@ -56,7 +56,7 @@ pub record Spelled (bytes : List ℕ) (n : Name) : Type 0 where
   pub ok : isName n ≡ true
   pub bytes-are : bytes ≡ bytesOf n
 
-spelled : (bytes : List ℕ) (n : Name) → namingOf bytes ≡ Named n → Spelled bytes n
+pub spelled : (bytes : List ℕ) (n : Name) → namingOf bytes ≡ Named n → Spelled bytes n
 spelled bytes n e =
     let r = read bytes n e in
     record { ok = rw (r .is) (is-named bytes (r .ok)); bytes-are = rw (r .is) (sym (bytes-back bytes (r .ok))) }
@@ -108,9 +108,9 @@ column-line s line t e = by (behind columnKey line) refl e
     named : (bytes : List ℕ) → line ≡ columnKey ++ bytes → (m : Naming) → namingOf bytes ≡ m → columnNamed s m ≡ goes t → ColumnLine s line t
     named bytes is Bad _ e = absurd (not-stops e)
     named bytes is (Named n) naming e =
-        let p = escaped (isIn n (s .columns)) (known (s .count) (s .columns ++ n ∷ []) (s .rows) (s .factors)) t Crosstalk e in
+        let p = escaped (isIn n (s .columns)) (goes (known (s .count) (s .columns ++ n ∷ []) (s .rows) (s .factors))) t DoubledName e in
         let sp = spelled bytes n naming in
-        record { name = n; ok = sp .ok; single = p .0; line-is = rw (sp .bytes-are) at is; now-known = p .1 }
+        record { name = n; ok = sp .ok; single = p .0; line-is = rw (sp .bytes-are) at is; now-known = goes-to (p .1) }
 
     by : (v : Behind) → behind columnKey line ≡ v → columnStep s v ≡ goes t → ColumnLine s line t
     by other _ e = absurd (not-stops e)
@@ -124,10 +124,6 @@ pub record RowLine (s : SoFar) (line : List ℕ) (t : SoFar) : Type 0 where
   pub line-is : line ≡ rowKey ++ bytesOf name
   pub now-known : t ≡ known (s .count) (s .columns) (s .rows ++ name ∷ []) (s .factors)
 
-neither : (a b : Bool) → a || not b ≡ false → (a ≡ false) × (b ≡ true)
-neither true b e = absurd (let z : _≡_ {A = ℕ} 0 1 = cc in omega arith)
-neither false b e = (refl, not-false b e)
-
 pub row-line : (s : SoFar) (line : List ℕ) (t : SoFar) → rowStep s (behind rowKey line) ≡ goes t → RowLine s line t
 unfolding rowStep rowNamed
 row-line s line t e = by (behind rowKey line) refl e
@@ -135,10 +131,10 @@ row-line s line t e = by (behind rowKey line) refl e
     named : (bytes : List ℕ) → line ≡ rowKey ++ bytes → (m : Naming) → namingOf bytes ≡ m → rowNamed s m ≡ goes t → RowLine s line t
     named bytes is Bad _ e = absurd (not-stops e)
     named bytes is (Named n) naming e =
-        let p = escaped (isIn n (s .rows) || not (isIn n (s .columns))) (known (s .count) (s .columns) (s .rows ++ n ∷ []) (s .factors)) t Crosstalk e in
-        let tests = neither (isIn n (s .rows)) (isIn n (s .columns)) (p .0) in
+        let p = escaped (isIn n (s .rows)) _ t DoubledName e in
+        let q = passed (isIn n (s .columns)) (known (s .count) (s .columns) (s .rows ++ n ∷ []) (s .factors)) t NoColumn (p .1) in
         let sp = spelled bytes n naming in
-        record { name = n; ok = sp .ok; single = tests .0; column = tests .1; line-is = rw (sp .bytes-are) at is; now-known = p .1 }
+        record { name = n; ok = sp .ok; single = p .0; column = q .0; line-is = rw (sp .bytes-are) at is; now-known = q .1 }
 
     by : (v : Behind) → behind rowKey line ≡ v → rowStep s v ≡ goes t → RowLine s line t
     by other _ e = absurd (not-stops e)

@@ -6,9 +6,9 @@ use mathlib.Core.List.{List, [], _∷_}
 use lib.Ieee.{Float, binary64, ofBits}
 use lib.ListN.{length}
 use Rattle.hex.specs.Hex.{digits, digitOf}
-use Rattle.naming.specs.Name.{nameByte, every, wordOf, lowBytes, bytesOfWord, sixteen, bytesOf, pastEnd, named, isName, sameName}
+use Rattle.naming.specs.Name.{nameByte, every, wordOf, lowBytes, bytesOfWord, sixteen, bytesOf, pastEnd, named, isName, sameName, isIn}
 use Rattle.naming.specs.declared.Name.{Name}
-use Rattle.sheet.specs.Sheet.{channelsKey, columnKey, rowKey, factorKey, isIn, position, under, Block, rowNames, goodNames, single, among, finiteBits, fullBlocks, WellFormed, countText, columnsText, factorsText, blocksText, sheetText}
+use Rattle.sheet.specs.Sheet.{channelsKey, columnKey, rowKey, factorKey, position, under, Block, rowNames, goodNames, single, among, finiteBits, fullBlocks, WellFormed, countText, columnsText, factorsText, blocksText, sheetText}
 use Rattle.sheet_laws.specs.Example.{channels-2, column-q10, column-q2, row-q10, row-q2, factor-tenth, factor-one, factor-zero, exampleText, printedText, sortedText, q10, q2, tenth, one, example, sorted}
 use Rattle.sheet_laws.specs.Words.{In, here, there, swap, factorsOf, contents, Reads, first, later, Stands, factorRead, entries, Counterpart, SameUpToOrder, textPrinted}
 use Rattle.sheet_laws.proofs.Arranged.{ordered, arranged}

@@ -1,18 +1,24 @@
--- The five laws of the crosstalk sheet (document 01, "The sheet"). `outcome text numbers` is what `read` promises for a text and a lent
+-- The six laws of the crosstalk sheet (document 01, "The sheet"). `outcome text numbers` is what `read` promises for a text and a lent
 -- matrix of so many numbers: its answer, the names and the matrix afterwards are `answerOf`, `namesOf` and `matrixOf` of it. A sheet as
 -- data is its columns and its blocks, each a row's name and its factors' bits; `Reads text numbers s` says that the text is accepted and
--- holds the sheet s. The other words are in specs/Words.antt, and the proofs in the files named below. Assumes nothing.
+-- holds the sheet s. The other words are in specs/Words.antt and specs/FirstBad.antt, and the proofs in the files named below. Assumes
+-- nothing.
 use Prim.Native.Nat.{ℕ, _≤_}
 use mathlib.Core.Path.{_≡_, sym, _∙_}
 use mathlib.Core.List.{List}
+use mathlib.Core.Logic.{_↔_}
 use lib.Ieee.{Float, binary64, ofBits}
 use lib.ListN.{length}
 use Rattle.naming.specs.declared.Name.{Name}
+use Rattle.quant.specs.declared.refusal.Refusal.{Refusal}
+use Rattle.quant.specs.declared.refusal.Refusal.the-variants.{WrongSize, DoubledName, NoList, NoColumn}
 use Rattle.sheet.specs.declared.read.Reading.{Reading}
-use Rattle.sheet.specs.Sheet.{SoFar, accepts, outcome, matrixOf, Read, Sheet, WellFormed, sheetText}
+use Rattle.sheet.specs.Sheet.{SoFar, stops, step, accepts, refuses, outcome, matrixOf, Read, Sheet, WellFormed, sheetText}
+use Rattle.sheet_laws.specs.FirstBad.{FirstLine, FirstBad, DoubledLine, NoColumnLine}
 use Rattle.sheet_laws.specs.Words.{In, Permuted, contents, sheetRead, Reads, EachOnce, Stands, factorFor, factorRead, SameUpToOrder, PrintedBack}
 use Rattle.sheet_laws.proofs.Accepted as Accepted
 use Rattle.sheet_laws.proofs.Factors as Factors
+use Rattle.sheet_laws.proofs.FirstBad as FirstBad
 use Rattle.sheet_laws.proofs.Once as Once
 use Rattle.sheet_laws.proofs.Only as Only
 use Rattle.sheet_laws.proofs.Printing as Printing
@@ -79,3 +85,36 @@ nothing-else-is-read = Only.reads
 
 pub as-one-sheet-only : (text : List ℕ) (m n : ℕ) (s t : Sheet) → Reads text m s → Reads text n t → s ≡ t
 as-one-sheet-only text m n s t a b = Only.one-sheet s t (a .formed) (b .formed) (sym (a .text-is) ∙ b .text-is)
+
+-- ---- 6. A sheet's refusal tells its first bad line, and why it is bad; wrong sizes come before all lines.
+
+pub first-bad-line-is-told : (text : List ℕ) (numbers : ℕ) (r : Refusal) (place : ℕ) → length text ≤ 4096 → 64 ≤ numbers
+    → (outcome text numbers ≡ refuses r place) ↔ FirstBad text r place
+first-bad-line-is-told = FirstBad.first-bad-told
+
+pub wrong-sizes-are-told : (text : List ℕ) (numbers : ℕ) → (length text ≤ 4096 → 64 ≤ numbers → ⊥) → outcome text numbers ≡ refuses WrongSize 0
+wrong-sizes-are-told = FirstBad.wrong-sizes
+
+-- A line is refused by 17 exactly where it is doubled, by 19 exactly where it is a row that is no column, and never by 18.
+
+pub doubled-line : (s : SoFar) (line : List ℕ) → (step s line ≡ stops DoubledName) ↔ DoubledLine s line
+doubled-line = FirstBad.doubled-exactly
+
+pub no-column-line : (s : SoFar) (line : List ℕ) → (step s line ≡ stops NoColumn) ↔ NoColumnLine s line
+no-column-line = FirstBad.no-column-exactly
+
+pub no-list-line : (s : SoFar) (line : List ℕ) → step s line ≡ stops NoList → ⊥
+no-list-line = FirstBad.no-list-never
+
+-- So 17 is told exactly where the first bad line is doubled, 19 exactly where it is a row that is no column, and 18 never.
+
+pub doubled-told : (text : List ℕ) (numbers place : ℕ) → length text ≤ 4096 → 64 ≤ numbers
+    → (outcome text numbers ≡ refuses DoubledName place) ↔ FirstLine DoubledLine text place
+doubled-told = FirstBad.doubled-told
+
+pub no-column-told : (text : List ℕ) (numbers place : ℕ) → length text ≤ 4096 → 64 ≤ numbers
+    → (outcome text numbers ≡ refuses NoColumn place) ↔ FirstLine NoColumnLine text place
+no-column-told = FirstBad.no-column-told
+
+pub never-no-list : (text : List ℕ) (numbers place : ℕ) → outcome text numbers ≡ refuses NoList place → ⊥
+never-no-list = FirstBad.never-no-list

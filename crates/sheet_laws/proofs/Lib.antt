@@ -12,5 +12,6 @@ pub mod Rows
 pub mod Factors
 pub mod Arranged
 pub mod Printing
+pub mod FirstBad
 pub mod Laws
 pub mod Example

@@ -4,11 +4,11 @@ use mathlib.Core.Path.{_≡_, refl, sym, subst, _∙_}
 use mathlib.Core.Bool.{Bool, true, false, _||_, not, true≢false}
 use mathlib.Core.List.{List, [], _∷_, _++_}
 use borrow.Author.Tests.{not-true}
-use Rattle.naming.specs.Name.{sameName, isName}
+use Rattle.naming.specs.Name.{sameName, isName, isIn}
 use Rattle.naming.specs.declared.Name.{Name}
 use Rattle.naming.proofs.Named.{same-exactly}
 use Rattle.exact.proofs.Truth.{both}
-use Rattle.sheet.specs.Sheet.{isIn, goodNames, single, among}
+use Rattle.sheet.specs.Sheet.{goodNames, single, among}
 use Rattle.sheet_laws.specs.Words.{In, here, there}
 use Rattle.sheet.proofs.Each.{same-self}
 

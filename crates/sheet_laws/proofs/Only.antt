@@ -34,7 +34,7 @@ record Ended (s : SoFar) (lines : List (List ℕ)) (rest : List ℕ) (u : SoFar)
   none : rest ≡ []
   text : textOf u ≡ textOf s ++ joined lines
 
-not-refuses : {r : Refusal} {place : ℕ} {u : SoFar} → refuses r place ≡ accepts u → ⊥
+pub not-refuses : {r : Refusal} {place : ℕ} {u : SoFar} → refuses r place ≡ accepts u → ⊥
 not-refuses e = let z : _≡_ {A = ℕ} 0 1 = cc in omega arith
 
 ends : (place : ℕ) (s : SoFar) (lines : List (List ℕ)) (rest : List ℕ) (u : SoFar) → Sound s → readFrom place s lines rest ≡ accepts u → Ended s lines rest u

@@ -13,11 +13,11 @@ use lib.Ieee.Scale.{finite}
 use lib.ListN.{length}
 use Rattle.hex.specs.Hex.{number, digits}
 use Rattle.hex.proofs.Number.{all-digits, length-digits, number-digits}
-use Rattle.naming.specs.Name.{namingOf, isName, bytesOf}
+use Rattle.naming.specs.Name.{namingOf, isName, bytesOf, isIn}
 use Rattle.naming.specs.declared.Name.{Name}
 use Rattle.naming.specs.declared.Naming.the-variants.{Named}
 use Rattle.naming.proofs.Named.{named-back, bytes-accepted}
-use Rattle.sheet.specs.Sheet.{channelsKey, columnKey, rowKey, factorKey, isIn, SoFar, nothing, goes, countStep, columnNamed, columnStep, rowNamed, rowStep, factorBits, factorStep, step}
+use Rattle.sheet.specs.Sheet.{channelsKey, columnKey, rowKey, factorKey, SoFar, nothing, goes, countStep, columnNamed, columnStep, rowNamed, rowStep, factorBits, factorStep, step}
 use Rattle.sheet_laws.proofs.Lines.{behind-key}
 
 pub naming-back : (n : Name) → isName n ≡ true → namingOf (bytesOf n) ≡ Named n

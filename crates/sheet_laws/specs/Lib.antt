@@ -1,3 +1,4 @@
 -- The words in which the laws are stated.
 pub mod Words
+pub mod FirstBad
 pub mod Example

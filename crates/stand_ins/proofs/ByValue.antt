@@ -27,7 +27,7 @@ use Rattle.shape.specs.Segment.{pointFine, allFine}
 use Rattle.shape.specs.Envelope.{finitePoints, finePoints}
 use Rattle.placing.specs.Phases.{phase0, dphase, startPair, rotationPair, phaseNumbers}
 use Rattle.placing.specs.Judged.{judged}
-use Rattle.crosstalk.specs.Crosstalk.{allNames, doubledFrom, allKnown, rowFrom, partOf, partsAt, planned}
+use Rattle.crosstalk.specs.Crosstalk.{allNames, namesJudged, rowFrom, partOf, partsAt, planned}
 use Rattle.merge.specs.Taking.{packed}
 use Rattle.bench_table.specs.Numbers.{over}
 use Rattle.stand_ins.specs.Whole.{isDone, anything}
@@ -52,7 +52,7 @@ only-both : (x : Float) → Only value.both x (cosineOf x, sineOf x)
 only-both x z p = λ j. (p .cos j, p .sin j)
 
 pub by-value : ByValue
-unfolding isOne isNought isAhead add sub mul div rem neg lt eq le sum round ofBits ofInt ceiling cutOf exp2Of fma wrapped reduced horner cosineAt sineAt cosineOf sineOf allFinite nameByte every lowBytes bytesOfWord sixteen bytesOf pastEnd isName sameName hannOf points notFalling isSpline inDomain spanTo blendOf fineStep dAt fineAt spline-row.rowOf wholeOf splineAt splineFine valueIn fineIn indexAt partedOf pointFine allFine finitePoints finePoints weighed envelopeOf phase0 dphase startPair rotationPair phaseNumbers judged foundFrom shapeFrom toldAt allNames doubledFrom allKnown rowFrom partOf partsAt planned packed
+unfolding isOne isNought isAhead add sub mul div rem neg lt eq le sum round ofBits ofInt ceiling cutOf exp2Of fma wrapped reduced horner cosineAt sineAt cosineOf sineOf allFinite nameByte every lowBytes bytesOfWord sixteen bytesOf pastEnd isName sameName hannOf points notFalling isSpline inDomain spanTo blendOf fineStep dAt fineAt spline-row.rowOf wholeOf splineAt splineFine valueIn fineIn indexAt partedOf pointFine allFine finitePoints finePoints weighed envelopeOf phase0 dphase startPair rotationPair phaseNumbers judged foundFrom shapeFrom toldAt allNames namesJudged rowFrom partOf partsAt planned packed
 by-value =
     record {
       -- of 0 it is 1, and of 1 it is not; of sine 0, and of 1 it is not

@@ -109,7 +109,7 @@ isShort (Bytes n) = eqb n 50
 isShort (Refused r line) = false
 
 pub texts : Texts
-unfolding isOne isShort ofBits round toBits hex.digitValue hex.digitOf hex.allDigits hex.number hex.digits hex.room hex.field hex.wordAt hex.written numberAt name.nameByte name.every name.accepted name.wordOf name.lowBytes name.bytesOfWord name.sixteen name.bytesOf name.pastEnd name.named name.namingOf name.isName name.inPlace name.sameName name.writable name.written number.parted number.significandOf number.fewOf number.powerOf number.powerAt number.scaledBy number.sizeOf number.hexSizeOf number.isHex number.unsignedOf number.decimalOf number.numberOf digits.placeOf digits.digitOf digits.digitsFrom digits.digitsOf value.numberField value.wholeField value.pairField value.nameOf value.nameField value.shapeField value.flagOf value.flagField value.signed value.levelOf value.levelField wordsOf isWord line.tablesOf line.channelOf line.shapeOf line.rowsOf line.sampleOf line.actionOf line.settingOf line.lineOf list.allNumbers list.numbersFrom turnOf numbersOf sheet.channelsKey sheet.columnKey sheet.rowKey sheet.factorKey sheet.onto sheet.cut sheet.behind sheet.isIn sheet.position sheet.nothing sheet.countStep sheet.columnNamed sheet.columnStep sheet.rowNamed sheet.rowStep sheet.factorBits sheet.factorStep sheet.step sheet.complete sheet.onward sheet.readFrom sheet.outcome sheet.answerOf sheet.blank sheet.eight sheet.namesOf sheet.doubles sheet.under sheet.rowsFor sheet.matrixOf sheet.rowNames sheet.goodNames sheet.single sheet.among sheet.finiteBits sheet.fullBlocks sheet.countText sheet.columnsText sheet.factorsText sheet.blocksText sheet.sheetText sheet.patterns sheet.blocksOf sheet.sheetOf sheet.allFinite sheet.printFits sheet.columnsJudged sheet.factorAt sheet.factorsJudged sheet.printedBy sheet.printedOf sheet.bytesAfter answer.decimalOf answer.decimal answer.refusedKey answer.lineKey answer.refusedText answer.zeros answer.textFor answer.answerText answer.answerPrints answer.answerLeft linesOf first.linesBytes first.firstOf inset.takenOf inset.factorsAfter
+unfolding isOne isShort ofBits round toBits hex.digitValue hex.digitOf hex.allDigits hex.number hex.digits hex.room hex.field hex.wordAt hex.written numberAt name.nameByte name.every name.accepted name.wordOf name.lowBytes name.bytesOfWord name.sixteen name.bytesOf name.pastEnd name.named name.namingOf name.isName name.inPlace name.sameName name.writable name.written number.parted number.significandOf number.fewOf number.powerOf number.powerAt number.scaledBy number.sizeOf number.hexSizeOf number.isHex number.unsignedOf number.decimalOf number.numberOf digits.placeOf digits.digitOf digits.digitsFrom digits.digitsOf value.numberField value.wholeField value.pairField value.nameOf value.nameField value.shapeField value.flagOf value.flagField value.signed value.levelOf value.levelField wordsOf isWord line.tablesOf line.channelOf line.shapeOf line.rowsOf line.sampleOf line.actionOf line.settingOf line.lineOf list.allNumbers list.numbersFrom turnOf numbersOf sheet.channelsKey sheet.columnKey sheet.rowKey sheet.factorKey sheet.onto sheet.cut sheet.behind name.isIn sheet.position sheet.nothing sheet.countStep sheet.columnNamed sheet.columnStep sheet.rowNamed sheet.rowStep sheet.factorBits sheet.factorStep sheet.step sheet.complete sheet.onward sheet.readFrom sheet.outcome sheet.answerOf sheet.blank sheet.eight sheet.namesOf sheet.doubles sheet.under sheet.rowsFor sheet.matrixOf sheet.rowNames sheet.goodNames sheet.single sheet.among sheet.finiteBits sheet.fullBlocks sheet.countText sheet.columnsText sheet.factorsText sheet.blocksText sheet.sheetText sheet.patterns sheet.blocksOf sheet.sheetOf sheet.allFinite sheet.printFits sheet.columnsJudged sheet.factorAt sheet.factorsJudged sheet.printedBy sheet.printedOf sheet.bytesAfter answer.decimalOf answer.decimal answer.refusedKey answer.lineKey answer.refusedText answer.zeros answer.textFor answer.answerText answer.answerPrints answer.answerLeft linesOf first.linesBytes first.firstOf inset.takenOf inset.factorsAfter
 texts =
     record {
       hex-read = accepts _ text.isWord (given.first given.sixteen-digits) refl;

@@ -32,7 +32,7 @@ use Rattle.tables.specs.Tables.{foundFrom, shapeFrom, settled, settledShape}
 use Rattle.merge.specs.Sum.{keptFrom, summedBy}
 use Rattle.merge.specs.Join.{joined, joinedTwo}
 use Rattle.merge.specs.Taking.{packed, zipped}
-use Rattle.crosstalk.specs.Crosstalk.{allNames, doubledFrom, allKnown, rowFrom, partOf, partsAt, planned}
+use Rattle.crosstalk.specs.Crosstalk.{allNames, namesJudged, rowFrom, partOf, partsAt, planned}
 use Rattle.mix.specs.Part.{onPart}
 use Rattle.mix.specs.Plateau.{carried}
 use Rattle.mix.specs.Envelope.{shaped}
@@ -62,7 +62,7 @@ pub record All : Type 0 where
   pub first : TriedFirst
 
 pub tried : All
-unfolding outcome add sub mul div rem neg lt eq le sum round ofBits ofInt ceiling cutOf exp2Of fma wrapped reduced horner cosineAt sineAt cosineOf sineOf allFinite nameByte every lowBytes bytesOfWord sixteen bytesOf pastEnd isName sameName mixedRow raisedRow ran sectionsFrom finiteSections given pipelined turns tapAt sumTo filteredFrom points notFalling isSpline inDomain spanTo blendOf fineStep dAt fineAt spline-row.rowOf wholeOf splineAt splineFine valueIn fineIn valueOf pointFine values allFine indexAt partedOf shapeOf finitePoints finePoints hannOf sameNumbers sameRow placeOf envelopeOf phase0 dphase startPair rotationPair phaseNumbers judged foundFrom shapeFrom settled settledShape keptFrom summedBy joined joinedTwo packed zipped allNames doubledFrom allKnown rowFrom partOf partsAt planned onPart carried shaped ofMark allRows firstsAfter good required run.acted run.ran ranPulses ranBins sampled duesOf allDues withAll
+unfolding outcome add sub mul div rem neg lt eq le sum round ofBits ofInt ceiling cutOf exp2Of fma wrapped reduced horner cosineAt sineAt cosineOf sineOf allFinite nameByte every lowBytes bytesOfWord sixteen bytesOf pastEnd isName sameName mixedRow raisedRow ran sectionsFrom finiteSections given pipelined turns tapAt sumTo filteredFrom points notFalling isSpline inDomain spanTo blendOf fineStep dAt fineAt spline-row.rowOf wholeOf splineAt splineFine valueIn fineIn valueOf pointFine values allFine indexAt partedOf shapeOf finitePoints finePoints hannOf sameNumbers sameRow placeOf envelopeOf phase0 dphase startPair rotationPair phaseNumbers judged foundFrom shapeFrom settled settledShape keptFrom summedBy joined joinedTwo packed zipped allNames namesJudged rowFrom partOf partsAt planned onPart carried shaped ofMark allRows firstsAfter good required run.acted run.ran ranPulses ranBins sampled duesOf allDues withAll
 tried = record { each = each; first = record { pulse = refl; bin = refl } }
   where
     each : (t : Trial) → Tried (tryOf t)

@@ -11,3 +11,4 @@ pub mod Twelve
 pub mod System
 pub mod KeptRows
 pub mod Kept
+pub mod Names

@@ -1,12 +1,10 @@
 -- The sampling call: refused before its first pulse, all is as it came; accepted, or refused at a pulse, its rows are those before plus the pulses
 -- that it counts. By its checks in order, and then the laws of `sampler_laws`. Assumes nothing.
-use Prim.Native.Nat.{ℕ, _+_, _*_}
+use Prim.Native.Nat.{ℕ, _+_}
 use native.Mathlib.Omega.{arith}
 use mathlib.Core.Path.{_≡_, refl, sym, ap, subst, _∙_}
-use mathlib.Core.Bool.{Bool, true, false, _&&_, cond, true≢false}
-use mathlib.Core.List.{List}
-use borrow.Author.Tests.{eqb-false}
-use lib.Dec.{eqb}
+use mathlib.Core.Bool.{Bool, true, false, _&&_, true≢false}
+use mathlib.Core.List.{List, [], _∷_}
 use lib.Ieee.{Float, binary64, div}
 use lib.Ieee.Scale.{finite}
 use lib.ListN.{length, take}
@@ -14,16 +12,18 @@ use Rattle.exact.specs.Doubles.{one}
 use Rattle.exact.specs.Among.{among}
 use Rattle.quant.specs.declared.refusal.Answer.{Answer}
 use Rattle.quant.specs.declared.refusal.Answer.the-variants.{Done, Refused}
+use Rattle.quant.specs.declared.refusal.Refusal.{Refusal}
 use Rattle.quant.specs.declared.refusal.Refusal.the-variants as why
 use Rattle.quant.specs.declared.settings.Fitting.{Fitting}
 use Rattle.quant.specs.declared.settings.Fitting.the-variants.{Fit, Unfit}
 use Rattle.quant.specs.declared.settings.Settings.{Settings}
+use Rattle.quant.specs.Refusal.{numberOf}
 use Rattle.quant.specs.Settings.{isRate, isLevel, fitting, fittingOf}
-use Rattle.tables.specs.Tables.{found}
-use Rattle.merge.specs.Taking.{packed}
 use Rattle.crosstalk.specs.declared.names.Crosstalk.{Crosstalk}
 use Rattle.crosstalk.specs.declared.parts.Plan.{Plan}
-use Rattle.crosstalk.specs.Crosstalk.{namesIn, crossFits, crossFine, doubledAt, allKnown, isKnown, partsFor, refusedPlan, acceptedPlan, planned}
+use Rattle.crosstalk.specs.Crosstalk.{namesIn, planned}
+use Rattle.crosstalk.specs.Faults.{AtFault, doubled, no-list}
+use Rattle.crosstalk.proofs.Laws.{Way, wrong-size, malformed, at-fault, unknown, accepted, way}
 use Rattle.mixdown.specs.Bins.{binsBy, mergedOf}
 use Rattle.mixdown.specs.Sampled.{out}
 use Rattle.sampler.specs.declared.Request.{Request}
@@ -35,7 +35,7 @@ use Rattle.sampler_laws.specs.Added.{withAll, countIn}
 use Rattle.sampler_laws.proofs.Added.{First}
 use Rattle.sampler_laws.proofs.Calls.{rows-added}
 use Rattle.system.specs.System.{State, withLent, hasSampled}
-use Rattle.system.specs.Said.{partsOf, pulsesOf, withPulses, verdict, before-any, doubled, at-one, SampleSaid}
+use Rattle.system.specs.Said.{partsOf, pulsesOf, withPulses, verdict, before-any, at-name, at-one, SampleSaid}
 use Rattle.system.proofs.Verdict.{fewer, bins-verdict}
 
 -- settings that fit are those of the request
@@ -64,28 +64,23 @@ module _ (s : State) (r : Request) (c : Crosstalk) (factors : List Float) where
   abbrev came : Answer → Left
   came a = left a (s .rows) (s .work) (s .marks)
 
-  -- the plan by its five tests
-  abbrev planBy : Bool → Bool → Bool → Bool → Bool → Plan
-  planBy u v w x y =
-      cond u
-      (cond v
-      (cond w
-      (cond x (cond y (acceptedPlan (packed (partsFor (s .tables) (r .channel) c factors))) (refusedPlan why.UnknownChannel 0)) (refusedPlan why.Crosstalk 0))
-      (refusedPlan why.Crosstalk (doubledAt (namesIn c))))
-      (refusedPlan why.Malformed 0))
-      (refusedPlan why.WrongSize 0)
-
-  plan-said : plan .refused ≡ true → Said (came (plan .answer))
-  unfolding planned among
-  plan-said e = go (crossFits (c .count) (length factors)) (crossFine (r .channel) c (take (c .count * c .count) factors)) (eqb (doubledAt (namesIn c)) 0) (allKnown (s .tables) (namesIn c)) (isKnown (found (s .tables) (r .channel))) refl e
+  plan-said : (z : Settings) → fittingOf (r .rate) (r .delay) (r .level) ≡ Fit z → sized ≡ true → plan .refused ≡ true → Said (came (plan .answer))
+  unfolding among
+  plan-said z fit sizes e = by plan (way (s .tables) (r .channel) c factors) e
     where
-      go : (u v w x y : Bool) → eqb (doubledAt (namesIn c)) 0 ≡ w → planBy u v w x y .refused ≡ true → Said (came (planBy u v w x y .answer))
-      go true true true true true g f = absurd (true≢false (sym f))
-      go true true true true false g f = before-any (record { number = refl; place = refl; left = refl })
-      go true true true false y g f = before-any (record { number = refl; place = refl; left = refl })
-      go true true false x y g f = doubled (let some = eqb-false (doubledAt (namesIn c)) 0 g in omega (arith, some)) (record { number = refl; place = refl; left = refl })
-      go true false w x y g f = before-any (record { number = refl; place = refl; left = refl })
-      go false v w x y g f = before-any (record { number = refl; place = refl; left = refl })
+      named : (q : Refusal) (i : ℕ) → AtFault (s .tables) (namesIn c) i q → among (17 ∷ 18 ∷ []) (numberOf q) ≡ true
+      named q i (doubled _) = refl
+      named q i (no-list _ _) = refl
+
+      by : (p : Plan) → Way (s .tables) (r .channel) c factors p → p .refused ≡ true → Said (came (p .answer))
+      by p (wrong-size _) f = before-any (record { number = refl; place = refl; left = refl })
+      by p (malformed _ _) f = before-any (record { number = refl; place = refl; left = refl })
+      by p (at-fault each-factor fine q k first) f =
+          at-name
+          (record { fit = fit ∙ ap Fit (settings-are r z fit); sizes = sizes; each-factor = each-factor; fine = fine; first = first })
+          (record { number = named q (first .place) (first .fault); place = refl; left = refl })
+      by p (unknown _ _ _ _) f = before-any (record { number = refl; place = refl; left = refl })
+      by p (accepted _) f = absurd (true≢false (sym f))
 
   -- ---- from the first pulse on
 
@@ -136,7 +131,7 @@ module _ (s : State) (r : Request) (c : Crosstalk) (factors : List Float) where
       subst Said (sym is) (before-any (record { number = refl; place = refl; left = refl }))
   by-flags z true true f g h =
       let is : result ≡ came (plan .answer) = rw (f, g, h) refl in
-      subst Said (sym is) (plan-said h)
+      subst Said (sym is) (plan-said z f g h)
   by-flags z true false f g h = by-answer (record { settings = z; fit = f; sizes = g; plan = h; is = rw (f, g, h) refl }) (result .answer) refl
 
   pub sample-said : Said result

@@ -4,28 +4,30 @@
 use Prim.Native.Nat.{ℕ, _+_, _*_, _≤_, _<_}
 use native.Mathlib.Omega.{arith}
 use mathlib.Core.Path.{_≡_, refl, sym, ap, subst, _∙_}
-use mathlib.Core.Bool.{Bool, true, false, cond}
+use mathlib.Core.Bool.{Bool, true, false}
 use mathlib.Core.List.{List, [], _∷_, _++_}
 use borrow.Author.Tests.{leb-true}
-use lib.Dec.{T, leb, eqb}
+use lib.Dec.{T, leb}
 use lib.Ieee.{Float, nan, binary64, fits}
-use lib.ListN.{length, take, getD}
+use lib.ListN.{length, getD}
 use Rattle.exact.proofs.Truth.{both}
 use Rattle.quant.specs.declared.refusal.Answer.{Answer}
 use Rattle.quant.specs.declared.refusal.Answer.the-variants.{Refused}
+use Rattle.quant.specs.declared.refusal.Refusal.{Refusal}
 use Rattle.quant.specs.declared.refusal.Refusal.the-variants as why
 use Rattle.quant.specs.declared.settings.Fitting.{Fitting}
 use Rattle.quant.specs.declared.settings.Fitting.the-variants.{Fit, Unfit}
 use Rattle.quant.specs.declared.settings.Settings.{Settings}
 use Rattle.quant.specs.Settings.{fittingOf}
 use Rattle.pulse.specs.Bin.{binOf}
-use Rattle.tables.specs.Tables.{found, channelAt}
+use Rattle.tables.specs.Tables.{channelAt}
 use Rattle.commands_laws.specs.Sound.{Sound, Reached}
 use Rattle.commands_laws.proofs.Sound.{sound}
-use Rattle.merge.specs.Taking.{packed}
 use Rattle.crosstalk.specs.declared.names.Crosstalk.{Crosstalk}
 use Rattle.crosstalk.specs.declared.parts.Plan.{Plan}
-use Rattle.crosstalk.specs.Crosstalk.{namesIn, crossFits, crossFine, doubledAt, allKnown, isKnown, partsFor, refusedPlan, acceptedPlan, planned}
+use Rattle.crosstalk.specs.Crosstalk.{namesIn, planned}
+use Rattle.crosstalk.specs.Faults.{AtFault, doubled, no-list}
+use Rattle.crosstalk.proofs.Laws.{Way, wrong-size, malformed, at-fault, unknown, accepted, way}
 use Rattle.placing.specs.declared.Judged.the-variants as judgement
 use Rattle.placing.specs.Judged.{judged}
 use Rattle.placing.proofs.Twelve.{Over, Kept, Judgeable}
@@ -74,27 +76,19 @@ module _ (s : State) (r : Request) (c : Crosstalk) (factors : List Float) where
 
   -- ---- no check before the first pulse gives 12
 
-  abbrev planBy : Bool → Bool → Bool → Bool → Bool → Plan
-  planBy u v w x y =
-      cond u
-      (cond v
-      (cond w
-      (cond x (cond y (acceptedPlan (packed (partsFor (s .tables) (r .channel) c factors))) (refusedPlan why.UnknownChannel 0)) (refusedPlan why.Crosstalk 0))
-      (refusedPlan why.Crosstalk (doubledAt (namesIn c))))
-      (refusedPlan why.Malformed 0))
-      (refusedPlan why.WrongSize 0)
-
   plan-other : (k : ℕ) → plan .answer ≡ Refused why.EndPastRow k → ⊥
-  unfolding planned
-  plan-other k e = go (crossFits (c .count) (length factors)) (crossFine (r .channel) c (take (c .count * c .count) factors)) (eqb (doubledAt (namesIn c)) 0) (allKnown (s .tables) (namesIn c)) (isKnown (found (s .tables) (r .channel))) e
+  plan-other k e = by plan (way (s .tables) (r .channel) c factors) e
     where
-      go : (u v w x y : Bool) → planBy u v w x y .answer ≡ Refused why.EndPastRow k → ⊥
-      go true true true true true f = let z : _≡_ {A = ℕ} 0 1 = cc in omega arith
-      go true true true true false f = let z : _≡_ {A = ℕ} 0 1 = cc in omega arith
-      go true true true false y f = let z : _≡_ {A = ℕ} 0 1 = cc in omega arith
-      go true true false x y f = let z : _≡_ {A = ℕ} 0 1 = cc in omega arith
-      go true false w x y f = let z : _≡_ {A = ℕ} 0 1 = cc in omega arith
-      go false v w x y f = let z : _≡_ {A = ℕ} 0 1 = cc in omega arith
+      named : (q : Refusal) (i j : ℕ) → AtFault (s .tables) (namesIn c) i q → Refused q j ≡ Refused why.EndPastRow k → ⊥
+      named q i j (doubled _) f = let z : _≡_ {A = ℕ} 0 1 = cc in omega arith
+      named q i j (no-list _ _) f = let z : _≡_ {A = ℕ} 0 1 = cc in omega arith
+
+      by : (p : Plan) → Way (s .tables) (r .channel) c factors p → p .answer ≡ Refused why.EndPastRow k → ⊥
+      by p (wrong-size _) f = let z : _≡_ {A = ℕ} 0 1 = cc in omega arith
+      by p (malformed _ _) f = let z : _≡_ {A = ℕ} 0 1 = cc in omega arith
+      by p (at-fault _ _ q j first) f = named q (first .place) j (first .fault) f
+      by p (unknown _ _ _ _) f = let z : _≡_ {A = ℕ} 0 1 = cc in omega arith
+      by p (accepted _) f = let z : _≡_ {A = ℕ} 0 1 = cc in omega arith
 
   abbrev result : Left
   result = sampled (s .tables) r c factors (s .bins) (s .pulses) (s .rows) (s .work) (s .marks)

@@ -1,7 +1,7 @@
 -- Document 01, "What each number means", of a call's outcome: "A refusal returns its number and a place: commands run, pulses added in this call
 -- (after merging) ..; elsewhere 0. Acceptance returns the count of commands run or pulses added, .. 0 elsewhere. Only earlier commands or pulses of
 -- the same call remain." Definitions only.
-use Prim.Native.Nat.{ℕ, suc, _<_}
+use Prim.Native.Nat.{ℕ, suc, _*_, _<_}
 use mathlib.Core.Path.{_≡_}
 use mathlib.Core.Bool.{true, false}
 use mathlib.Core.List.{List, [], _∷_}
@@ -11,19 +11,23 @@ use Rattle.exact.specs.Among.{among}
 use Rattle.quant.specs.declared.refusal.Answer.{Answer}
 use Rattle.quant.specs.declared.refusal.Answer.the-variants.{Done, Refused}
 use Rattle.quant.specs.declared.refusal.Refusal.{Refusal}
+use Rattle.quant.specs.declared.settings.Fitting.the-variants.{Fit}
 use Rattle.quant.specs.declared.settings.Settings.{Settings}
 use Rattle.quant.specs.Refusal.{numberOf}
+use Rattle.quant.specs.Settings.{fittingOf}
 use Rattle.commands.specs.declared.command.Arranged.{Arranged}
 use Rattle.commands.specs.Run.{sizesFit}
 use Rattle.commands_laws.specs.Sound.{Sound}
 use Rattle.merge.specs.Taking.{Part, partsIn}
 use Rattle.merge.specs.Work.{gatheredOf}
 use Rattle.crosstalk.specs.declared.names.Crosstalk.{Crosstalk}
-use Rattle.crosstalk.specs.Crosstalk.{namesIn, doubledAt, planned}
+use Rattle.crosstalk.specs.Crosstalk.{namesIn, crossFits, crossFine, planned}
+use Rattle.crosstalk.specs.Faults.{FirstAtFault}
 use Rattle.placing.specs.Judged.{judged, judgedAnswer}
 use Rattle.mixdown.specs.Bins.{binsBy, mergedOf}
 use Rattle.sampler.specs.declared.Request.{Request}
 use Rattle.sampler.specs.Prepared.{settingsOf}
+use Rattle.sampler.specs.Sizes as lent
 use Rattle.sampler_laws.specs.Added.{Due, allDues, withAll}
 use Rattle.system.specs.System.{State, Call, make, add-channel, add-shape, add-spline, execute, sample, iq, offset, iir, fir, Event, calls, lends, Outcome, told, withLent, Promised, outcome}
 
@@ -123,10 +127,18 @@ pub record PulsesRemain (s : State) (r : Request) (c : Crosstalk) (factors : Lis
   pub remain : u ≡ withPulses s r c factors k
   pub first : verdict (settingsOf r) (length (s .rows .i)) (pulsesOf s r c factors) 0 ≡ Refused why k
 
--- "Its order: 1, 13, 2, 14, 7, then each pulse"; the 14 of a doubled name has for its place "the first repeat's position, from 1"
+-- 17 or 18 at position k: nothing judged before the names refuses, and of the names the one at k is the first at fault
+pub record AtName (s : State) (r : Request) (c : Crosstalk) (factors : List Float) (why : Refusal) (k : ℕ) : Type 0 where
+  pub fit : fittingOf (r .rate) (r .delay) (r .level) ≡ Fit (settingsOf r)
+  pub sizes : lent.sizesFit (r .rows) (length (s .rows .i)) (length (s .rows .q)) (length (s .rows .scratch)) (length (s .bins)) (length (s .pulses)) (length (s .work)) (length (s .marks)) ≡ true
+  pub each-factor : crossFits (c .count) (length factors) ≡ true
+  pub fine : crossFine (r .channel) c (take (c .count * c .count) factors) ≡ true
+  pub first : FirstAtFault (s .tables) (namesIn c) why k
+
+-- "Its order: 1, 13, 2, 14, 7, then each pulse", and in place of 14, by document 02, 17 and 18 with the name's "position in its list, from 1"
 pub data SampleRefused (s : State) (r : Request) (c : Crosstalk) (factors : List Float) (why : Refusal) (k : ℕ) (u : State) : Type 0 where
-  before-any : AsItCame (1 ∷ 13 ∷ 2 ∷ 14 ∷ 7 ∷ []) 0 s why k u → SampleRefused s r c factors why k u
-  doubled : 0 < k → AsItCame (14 ∷ []) (doubledAt (namesIn c)) s why k u → SampleRefused s r c factors why k u
+  before-any : AsItCame (1 ∷ 13 ∷ 2 ∷ 7 ∷ []) 0 s why k u → SampleRefused s r c factors why k u
+  at-name : AtName s r c factors why k → AsItCame (17 ∷ 18 ∷ []) k s why k u → SampleRefused s r c factors why k u
   at-one : PulsesRemain s r c factors why k u → SampleRefused s r c factors why k u
 
 abbrev pub SampleSaid : State → Request → Crosstalk → List Float → Answer → State → Type 0

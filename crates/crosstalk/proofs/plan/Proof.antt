@@ -4,12 +4,12 @@ use Prim.Native.Nat.{_*_}
 use native.Mathlib.Omega.{arith}
 use mathlib.Core.Bool.{true}
 use mathlib.Core.Path.{_≡_, sym, ap, _∙_}
-use borrow.Author.Tests.{eq-eqb, ne-eqb}
+use mathlib.Core.List.{[]}
 use denote.Ref.{now}
-use lib.Dec.{eqb}
 use lib.ListN.{length, take, length-take}
+use Rattle.quant.specs.declared.refusal.Answer.the-variants.{Done}
 use Rattle.quant.proofs.Judging.{taken, passed}
-use Rattle.crosstalk.specs.Crosstalk.{namesIn, crossFits, crossFine, doubledAt, isKnown, allKnown, planned}
+use Rattle.crosstalk.specs.Crosstalk.{namesIn, crossFits, crossFine, isKnown, namesJudged, planned}
 use Rattle.crosstalk.proofs.Fitting.{Fits, fitting}
 use Rattle.crosstalk.proofs.plan.Statement.{statement}
 use Rattle.crosstalk.proofs.plan.Tie as tie
@@ -37,11 +37,9 @@ fine-so : (c : tie.Else2)
     crossFine (a .channel) (a .c) (take (a .c .count * a .c .count) (now (a .factors))) ≡ true
 fine-so c = passed _ _ (c .before .is-fine .ensures) (c .if2 .left)
 
-single-so : (c : tie.Else3) → eqb (doubledAt (namesIn (c .before .before .before .before .before .before .before .before .args .c))) 0 ≡ true
-single-so c = eq-eqb _ _ (sym (c .before .doubled-at .ensures) ∙ c .if3 .left)
-
-lists-so : (c : tie.Else4) → let a = c .before .before .before .before .before .before .before .before .before .before .args in allKnown (a .t) (namesIn (a .c)) ≡ true
-lists-so c = passed _ _ (c .before .all-known .ensures) (c .if4 .left)
+clear-so : (c : tie.After-enum-told) → let a = c .before .before .before .before .before .before .before .before .before .args in
+    namesJudged (a .t) [] (namesIn (a .c)) ≡ Done (c .enum-told .given .0 .0)
+clear-so c = sym (c .before .before .names-judged .ensures) ∙ c .enum-told .given .1
 
 -- ---- the needs
 
@@ -62,8 +60,11 @@ unfolding planned
 returns-2 c =
     rw (c .refused2 .ensures, fits-so (c .before .before .before .before), taken _ _ (c .before .before .is-fine .ensures) (c .before .if2 .taken))
 
-doubled-at-requires : tie.Need-doubled-at-requires
-doubled-at-requires c κs = fit (c .before .before .before) .few
+names-judged-requires : tie.Need-names-judged-requires
+names-judged-requires c κs = fit (c .before .before .before) .few
+
+enum-known-names : tie.Need-enum-known-names
+enum-known-names c = search needs
 
 refused-requires-3 : tie.Need-refused-requires-3
 refused-requires-3 c κs = search needs
@@ -71,23 +72,13 @@ refused-requires-3 c κs = search needs
 returns-3 : tie.Need-returns-3
 unfolding planned
 returns-3 c =
-    let two = c .before .before .before in
-    let told = c .before .before .doubled-at .ensures in
-    rw (c .refused3 .ensures, fits-so (two .before .before .before), fine-so two, told, ne-eqb _ 0 (λ z. c .before .if3 .taken (told ∙ z)))
+    let judged = c .before .before .before .before in
+    let two = judged .before in
+    let told = sym (judged .names-judged .ensures) ∙ c .before .before .names .given .1 in
+    rw (c .refused3 .ensures, fits-so (two .before .before .before), fine-so two, told)
 
-all-known-requires : tie.Need-all-known-requires
-all-known-requires c κs = fit (c .before .before .before .before .before) .few
-
-refused-requires-4 : tie.Need-refused-requires-4
-refused-requires-4 c κs = search needs
-
-returns-4 : tie.Need-returns-4
-unfolding planned
-returns-4 c =
-    let three = c .before .before .before in
-    let two = three .before .before in
-    let missing = taken _ _ (c .before .before .all-known .ensures) (c .before .if4 .taken) in
-    rw (c .refused4 .ensures, fits-so (two .before .before .before), fine-so two, single-so three, missing)
+enum-told : tie.Need-enum-told
+enum-told c = search needs
 
 find-requires : tie.Need-find-requires
 find-requires c κs = search needs
@@ -95,32 +86,30 @@ find-requires c κs = search needs
 is-known-requires : tie.Need-is-known-requires
 is-known-requires c κs = search needs
 
-refused-requires-5 : tie.Need-refused-requires-5
-refused-requires-5 c κs = search needs
+refused-requires-4 : tie.Need-refused-requires-4
+refused-requires-4 c κs = search needs
 
-returns-5 : tie.Need-returns-5
+returns-4 : tie.Need-returns-4
 unfolding planned
-returns-5 c =
-    let four = c .before .before .before .before in
-    let three = four .before .before in
-    let two = three .before .before in
-    let unknown = ap isKnown (sym (c .before .before .before .find .ensures)) ∙ taken _ _ (c .before .before .is-known .ensures) (c .before .if5 .taken) in
-    rw (c .refused5 .ensures, fits-so (two .before .before .before), fine-so two, single-so three, lists-so four, unknown)
+returns-4 c =
+    let clear = c .before .before .before .before in
+    let two = clear .before .before .before in
+    let unknown = ap isKnown (sym (c .before .before .before .find .ensures)) ∙ taken _ _ (c .before .before .is-known .ensures) (c .before .if3 .taken) in
+    rw (c .refused4 .ensures, fits-so (two .before .before .before), fine-so two, clear-so clear, unknown)
 
 parts-for-requires : tie.Need-parts-for-requires
-parts-for-requires c κs = let size = fit (c .before .before .before .before .before .before .before .before .before .before) in (size .few, size .enough)
+parts-for-requires c κs = let size = fit (c .before .before .before .before .before .before .before .before .before) in (size .few, size .enough)
 
 accepted-requires : tie.Need-accepted-requires
 accepted-requires c κs = search needs
 
-returns-6 : tie.Need-returns-6
+returns-5 : tie.Need-returns-5
 unfolding planned
-returns-6 c =
-    let four = c .before .before .before .before .before in
-    let three = four .before .before in
-    let two = three .before .before in
-    let known = ap isKnown (sym (c .before .before .before .before .find .ensures)) ∙ passed _ _ (c .before .before .before .is-known .ensures) (c .before .before .if5 .left) in
-    rw (c .accepted .ensures, c .before .parts-for .ensures, fits-so (two .before .before .before), fine-so two, single-so three, lists-so four, known)
+returns-5 c =
+    let clear = c .before .before .before .before .before in
+    let two = clear .before .before .before in
+    let known = ap isKnown (sym (c .before .before .before .before .find .ensures)) ∙ passed _ _ (c .before .before .before .is-known .ensures) (c .before .before .if3 .left) in
+    rw (c .accepted .ensures, c .before .parts-for .ensures, fits-so (two .before .before .before), fine-so two, clear-so clear, known)
 
 pub plan-spec : {M : Type 1} → statement M
 plan-spec =
@@ -134,16 +123,15 @@ plan-spec =
     is-fine-requires
     refused-requires-2
     returns-2
-    doubled-at-requires
+    names-judged-requires
+    enum-known-names
     refused-requires-3
     returns-3
-    all-known-requires
-    refused-requires-4
-    returns-4
+    enum-told
     find-requires
     is-known-requires
-    refused-requires-5
-    returns-5
+    refused-requires-4
+    returns-4
     parts-for-requires
     accepted-requires
-    returns-6)
+    returns-5)

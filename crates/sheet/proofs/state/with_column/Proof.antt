@@ -3,7 +3,8 @@ use mathlib.Core.Bool.{true, false}
 use mathlib.Core.Path.{_≡_, sym, _∙_}
 use borrow.Author.Needs.{needs}
 use lib.ListN.{take}
-use Rattle.sheet.specs.Sheet.{isIn, columnNamed}
+use Rattle.naming.specs.Name.{isIn}
+use Rattle.sheet.specs.Sheet.{columnNamed}
 use Rattle.sheet.proofs.Steps.{column-goes, column-fits}
 use Rattle.sheet.proofs.state.with_column.Statement.{statement}
 use Rattle.sheet.proofs.state.with_column.Tie as tie

@@ -4,7 +4,8 @@ use mathlib.Core.Path.{_≡_, sym, _∙_}
 use borrow.Author.Needs.{needs}
 use lib.ListN.{take}
 use Rattle.quant.proofs.Judging.{taken, passed}
-use Rattle.sheet.specs.Sheet.{isIn, rowNamed}
+use Rattle.naming.specs.Name.{isIn}
+use Rattle.sheet.specs.Sheet.{rowNamed}
 use Rattle.sheet.proofs.Steps.{row-goes, row-fits}
 use Rattle.sheet.proofs.state.with_row.Statement.{statement}
 use Rattle.sheet.proofs.state.with_row.Tie as tie
