@@ -365,7 +365,7 @@ impl Text {
     fn step(&mut self, rng: &mut Rng, rows: usize, samples: &mut [f64]) {
         let kind = rng.below(4);
         let mut some = |n: u64| (0..n).map(|_| rng.sample() / 4.0).collect::<Vec<f64>>();
-        let (name, numbers) = match kind {
+        let (name, mut numbers) = match kind {
             0 if rows == 2 => ("iq", some(4)),
             1 => ("iir", some(24)),
             2 => ("fir", some(9)),
@@ -376,8 +376,19 @@ impl Text {
         } else {
             String::new()
         };
+        let wrong = if name == "iir" {
+            a0s(rng, &mut numbers)
+        } else {
+            None
+        };
         let told: String = numbers.iter().map(|x| word(*x)).collect();
-        self.ask(&format!("{name}{size}{told}"), "ok 0");
+        let line = format!("{name}{size}{told}");
+        if let Some(section) = wrong {
+            self.ask(&line, &format!("refused 22 {section}"));
+            self.count("steps: iir, refused by 22", 1);
+            return;
+        }
+        self.ask(&line, "ok 0");
         self.count(&format!("steps: {name}"), 1);
         match name {
             "iq" => their_iq(samples, rows, &numbers),
@@ -403,6 +414,22 @@ impl Text {
         self.ask("print", &(told + "ok 0"));
         self.count("samples printed", samples.len());
     }
+}
+
+/// Every a0 becomes 1; in one list of eight one or two become another number. The first of these, from 0.
+fn a0s(rng: &mut Rng, sections: &mut [f64]) -> Option<usize> {
+    for section in sections.chunks_mut(6) {
+        section[3] = 1.0;
+    }
+    if rng.below(8) != 0 {
+        return None;
+    }
+    let count = sections.len() as u64 / 6;
+    let spoilt = [rng.below(count) as usize, rng.below(count) as usize];
+    for k in spoilt {
+        sections[6 * k + 3] = [2.0, -1.0, 0.0, 1.0 + f64::EPSILON][rng.below(4) as usize];
+    }
+    Some(spoilt[0].min(spoilt[1]))
 }
 
 fn between(rng: &mut Rng, low: f64, high: f64) -> f64 {

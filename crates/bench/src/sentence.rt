@@ -10,6 +10,7 @@ use super::show::lost;
 use super::show::show_reply;
 use super::words::is_known;
 use super::words::why;
+use super::words::why_filtered;
 use super::words::why_sampled;
 use crosstalk::names::Crosstalk;
 use decimal::digits::Digits;
@@ -61,12 +62,18 @@ fn syntax(words: &[u8], line: usize) {
     say(b"\n");
 }
 
-// A place is a line of a sheet.
+// A place is a section of a filter, or a line of a sheet.
 fn refused(answer: Answer, text: &[u8], at: usize, end: usize, line: usize) {
     let Answer::Refused(refusal, place) = answer else {
         return;
     };
     let words = part(text, at, end);
+    if number(refusal) == 22 {
+        head(line, refusal);
+        why_filtered(refusal, place, words);
+        say(b"\n");
+        return;
+    }
     if place == 0 {
         head(line, refusal);
         why(refusal, words, true);

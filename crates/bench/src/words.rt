@@ -42,7 +42,7 @@ pub(crate) fn why(refusal: Refusal, line: &[u8], known: bool) {
     }
 }
 
-// Row n of the table, from 1, and a blank where more follows. What is said for 2 goes by the line, and nothing is refused by 14.
+// Row n of the table, from 1, and a blank where more follows. What is said for 2 goes by the line, and nothing is refused by 14, 20 or 21.
 fn say_row(n: usize) {
     let table: &[u8] = b"
 a setting that cannot be used: a rate is above 0, a level from -20 to 20, no tolerance below 0, and each is finite
@@ -64,12 +64,26 @@ a spline has degree 0 to 5, degree + 1 to 32 controls, controls + degree + 1 kno
 the name stood before:
 no channel has the name:
 no column has the name:
+
+
+a0, the fourth of its six numbers, is not 1:
 ";
     let at = behind(table, 0, n);
     say(part(table, at, line_end(table, at)));
     match n {
-        3 | 5 | 7 | 13..=19 => say(b" "),
+        3 | 5 | 7 | 13..=19 | 22 => say(b" "),
         _ => {}
+    }
+}
+
+// 22: the place is the section, from 0. The sections' numbers begin at word 2, and there are at most 16 sections.
+pub(crate) fn why_filtered(refusal: Refusal, place: usize, line: &[u8]) {
+    say(b"section ");
+    say_number(place);
+    say(b", counted from 0: ");
+    say_row(number(refusal));
+    if place < 16 {
+        quote_value(line, 6 * place + 5, b"");
     }
 }
 

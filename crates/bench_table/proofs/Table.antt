@@ -10,7 +10,7 @@ use Rattle.trig.specs.Reduce.{wrapped, reduced}
 use Rattle.trig.specs.Trig.{horner, cosineAt, sineAt, cosineOf, sineOf}
 use Rattle.rows.specs.Rows.{allFinite}
 use Rattle.naming.specs.Name.{nameByte, every, lowBytes, bytesOfWord, sixteen, bytesOf, pastEnd, isName, sameName}
-use Rattle.iir.specs.Section.{ran, sectionsFrom, finiteSections}
+use Rattle.iir.specs.Section.{ran, sectionsFrom, a0sFrom}
 use Rattle.iir.specs.Filter.{given, pipelined, turns}
 use Rattle.points.specs.Points.{points}
 use Rattle.shape.specs.Parts.{indexAt, partedOf}
@@ -40,7 +40,7 @@ use Rattle.bench_table.specs.Line.{Every}
 use Rattle.bench_table.specs.Table.{table}
 
 pub bench-table : Every table
-unfolding add sub mul div rem neg lt eq le sum round ofBits ofInt ceiling cutOf exp2Of fma wrapped reduced horner cosineAt sineAt cosineOf sineOf allFinite nameByte every lowBytes bytesOfWord sixteen bytesOf pastEnd isName sameName ran sectionsFrom finiteSections given pipelined turns points indexAt partedOf allFine pointFine finitePoints finePoints sameNumbers sameRow placeOf envelopeOf phase0 dphase startPair rotationPair phaseNumbers judged foundFrom keptFrom summedBy joined joinedTwo packed zipped allNames namesJudged rowFrom partOf partsAt planned onPart carried ofMark allRows firstsAfter good required movedBy turnedAt run.acted run.ran ranPulses ranBins sampled
+unfolding add sub mul div rem neg lt eq le sum round ofBits ofInt ceiling cutOf exp2Of fma wrapped reduced horner cosineAt sineAt cosineOf sineOf allFinite nameByte every lowBytes bytesOfWord sixteen bytesOf pastEnd isName sameName ran sectionsFrom a0sFrom given pipelined turns points indexAt partedOf allFine pointFine finitePoints finePoints sameNumbers sameRow placeOf envelopeOf phase0 dphase startPair rotationPair phaseNumbers judged foundFrom keptFrom summedBy joined joinedTwo packed zipped allNames namesJudged rowFrom partOf partsAt planned onPart carried ofMark allRows firstsAfter good required movedBy turnedAt run.acted run.ran ranPulses ranBins sampled
 bench-table =
     -- B1
     record { place = refl; judge = refl; sample = refl; row = refl }

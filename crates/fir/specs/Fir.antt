@@ -17,5 +17,5 @@ firFits rows i q taps = rowsFit rows i q && leb 1 taps && leb taps 256
 -- what `fir` answers and leaves; a second row of no samples has none to filter
 pub record Fir (rows : ℕ) (i q taps : List Float) (r : Answer) (i' q' : List Float) : Type 0 where
   pub answer : r ≡ answerOf (firFits rows (length i) (length q) (length taps)) (allFinite taps)
-  pub first : i' ≡ after (firFits rows (length i) (length q) (length taps)) (allFinite taps) (filteredRow taps i) i
-  pub second : q' ≡ after (firFits rows (length i) (length q) (length taps)) (allFinite taps) (filteredRow taps q) q
+  pub first : i' ≡ after (answerOf (firFits rows (length i) (length q) (length taps)) (allFinite taps)) (filteredRow taps i) i
+  pub second : q' ≡ after (answerOf (firFits rows (length i) (length q) (length taps)) (allFinite taps)) (filteredRow taps q) q

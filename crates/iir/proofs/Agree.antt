@@ -165,7 +165,7 @@ warmed-kin l (suc n) k xs h q =
     let g = rest-after l k fine b xs (rest-kin l k fine) q in
     one-more (g .0) (warmed-kin l n (suc k) (nought ∷ through b xs) others (quiet-first same (g .1)))
 
-same-rows : (xs : List Float) → AlikeRows xs xs
+pub same-rows : (xs : List Float) → AlikeRows xs xs
 same-rows [] = ended
 same-rows (x ∷ xs) = next same (same-rows xs)
 

@@ -4,4 +4,7 @@ pub mod Flights
 pub mod Pipeline
 pub mod Zeros
 pub mod Agree
+pub mod A0s
 pub mod Left
+pub mod Calls
+pub mod Wrong

@@ -1,5 +1,5 @@
 -- Sections from the k-th on, the first few of them written out. Assumes nothing.
-use Prim.Native.Nat.{ℕ, zero, suc, _+_, _-_, _≤_, _<_}
+use Prim.Native.Nat.{ℕ, zero, suc, _+_, _-_, _≤_}
 use native.Mathlib.Omega.{arith}
 use mathlib.Core.Path.{_≡_, refl, ap}
 use mathlib.Core.List.{List, [], _∷_}
@@ -31,14 +31,6 @@ pub all-from : (l : List Float) (n : ℕ) → sectionsFrom l (n - 0) 0 ≡ secti
 all-from l n = let e : n - 0 ≡ n = omega arith in rw e
 
 module _ (l : List Float) (n k : ℕ) where
-  pub none-from : n ≤ k → sectionsFrom l (n - k) k ≡ []
-  unfolding sectionsFrom
-  none-from h = let e : n - k ≡ 0 = omega arith in rw e
-
-  pub next-from : k < n → sectionsFrom l (n - k) k ≡ sectionAt l k ∷ sectionsFrom l (n - (k + 1)) (k + 1)
-  unfolding sectionsFrom
-  next-from h = let e : n - k ≡ suc (n - (k + 1)) = omega arith in rw (e, one-more k)
-
   pub four-from : k + 4 ≤ n → sectionsFrom l (n - k) k ≡ sectionAt l k ∷ sectionAt l (k + 1) ∷ sectionAt l (k + 2) ∷ sectionAt l (k + 3) ∷ sectionsFrom l (n - (k + 4)) (k + 4)
   unfolding sectionsFrom
   four-from h =

@@ -2,9 +2,9 @@
 ghost use mathlib.Core.Path.{_≡_};
 ghost use Prim.Native.Nat.{_+_, _*_, _≤_};
 ghost use lib.ListN.{length};
-ghost use Rattle.iir.specs.Section.{ran, sectionAt, sectionsOf, finiteSection, finiteSections};
-use ieee::finite::is_finite;
-use quant::judge::both;
+ghost use Rattle.iir.specs.Section.{ran, sectionAt, a0sJudged};
+use quant::refusal::Answer;
+use quant::refusal::Refusal;
 
 pub struct Biquad {
     pub b0: f64,
@@ -35,7 +35,7 @@ impl Biquad {
     }
 }
 
-// Section k of the numbers, its state zero. The fourth of its six numbers is not read.
+// Section k of the numbers, its state zero. The fourth of its six numbers, a0, is 1 where a row is filtered, so that nothing is divided by it.
 pub(crate) fn section(numbers: &[f64], k: usize) -> Biquad
     requires { ⌜ 6 * k + 6 ≤ length (now numbers) ⌝ }
     ensures { λ r. ⌜ r ≡ sectionAt (now (numbers .entry)) k ⌝ }
@@ -53,24 +53,18 @@ pub(crate) fn section(numbers: &[f64], k: usize) -> Biquad
     }
 }
 
-pub(crate) fn sections_finite(numbers: &[f64]) -> bool
-    ensures { λ r. ⌜ r ≡ finiteSections (sectionsOf (now (numbers .entry))) ⌝ }
+// 22 at the first section, counted from 0, whose a0 does not equal 1; done where there is none.
+pub(crate) fn a0s_judged(numbers: &[f64]) -> Answer
+    ensures { λ r. ⌜ r ≡ a0sJudged (now (numbers .entry)) ⌝ }
 {
     let count = numbers.len() / 6;
     let mut k: usize = 0;
     while k < count {
-        if section_finite(section(numbers, k)) {
+        if numbers[6 * k + 3] == 1.0 {
             k += 1;
         } else {
-            return false;
+            return Answer::Refused(Refusal::WrongA0, k);
         }
     }
-    true
-}
-
-fn section_finite(b: Biquad) -> bool
-    ensures { λ r. ⌜ r ≡ finiteSection b ⌝ }
-{
-    let forward = both(both(is_finite(b.b0), is_finite(b.b1)), is_finite(b.b2));
-    both(both(forward, is_finite(b.a1)), is_finite(b.a2))
+    Answer::Done(0)
 }

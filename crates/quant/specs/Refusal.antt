@@ -3,9 +3,9 @@ use Prim.Native.Nat.{ℕ}
 use Rattle.quant.specs.declared.refusal.Answer.{Answer}
 use Rattle.quant.specs.declared.refusal.Answer.the-variants.{Done, Refused}
 use Rattle.quant.specs.declared.refusal.Refusal.{Refusal}
-use Rattle.quant.specs.declared.refusal.Refusal.the-variants.{Unfit, Malformed, Full, Oversize, UnknownShape, NegativePlateau, UnknownChannel, NotFinite, BeforeRow, StartPastRow, ShapeTooShort, EndPastRow, WrongSize, Layout, WrongSpline, DoubledName, NoList, NoColumn}
+use Rattle.quant.specs.declared.refusal.Refusal.the-variants.{Unfit, Malformed, Full, Oversize, UnknownShape, NegativePlateau, UnknownChannel, NotFinite, BeforeRow, StartPastRow, ShapeTooShort, EndPastRow, WrongSize, Layout, WrongSpline, DoubledName, NoList, NoColumn, WrongA0}
 
--- document 02, P2: "14 becomes 17 (doubled), 18 (no list), 19 (no such column)"; 20 to 23 are kept for the rest of document 02
+-- document 02, P2: "14 becomes 17 (doubled), 18 (no list), 19 (no such column)"; P5: "a new 22"; 20, 21 and 23 are kept for the rest of document 02
 abbrev pub numberOf : Refusal → ℕ
 numberOf Unfit = 1
 numberOf Malformed = 2
@@ -25,6 +25,7 @@ numberOf WrongSpline = 16
 numberOf DoubledName = 17
 numberOf NoList = 18
 numberOf NoColumn = 19
+numberOf WrongA0 = 22
 
 -- "A refusal returns its number and a place"; "Acceptance returns the count": its number is 0. What an answer does not return is 0.
 pub record Reply : Type 0 where

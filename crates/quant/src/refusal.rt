@@ -41,6 +41,8 @@ pub enum Refusal {
     NoList,
     // 19: a sheet's row is no column
     NoColumn,
+    // 22: a filter section's a0 does not equal 1
+    WrongA0,
 }
 
 // The count of commands run or pulses added; or the refusal and its place. `replyOf` gives number, place and count.
@@ -71,6 +73,7 @@ pub fn number(r: Refusal) -> usize
         Refusal::DoubledName => 17,
         Refusal::NoList => 18,
         Refusal::NoColumn => 19,
+        Refusal::WrongA0 => 22,
     }
 }
 

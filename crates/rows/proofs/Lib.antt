@@ -1,2 +1,4 @@
+pub mod After
+pub mod Finite
 pub mod Turns
 pub mod Valued

@@ -23,6 +23,7 @@ answerOf false fine = Refused WrongSize 0
 answerOf true false = Refused Malformed 0
 answerOf true true = Done 0
 
--- a row afterwards: as it came where the step is refused
-abbrev pub after : Bool → Bool → List Float → List Float → List Float
-after fits fine new old = cond (fits && fine) new old
+-- a row after a step, by what the step answers: as it came where it is refused
+abbrev pub after : Answer → List Float → List Float → List Float
+after (Done count) new old = new
+after (Refused why place) new old = old

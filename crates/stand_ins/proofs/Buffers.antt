@@ -17,7 +17,7 @@ use Rattle.rows.specs.Rows.{allFinite}
 use Rattle.rows.specs.Rows as rows
 use Rattle.naming.specs.Name.{nameByte, every, lowBytes, bytesOfWord, sixteen, bytesOf, pastEnd, isName, sameName}
 use Rattle.mixer.specs.Mixer.{mixedRow, raisedRow}
-use Rattle.iir.specs.Section.{ran, sectionsFrom, finiteSections}
+use Rattle.iir.specs.Section.{ran, sectionsFrom, a0sFrom}
 use Rattle.iir.specs.Filter.{given, pipelined, turns}
 use Rattle.ring.specs.Ring.{tapAt, sumTo, filteredFrom}
 use Rattle.quant.specs.declared.refusal.Answer.{Answer}
@@ -67,9 +67,9 @@ use Rattle.stand_ins.proofs.StandIns.{Only, not-all-refused, not-always
 abbrev codedOf : system.Step → lent.Step → lent.Coded-rows
 codedOf s x =
     record {
-      code = codeOf (rows.answerOf (s .fits) (s .fine));
-      i = rows.after (s .fits) (s .fine) (s .i) (x .i);
-      q = rows.after (s .fits) (s .fine) (s .q) (x .q);
+      code = codeOf (s .answer);
+      i = rows.after (s .answer) (s .i) (x .i);
+      q = rows.after (s .answer) (s .q) (x .q);
     }
 
 abbrev iqLeft : lent.Step → lent.Coded-rows
@@ -146,7 +146,7 @@ twoEnd : Gathered → Bool
 twoEnd g = eqb (getD (g .ends .ends) 0 0) 2
 
 pub buffers : Buffers
-unfolding isOne isOneRow twoEnd isTwo mixedDown endsFit runsForFrom pulsesIn pickedFrom passed over inOne endsFrom add sub mul div rem neg lt eq le sum round ofBits ofInt ceiling cutOf exp2Of fma wrapped reduced horner cosineAt sineAt cosineOf sineOf allFinite nameByte every lowBytes bytesOfWord sixteen bytesOf pastEnd isName sameName mixedRow raisedRow ran sectionsFrom finiteSections given pipelined turns tapAt sumTo filteredFrom points inDomain spanTo blendOf dAt spline-row.rowOf wholeOf splineAt valueIn valueOf pointFine values allFine indexAt partedOf shapeOf finitePoints finePoints hannOf sameNumbers sameRow placeOf envelopeOf phase0 dphase startPair rotationPair phaseNumbers judged foundFrom shapeFrom settled settledShape keptFrom summedBy joined joinedTwo packed zipped allNames namesJudged rowFrom partOf partsAt planned onPart carried shaped ofMark allRows firstsAfter good required run.acted run.ran ranPulses ranBins sampled
+unfolding isOne isOneRow twoEnd isTwo mixedDown endsFit runsForFrom pulsesIn pickedFrom passed over inOne endsFrom add sub mul div rem neg lt eq le sum round ofBits ofInt ceiling cutOf exp2Of fma wrapped reduced horner cosineAt sineAt cosineOf sineOf allFinite nameByte every lowBytes bytesOfWord sixteen bytesOf pastEnd isName sameName mixedRow raisedRow ran sectionsFrom a0sFrom given pipelined turns tapAt sumTo filteredFrom points inDomain spanTo blendOf dAt spline-row.rowOf wholeOf splineAt valueIn valueOf pointFine values allFine indexAt partedOf shapeOf finitePoints finePoints hannOf sameNumbers sameRow placeOf envelopeOf phase0 dphase startPair rotationPair phaseNumbers judged foundFrom shapeFrom settled settledShape keptFrom summedBy joined joinedTwo packed zipped allNames namesJudged rowFrom partOf partsAt planned onPart carried shaped ofMark allRows firstsAfter good required run.acted run.ran ranPulses ranBins sampled
 buffers =
     record {
       iq-c = not-all-refused lent.iq-c _ _ (only-iq (given.stepping iq-numbers 1)) refl;

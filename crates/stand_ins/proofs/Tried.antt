@@ -11,7 +11,7 @@ use Rattle.trig.specs.Trig.{horner, cosineAt, sineAt, cosineOf, sineOf}
 use Rattle.rows.specs.Rows.{allFinite}
 use Rattle.naming.specs.Name.{nameByte, every, lowBytes, bytesOfWord, sixteen, bytesOf, pastEnd, isName, sameName}
 use Rattle.mixer.specs.Mixer.{mixedRow, raisedRow}
-use Rattle.iir.specs.Section.{ran, sectionsFrom, finiteSections}
+use Rattle.iir.specs.Section.{ran, sectionsFrom, a0sFrom}
 use Rattle.iir.specs.Filter.{given, pipelined, turns}
 use Rattle.ring.specs.Ring.{tapAt, sumTo, filteredFrom}
 use Rattle.quant.specs.declared.refusal.Answer.the-variants.{Done}
@@ -62,7 +62,7 @@ pub record All : Type 0 where
   pub first : TriedFirst
 
 pub tried : All
-unfolding outcome add sub mul div rem neg lt eq le sum round ofBits ofInt ceiling cutOf exp2Of fma wrapped reduced horner cosineAt sineAt cosineOf sineOf allFinite nameByte every lowBytes bytesOfWord sixteen bytesOf pastEnd isName sameName mixedRow raisedRow ran sectionsFrom finiteSections given pipelined turns tapAt sumTo filteredFrom points notFalling isSpline inDomain spanTo blendOf fineStep dAt fineAt spline-row.rowOf wholeOf splineAt splineFine valueIn fineIn valueOf pointFine values allFine indexAt partedOf shapeOf finitePoints finePoints hannOf sameNumbers sameRow placeOf envelopeOf phase0 dphase startPair rotationPair phaseNumbers judged foundFrom shapeFrom settled settledShape keptFrom summedBy joined joinedTwo packed zipped allNames namesJudged rowFrom partOf partsAt planned onPart carried shaped ofMark allRows firstsAfter good required run.acted run.ran ranPulses ranBins sampled duesOf allDues withAll
+unfolding outcome add sub mul div rem neg lt eq le sum round ofBits ofInt ceiling cutOf exp2Of fma wrapped reduced horner cosineAt sineAt cosineOf sineOf allFinite nameByte every lowBytes bytesOfWord sixteen bytesOf pastEnd isName sameName mixedRow raisedRow ran sectionsFrom a0sFrom given pipelined turns tapAt sumTo filteredFrom points notFalling isSpline inDomain spanTo blendOf fineStep dAt fineAt spline-row.rowOf wholeOf splineAt splineFine valueIn fineIn valueOf pointFine values allFine indexAt partedOf shapeOf finitePoints finePoints hannOf sameNumbers sameRow placeOf envelopeOf phase0 dphase startPair rotationPair phaseNumbers judged foundFrom shapeFrom settled settledShape keptFrom summedBy joined joinedTwo packed zipped allNames namesJudged rowFrom partOf partsAt planned onPart carried shaped ofMark allRows firstsAfter good required run.acted run.ran ranPulses ranBins sampled duesOf allDues withAll
 tried = record { each = each; first = record { pulse = refl; bin = refl } }
   where
     each : (t : Trial) → Tried (tryOf t)

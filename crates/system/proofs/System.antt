@@ -7,16 +7,19 @@ use lib.Ieee.{Float}
 use lib.ListN.{length}
 use Rattle.quant.specs.declared.refusal.Answer.{Answer}
 use Rattle.quant.specs.declared.refusal.Answer.the-variants.{Done, Refused}
+use Rattle.rows.specs.Rows.{allFinite}
+use Rattle.mixer.specs.Mixer.{iqFits, offsetFits}
+use Rattle.fir.specs.Fir.{firFits}
 use Rattle.tables.specs.declared.Tabled.{Tabled}
 use Rattle.tables.specs.Tables.{made}
 use Rattle.commands_laws.specs.Sound.{Reached}
 use Rattle.commands_laws.specs.Sound as reached
 use Rattle.commands_laws.proofs.Sound.{sound}
-use Rattle.system.specs.System.{State, Call, make, add-channel, add-shape, add-spline, execute, sample, iq, offset, iir, fir, Event, calls, lends, withTables, withLent, adopted, remade, iqStep, offsetStep, iirStep, firStep, outcome}
+use Rattle.system.specs.System.{State, Call, make, add-channel, add-shape, add-spline, execute, sample, iq, offset, iir, fir, Event, calls, lends, withTables, withLent, adopted, remade, iqStep, offsetStep, firStep, outcome}
 use Rattle.system.specs.Said.{AsSaid, Holds, EveryCall}
 use Rattle.system.proofs.Promised.{answered, only}
 use Rattle.system.proofs.Adds.{make-said, channel-said, shape-said, spline-said}
-use Rattle.system.proofs.Steps.{step-said}
+use Rattle.system.proofs.Steps.{step-said, iir-said}
 use Rattle.system.proofs.Commands.{commands-said}
 use Rattle.system.proofs.Sampling.{sample-said}
 
@@ -30,10 +33,10 @@ said s (add-shape n) = shape-said s n
 said s (add-spline n p c t) = spline-said s n p c t
 said s (execute commands) = commands-said s commands
 said s (sample r c factors) = sample-said s r c factors
-said s (iq n m) = step-said s (iqStep (s .rows) n m)
-said s (offset n m) = step-said s (offsetStep (s .rows) n m)
-said s (iir n sections) = step-said s (iirStep (s .rows) n sections)
-said s (fir n taps) = step-said s (firStep (s .rows) n taps)
+said s (iq n m) = let x = iqStep (s .rows) n m in step-said s (x .i) (x .q) (iqFits n (s .rows .i) (s .rows .q) m) (allFinite m)
+said s (offset n m) = let x = offsetStep (s .rows) n m in step-said s (x .i) (x .q) (offsetFits n (s .rows .i) (s .rows .q) m) (allFinite m)
+said s (iir n sections) = iir-said s n sections
+said s (fir n taps) = let x = firStep (s .rows) n taps in step-said s (x .i) (x .q) (firFits n (length (s .rows .i)) (length (s .rows .q)) (length taps)) (allFinite taps)
 
 pub holds : (s : State) (c : Call) → Holds s c
 holds s c = record { answered = answered s c; only = only s c; said = said s c }

@@ -15,6 +15,7 @@ use Rattle.quant.specs.declared.settings.Fitting.the-variants.{Fit}
 use Rattle.quant.specs.declared.settings.Settings.{Settings}
 use Rattle.quant.specs.Refusal.{numberOf}
 use Rattle.quant.specs.Settings.{fittingOf}
+use Rattle.iir.specs.A0.{AtSection}
 use Rattle.commands.specs.declared.command.Arranged.{Arranged}
 use Rattle.commands.specs.Run.{sizesFit}
 use Rattle.commands_laws.specs.Sound.{Sound}
@@ -69,6 +70,16 @@ AddSaid numbers s (Refused why k) u = AsItCame numbers 0 s why k u
 abbrev pub StepSaid : State → Answer → State → Type 0
 StepSaid s (Done k) u = k ≡ 0
 StepSaid s (Refused why k) u = AsItCame (13 ∷ 2 ∷ []) 0 s why k u
+
+-- of sections, by document 02, "a new 22, after 13 and 2 .., with the section from 0 as place; rows stay": nothing judged before refuses, and section k
+-- is the first whose a0 does not equal 1
+pub data IirRefused (s : State) (n : ℕ) (sections : List Float) (why : Refusal) (k : ℕ) (u : State) : Type 0 where
+  as-a-step : AsItCame (13 ∷ 2 ∷ []) 0 s why k u → IirRefused s n sections why k u
+  at-section : AtSection n (s .rows .i) (s .rows .q) sections k → AsItCame (22 ∷ []) k s why k u → IirRefused s n sections why k u
+
+abbrev pub IirSaid : State → ℕ → List Float → Answer → State → Type 0
+IirSaid s n sections (Done k) u = k ≡ 0
+IirSaid s n sections (Refused why k) u = IirRefused s n sections why k u
 
 -- ---- a list of commands
 
@@ -155,7 +166,7 @@ AsSaid s (execute commands) o = CommandsSaid s commands (o .answer) (o .after)
 AsSaid s (sample r c factors) o = SampleSaid s r c factors (o .answer) (o .after)
 AsSaid s (iq n m) o = StepSaid s (o .answer) (o .after)
 AsSaid s (offset n m) o = StepSaid s (o .answer) (o .after)
-AsSaid s (iir n sections) o = StepSaid s (o .answer) (o .after)
+AsSaid s (iir n sections) o = IirSaid s n sections (o .answer) (o .after)
 AsSaid s (fir n taps) o = StepSaid s (o .answer) (o .after)
 
 -- its promise allows one outcome, and no other; and that is as document 01 says

@@ -11,9 +11,9 @@ use Rattle.quant.specs.declared.refusal.Answer.{Answer}
 use Rattle.quant.specs.declared.refusal.Answer.the-variants.{Done, Refused}
 use Rattle.rows.specs.Rows as rows
 use Rattle.mixer.specs.Mixer as mixer
-use Rattle.iir.specs.Section.{sectionsOf, finiteSections}
+use Rattle.iir.specs.Section.{sectionsOf}
 use Rattle.iir.specs.Filter.{filtered}
-use Rattle.iir.specs.Iir.{Iir, iirFits}
+use Rattle.iir.specs.Iir.{Iir, iirAnswer}
 use Rattle.ring.specs.Ring.{filteredRow}
 use Rattle.fir.specs.Fir.{Fir, firFits}
 use Rattle.executor.specs.declared.osc.OscState.{OscState}
@@ -155,21 +155,19 @@ hasRun s x = told (x .result .answer) (withStored s (x .result .tables) (x .bins
 abbrev pub hasSampled : State → Left → Outcome
 hasSampled s x = told (x .answer) (withLent s (x .rows) (x .work) (x .marks))
 
--- a step: whether its sizes fit, whether its numbers are fine, and the rows that it leaves where both hold
+-- a step: what it answers, and the rows that it leaves where it is done
 pub record Step : Type 0 where
-  pub fits : Bool
-  pub fine : Bool
+  pub answer : Answer
   pub i : List Float
   pub q : List Float
 
 abbrev pub stepped : State → Step → Outcome
-stepped s x = told (rows.answerOf (x .fits) (x .fine)) (withRows s (rows.after (x .fits) (x .fine) (x .i) (s .rows .i)) (rows.after (x .fits) (x .fine) (x .q) (s .rows .q)))
+stepped s x = told (x .answer) (withRows s (rows.after (x .answer) (x .i) (s .rows .i)) (rows.after (x .answer) (x .q) (s .rows .q)))
 
 abbrev pub iqStep : Rowed → ℕ → List Float → Step
 iqStep st n m =
     record {
-      fits = mixer.iqFits n (st .i) (st .q) m;
-      fine = rows.allFinite m;
+      answer = rows.answerOf (mixer.iqFits n (st .i) (st .q) m) (rows.allFinite m);
       i = mixer.mixedRow (getD m 0 nan) (getD m 1 nan) (st .i) (st .q);
       q = mixer.mixedRow (getD m 2 nan) (getD m 3 nan) (st .i) (st .q);
     }
@@ -177,8 +175,7 @@ iqStep st n m =
 abbrev pub offsetStep : Rowed → ℕ → List Float → Step
 offsetStep st n m =
     record {
-      fits = mixer.offsetFits n (st .i) (st .q) m;
-      fine = rows.allFinite m;
+      answer = rows.answerOf (mixer.offsetFits n (st .i) (st .q) m) (rows.allFinite m);
       i = mixer.raisedRow (getD m 0 nan) (st .i);
       q = mixer.raisedRow (getD m 1 nan) (st .q);
     }
@@ -186,8 +183,7 @@ offsetStep st n m =
 abbrev pub iirStep : Rowed → ℕ → List Float → Step
 iirStep st n sections =
     record {
-      fits = iirFits n (length (st .i)) (length (st .q)) (length sections);
-      fine = finiteSections (sectionsOf sections);
+      answer = iirAnswer n (length (st .i)) (length (st .q)) sections;
       i = filtered (sectionsOf sections) (st .i);
       q = filtered (sectionsOf sections) (st .q);
     }
@@ -195,8 +191,7 @@ iirStep st n sections =
 abbrev pub firStep : Rowed → ℕ → List Float → Step
 firStep st n taps =
     record {
-      fits = firFits n (length (st .i)) (length (st .q)) (length taps);
-      fine = rows.allFinite taps;
+      answer = rows.answerOf (firFits n (length (st .i)) (length (st .q)) (length taps)) (rows.allFinite taps);
       i = filteredRow taps (st .i);
       q = filteredRow taps (st .q);
     }

@@ -1,52 +1,46 @@
--- `iir::iir` meets its contract: each return is the answer to what the two tests found, and the rows are as that answer says. Assumes nothing.
+-- `iir::iir` meets its contract: the answer is what was judged, and the rows go by it. Assumes nothing.
+use borrow.Author.Needs.{needs}
 use Prim.Native.Nat.{ℕ}
-use mathlib.Core.Path.{_≡_, refl}
-use mathlib.Core.Bool.{Bool, true, false}
+use mathlib.Core.Path.{_≡_, refl, sym, _∙_}
 use mathlib.Core.List.{List}
 use lib.ListN.{length}
 use lib.Ieee.{Float}
 use Rattle.quant.specs.declared.refusal.Answer.{Answer}
-use Rattle.quant.proofs.Judging.{taken, passed}
-use Rattle.rows.specs.Rows.{answerOf, after}
-use Rattle.iir.specs.Section.{sectionsOf, finiteSections}
+use Rattle.rows.specs.Rows.{after}
+use Rattle.rows.proofs.After.{by-answer}
+use Rattle.iir.specs.Section.{sectionsOf}
 use Rattle.iir.specs.Filter.{filtered}
-use Rattle.iir.specs.Iir.{iirFits, Iir}
-use borrow.Author.Needs.{needs}
+use Rattle.iir.specs.Iir.{iirAnswer, Iir}
 use Rattle.iir.proofs.iir.Statement.{statement}
 use Rattle.iir.proofs.iir.Tie as tie
 
-module _ (rows : ℕ) (i q l : List Float) (r : Answer) (fits fine : Bool) (sizes : iirFits rows (length i) (length q) (length l) ≡ fits) where
-  settled : finiteSections (sectionsOf l) ≡ fine → r ≡ answerOf fits fine
-      → Iir rows i q l r (after fits fine (filtered (sectionsOf l) i) i) (after fits fine (filtered (sectionsOf l) q) q)
-  settled numbers e = record { answer = rw (sizes, numbers, e); i-row = rw (sizes, numbers); q-row = rw (sizes, numbers) }
+-- rows as the case of the answer has them are as the answer has them
+settled : (rows : ℕ) (i q l : List Float) (verdict a : Answer) (i' q' : List Float) → verdict ≡ iirAnswer rows (length i) (length q) l → verdict ≡ a
+    → i' ≡ after a (filtered (sectionsOf l) i) i → q' ≡ after a (filtered (sectionsOf l) q) q → Iir rows i q l verdict i' q'
+settled rows i q l verdict a i' q' e is first second =
+    record {
+      answer = e;
+      i-row = by-answer (filtered (sectionsOf l) i) i (sym e ∙ is) first;
+      q-row = by-answer (filtered (sectionsOf l) q) q (sym e ∙ is) second;
+    }
 
-sizes-fit-requires : tie.Need-sizes-fit-requires
-sizes-fit-requires c κs = search needs
+judged-requires : tie.Need-judged-requires
+judged-requires c κs = search needs
 
-answer-requires : tie.Need-answer-requires
-answer-requires c κs = search needs
+enum-told : tie.Need-enum-told
+enum-told c = search needs
+
+enum-told-2 : tie.Need-enum-told-2
+enum-told-2 c = search needs
 
 returns : tie.Need-returns
 returns c =
-    let a = c .before .before .before .before .before .before .args in
-    settled (a .rows) (a .i .now) (a .q .now) (a .sections .now) (c .answer .result) false (finiteSections (sectionsOf (a .sections .now))) (taken _ _ (c .before .before .sizes-fit .ensures) (c .before .if1 .taken)) refl (c .answer .ensures)
-
-sections-finite-requires : tie.Need-sections-finite-requires
-sections-finite-requires c κs = search needs
-
-answer-requires-2 : tie.Need-answer-requires-2
-answer-requires-2 c κs = search needs
-
-returns-2 : tie.Need-returns-2
-returns-2 c =
-    let a = c .before .before .before .before .before .before .before .before .args in
-    settled (a .rows) (a .i .now) (a .q .now) (a .sections .now) (c .answer2 .result) true false (passed _ _ (c .before .before .before .before .sizes-fit .ensures) (c .before .before .before .if1 .left)) (taken _ _ (c .before .before .sections-finite .ensures) (c .before .if2 .taken)) (c .answer2 .ensures)
+    let asked = c .before .before in
+    let a = asked .before .before .before .before .args in
+    settled (a .rows) (a .i .now) (a .q .now) (a .sections .now) (asked .judged .result) _ _ _ (asked .judged .ensures) (c .enum-told2 .given .1) refl refl
 
 filter-rows-requires : tie.Need-filter-rows-requires
 filter-rows-requires c κs = search needs
-
-answer-requires-3 : tie.Need-answer-requires-3
-answer-requires-3 c κs = search needs
 
 same-length : tie.Need-same-length
 same-length c = search needs
@@ -54,25 +48,23 @@ same-length c = search needs
 same-length-2 : tie.Need-same-length-2
 same-length-2 c = search needs
 
-returns-3 : tie.Need-returns-3
-returns-3 c =
-    let a = c .before .before .before .before .before .before .before .before .before .before .before .before .before .before .before .args in
-    let left = c .before .before .before .before .before .filter-rows .ensures in
-    rw (left .0, left .1)
-    (settled (a .rows) (a .i .now) (a .q .now) (a .sections .now) (c .answer3 .result) true true (passed _ _ (c .before .before .before .before .before .before .before .before .before .before .before .sizes-fit .ensures) (c .before .before .before .before .before .before .before .before .before .before .if1 .left)) (passed _ _ (c .before .before .before .before .before .before .before .before .before .sections-finite .ensures) (c .before .before .before .before .before .before .before .before .if2 .left)) (c .answer3 .ensures))
+returns-2 : tie.Need-returns-2
+returns-2 c =
+    let filtered = c .before .before .before .before in
+    let told = filtered .before .before .before in
+    let asked = told .before .before in
+    let a = asked .before .before .before .before .args in
+    settled (a .rows) (a .i .now) (a .q .now) (a .sections .now) (asked .judged .result) _ _ _ (asked .judged .ensures) (told .enum-told .given .1) (filtered .filter-rows .ensures .0) (filtered .filter-rows .ensures .1)
 
 pub iir-spec : {M : Type 1} → statement M
 iir-spec =
     tie.close
     (tie.spec
-    sizes-fit-requires
-    answer-requires
+    judged-requires
+    enum-told
+    enum-told-2
     returns
-    sections-finite-requires
-    answer-requires-2
-    returns-2
     filter-rows-requires
-    answer-requires-3
     same-length
     same-length-2
-    returns-3)
+    returns-2)
