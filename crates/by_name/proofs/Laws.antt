@@ -8,13 +8,14 @@ use mathlib.Core.Logic.{_↔_}
 use mathlib.Core.List.{List, [], _∷_}
 use lib.Ieee.{Float}
 use lib.ListN.{take}
+use Rattle.exact.proofs.Truth.{never}
 use Rattle.exact.specs.Doubles.{one}
 use Rattle.naming.specs.declared.Name.{Name}
 use Rattle.sheet.specs.declared.read.Reading.{Reading}
 use Rattle.naming.specs.Name.{isIn}
 use Rattle.sheet.specs.Sheet.{Block, Sheet, Read}
 use Rattle.sheet_laws.specs.Words.{In, Permuted, countIn, entries, SameUpToOrder}
-use Rattle.sheet_laws.proofs.Names.{never, in-is, is-in}
+use Rattle.sheet_laws.proofs.Names.{in-is, is-in}
 use Rattle.sheet_laws.proofs.Rows.{block-for, self, back, still-in}
 use Rattle.pulse.specs.declared.list.Pulse.{Pulse}
 use Rattle.tables.specs.declared.Tables.{Tables}

@@ -7,7 +7,7 @@ use mathlib.Core.Logic.{_↔_, _⊎_, inl, inr}
 use mathlib.Core.List.{List, [], _∷_, _++_, append-assoc, append-nil}
 use lib.ListN.{length, List·getD-append, length-append}
 use lib.Seq.{getD-append-seam}
-use Rattle.exact.proofs.Naturals.{below-or}
+use Rattle.exact.proofs.Naturals.{below-or, first-once}
 use Rattle.naming.specs.declared.Name.{Name}
 use Rattle.naming.specs.Name.{sameName, isIn}
 use Rattle.naming.proofs.Named.{same-exactly}
@@ -128,14 +128,10 @@ module _ (t : Tables) where
   one-way ns i q r (no-list g e) (no-list h f) = refl
 
   pub one-first : (ns : List Name) (q r : Refusal) (j k : ℕ) → FirstAtFault t ns q j → FirstAtFault t ns r k → (q ≡ r) × (j ≡ k)
-  one-first ns q r j k f g = go (below-or (f .place) (g .place)) (below-or (g .place) (f .place))
-    where
-      go : (f .place < g .place) ⊎ (g .place ≤ f .place) → (g .place < f .place) ⊎ (f .place ≤ g .place) → (q ≡ r) × (j ≡ k)
-      go (inl h) _ = absurd (g .none-before (f .place) h q (f .fault))
-      go (inr h) (inl l) = absurd (f .none-before (g .place) l r (g .fault))
-      go (inr h) (inr l) =
-          let same : g .place ≡ f .place = omega arith in
-          (one-way ns (f .place) q r (f .fault) (subst (λ (x : ℕ). AtFault t ns x r) same (g .fault)), omega (arith, f .from-1, g .from-1))
+  one-first ns q r j k f g =
+      let at-fault : ℕ → Type 0 = λ i. (w : Refusal) × AtFault t ns i w in
+      let same : g .place ≡ f .place = first-once at-fault (g .place) (f .place) (r, g .fault) (λ i under h. g .none-before i under (h .0) (h .1)) (q, f .fault) (λ i under h. f .none-before i under (h .0) (h .1)) in
+      (one-way ns (f .place) q r (f .fault) (subst (λ (x : ℕ). AtFault t ns x r) same (g .fault)), omega (arith, f .from-1, g .from-1))
 
   -- ---- the laws, of all names
 

@@ -1,9 +1,10 @@
--- Laws of naturals that the library lacks: which of two is below the other, a difference times a number, and orders of equal fractions.
--- Assumes nothing.
+-- Laws of naturals that the library lacks: which of two is below the other, that there is one first, a difference times a number, and orders of equal
+-- fractions. Assumes nothing.
 use mathlib.Core.Path.{_≡_, refl, sym, ap, _∙_, subst}
 use mathlib.Core.Bool.{Bool, true, false}
 use mathlib.Core.Logic.{_⊎_, inl, inr}
 use Prim.Native.Nat.{ℕ, _-_, _*_, _<_, _≤_}
+use native.Mathlib.Omega.{arith}
 use native.Mathlib.Nat.{lt-of-mul-lt-mul-right, mul-comm, mul-sub, mul-lt-mul-of-pos-right}
 use borrow.Author.Tests.{ltb-true, ltb-false}
 use lib.Dec.{ltb}
@@ -15,6 +16,15 @@ below-or a b = by (ltb a b) refl
     by : (t : Bool) → ltb a b ≡ t → (a < b) ⊎ (b ≤ a)
     by true e = inl (ltb-true a b e)
     by false e = inr (ltb-false a b e)
+
+-- the first of which something holds is one
+pub first-once : (P : ℕ → Type 0) (a b : ℕ) → P a → ((j : ℕ) → j < a → P j → ⊥) → P b → ((j : ℕ) → j < b → P j → ⊥) → a ≡ b
+first-once P a b here before-a there before-b = go (below-or a b) (below-or b a)
+  where
+    go : (a < b) ⊎ (b ≤ a) → (b < a) ⊎ (a ≤ b) → a ≡ b
+    go (inl less) _ = absurd (before-b a less here)
+    go (inr low) (inl less) = absurd (before-a b less there)
+    go (inr low) (inr high) = omega arith
 
 pub sub-mul : (x y u : ℕ) → (x - y) * u ≡ x * u - y * u
 sub-mul x y u = mul-comm (x - y) u ∙ mul-sub u x y ∙ ap (λ (z : ℕ). z - u * y) (mul-comm u x) ∙ ap (λ (z : ℕ). x * u - z) (mul-comm u y)

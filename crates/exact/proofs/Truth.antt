@@ -1,11 +1,14 @@
--- What a verdict says: of the parts of an `&&` and an `||`, of a comparison of signed numbers, and of a double that is a number. Assumes nothing.
-use mathlib.Core.Path.{_≡_, refl, sym, subst}
+-- What a verdict says: that it is not the other one too, of the parts of an `&&` and an `||`, of a comparison of signed numbers, and of a double that is a number. Assumes nothing.
+use mathlib.Core.Path.{_≡_, refl, sym, subst, _∙_}
 use mathlib.Core.Bool.{Bool, true, false, _&&_, _||_, not, true≢false}
 use lib.Dec.{T}
 use lib.IntN.{ℤ}
 use lib.Signed.{_≤ℤ_, _<ℤ_, ltZ, ltZ-yes, ltZ-no}
 use lib.Ieee.{Float, nan, inf, fin, isNan, ne, unlike}
 use lib.Ieee.Scale.{finite}
+
+pub never : {b : Bool} → b ≡ true → b ≡ false → ⊥
+never h k = true≢false (sym h ∙ k)
 
 pub both : (a b : Bool) → (a && b) ≡ true → (a ≡ true) × (b ≡ true)
 both true b e = (refl, e)

@@ -2,15 +2,16 @@
 -- induction over the sections that are left. Where each does, each section runs as it was designed. Assumes nothing.
 use Prim.Native.Nat.{ℕ, zero, suc, _+_, _*_, _/_, _≤_, _<_}
 use native.Mathlib.Omega.{arith}
-use mathlib.Core.Path.{_≡_, refl, sym, ap, subst, _∙_}
-use mathlib.Core.Bool.{Bool, true, false, cond, true≢false}
+use mathlib.Core.Path.{_≡_, refl, sym, ap, subst}
+use mathlib.Core.Bool.{Bool, true, false, cond}
 use mathlib.Core.Logic.{_⊎_, inl, inr}
 use mathlib.Core.List.{List}
 use lib.Dec.{T}
 use lib.ListN.{length, getD}
 use lib.Ieee.{Float, nan, binary64, div, eq, fits}
 use Rattle.exact.specs.Doubles.{nought, one}
-use Rattle.exact.proofs.Naturals.{below-or}
+use Rattle.exact.proofs.Naturals.{below-or, first-once}
+use Rattle.exact.proofs.Truth.{never}
 use Rattle.exact.proofs.Unit.{over-one, is-one}
 use Rattle.quant.specs.declared.refusal.Answer.{Answer}
 use Rattle.quant.specs.declared.refusal.Answer.the-variants.{Done, Refused}
@@ -64,29 +65,22 @@ module _ (l : List Float) where
 
   -- ---- and back
 
-  never : (k : ℕ) → eq (a0At l k) one ≡ true → eq (a0At l k) one ≡ false → ⊥
-  never k e f = true≢false (sym e ∙ f)
-
   one-first : (p k : ℕ) → FirstWrong l p → FirstWrong l k → p ≡ k
-  one-first p k h f = go (below-or p k) (below-or k p)
-    where
-      go : (p < k) ⊎ (k ≤ p) → (k < p) ⊎ (p ≤ k) → p ≡ k
-      go (inl less) other = absurd (never p (f .right-before p less) (h .wrong))
-      go (inr low) (inl less) = absurd (never k (h .right-before k less) (f .wrong))
-      go (inr low) (inr high) = omega arith
+  one-first p k h f =
+      first-once (λ j. eq (a0At l j) one ≡ false) p k (h .wrong) (λ j under. never (h .right-before j under)) (f .wrong) (λ j under. never (f .right-before j under))
 
   pub none-is : EachRight l → a0sJudged l ≡ Done 0
   none-is each = go (a0sJudged l) told
     where
       go : (a : Answer) → A0sTold a → a ≡ Done 0
       go a (none-wrong h) = refl
-      go a (first-wrong k h) = absurd (never k (each k (h .there)) (h .wrong))
+      go a (first-wrong k h) = absurd (never (each k (h .there)) (h .wrong))
 
   pub first-is : (k : ℕ) → FirstWrong l k → a0sJudged l ≡ Refused WrongA0 k
   first-is k f = go (a0sJudged l) told
     where
       go : (a : Answer) → A0sTold a → a ≡ Refused WrongA0 k
-      go a (none-wrong h) = absurd (never k (h k (f .there)) (f .wrong))
+      go a (none-wrong h) = absurd (never (h k (f .there)) (f .wrong))
       go a (first-wrong p h) = ap (Refused WrongA0) (one-first p k h f)
 
 -- ---- what equals 1 is 1.0, and a number over 1.0 is itself: so sections that are accepted run as they were designed

@@ -37,7 +37,7 @@ pub record Accepted (rows : ℕ) (i q l : List Float) : Type 0 where
   pub numbers : PastNumbers rows i q l
   pub each : EachRight l
 
--- section k as its designer means it, at rest: a filter is its numbers divided by a0
+-- section k as its designer means it, at rest: each of its numbers divided by its a0, rounded once
 abbrev pub designedAt : List Float → ℕ → Biquad
 designedAt l k =
     record {

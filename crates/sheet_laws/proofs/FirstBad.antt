@@ -11,7 +11,7 @@ use lib.Dec.{leb, ltb, eqb}
 use lib.Ieee.{binary64, ofBits}
 use lib.Ieee.Scale.{finite}
 use lib.ListN.{length}
-use Rattle.exact.proofs.Truth.{both}
+use Rattle.exact.proofs.Truth.{never, both}
 use Rattle.hex.specs.Hex.{allDigits, number}
 use Rattle.naming.specs.Name.{namingOf, isIn, bytesOf}
 use Rattle.naming.specs.declared.Name.{Name}
@@ -23,7 +23,7 @@ use Rattle.sheet.specs.Sheet.{channelsKey, columnKey, rowKey, factorKey, Behind
 use Rattle.sheet_laws.specs.FirstBad.{AllTaken, no-line, a-line, FirstLine, FirstBad, bad-line, bad-end, ColumnDue, RowDue, NameLine, DoubledLine, doubled-column, doubled-row, NoColumnLine}
 use Rattle.sheet_laws.proofs.Backwards.{behind-is, spelled}
 use Rattle.sheet_laws.proofs.Lines.{behind-key}
-use Rattle.sheet_laws.proofs.Names.{never, in-is, is-in, not-in}
+use Rattle.sheet_laws.proofs.Names.{in-is, is-in, not-in}
 use Rattle.sheet_laws.proofs.Only.{not-refuses}
 use Rattle.sheet_laws.proofs.Parts.{empty}
 use Rattle.sheet_laws.proofs.Steps.{naming-back}

@@ -13,11 +13,11 @@ use lib.ListN.{length, length-append}
 use Rattle.naming.specs.Name.{isName, isIn}
 use Rattle.naming.specs.declared.Name.{Name}
 use Rattle.quant.specs.declared.refusal.Refusal.the-variants.{Layout}
-use Rattle.exact.proofs.Truth.{both}
+use Rattle.exact.proofs.Truth.{never, both}
 use Rattle.sheet.specs.Sheet.{columnKey, rowKey, factorKey, behind, columnStep, rowStep, factorStep, SoFar, goes, stops, step, goodNames, single, among, finiteBits, countText, columnsText, blocksText}
 use Rattle.sheet_laws.specs.Words.{In, here, there, blocksFrom}
 use Rattle.sheet_laws.proofs.Backwards.{not-stops, ColumnLine, column-line, RowLine, row-line, FactorLine, factor-line}
-use Rattle.sheet_laws.proofs.Names.{never, in-is, not-in, single-first, single-rest}
+use Rattle.sheet_laws.proofs.Names.{in-is, not-in, single-first, single-rest}
 use Rattle.sheet_laws.proofs.Parts.{column-more, row-more, factor-more}
 
 -- ---- lists with one more at the end

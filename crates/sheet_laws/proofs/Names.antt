@@ -1,19 +1,16 @@
 -- Laws of names among names: a name is in a list exactly where the test says so, and a list without doubles has no name twice.
 -- Assumes nothing.
-use mathlib.Core.Path.{_≡_, refl, sym, subst, _∙_}
+use mathlib.Core.Path.{_≡_, refl, sym, subst}
 use mathlib.Core.Bool.{Bool, true, false, _||_, not, true≢false}
 use mathlib.Core.List.{List, [], _∷_, _++_}
 use borrow.Author.Tests.{not-true}
 use Rattle.naming.specs.Name.{sameName, isName, isIn}
 use Rattle.naming.specs.declared.Name.{Name}
 use Rattle.naming.proofs.Named.{same-exactly}
-use Rattle.exact.proofs.Truth.{both}
+use Rattle.exact.proofs.Truth.{never, both}
 use Rattle.sheet.specs.Sheet.{goodNames, single, among}
 use Rattle.sheet_laws.specs.Words.{In, here, there}
 use Rattle.sheet.proofs.Each.{same-self}
-
-pub never : {b : Bool} → b ≡ true → b ≡ false → ⊥
-never h k = true≢false (sym h ∙ k)
 
 -- ---- one of a list
 

@@ -7,12 +7,13 @@ use mathlib.Core.Logic.{_↔_}
 use mathlib.Core.List.{List, [], _∷_}
 use native.Mathlib.Omega.{arith}
 use lib.ListN.{length}
+use Rattle.exact.proofs.Truth.{never}
 use Rattle.naming.specs.declared.Name.{Name}
 use Rattle.naming.specs.Name.{isIn}
 use Rattle.sheet.specs.Sheet.{SoFar, accepts, outcome, Sheet, rowNames, single, WellFormed}
 use Rattle.sheet_laws.specs.Words.{In, here, there, contents, sheetRead, EachOnce}
 use Rattle.sheet_laws.proofs.Accepted.{row-names-long}
-use Rattle.sheet_laws.proofs.Names.{never, in-is, is-in, among-one, single-first, single-rest}
+use Rattle.sheet_laws.proofs.Names.{in-is, is-in, among-one, single-first, single-rest}
 use Rattle.sheet_laws.proofs.Only.{only}
 
 -- a list with one name less: all others are still there

@@ -18,10 +18,11 @@ use Rattle.iir.proofs.Calls as filter
 use Rattle.system.specs.System.{State, iir, Step, stepped, iirStep, outcome}
 use Rattle.system.specs.Said.{StepSaid, IirSaid, as-a-step, at-section}
 
-module _ (s : State) where
-  abbrev leaving : List Float → List Float → Answer → Step
-  leaving i q a = record { answer = a; i = i; q = q }
+-- a step with these rows, where it is done, and this answer
+abbrev leaving : List Float → List Float → Answer → Step
+leaving i q a = record { answer = a; i = i; q = q }
 
+module _ (s : State) where
   pub step-said : (i q : List Float) (fits fine : Bool) → let x = leaving i q (answerOf fits fine) in StepSaid s (stepped s x .answer) (stepped s x .after)
   unfolding among
   step-said i q false fine = record { number = refl; place = refl; left = refl }
