@@ -7,7 +7,7 @@ use theirs::rows;
 use theirs::tables::{Command, Item, Play, Tables};
 
 fn main() {
-    let examples: [(&str, fn()); 19] = [
+    let examples: [(&str, fn()); 20] = [
         ("B1 alignment", b1),
         ("B2 alignment upwards", b2),
         ("B3 before the row", b3),
@@ -26,6 +26,7 @@ fn main() {
         ("carrier, envelope and drag", mixing),
         ("crosstalk", crosstalk),
         ("pipeline and cascade", sections),
+        ("the mixer's steps, each alone", lone_steps),
         ("taps in ring order, not fused", taps),
     ];
     for (name, example) in examples {
@@ -157,7 +158,7 @@ fn b6() {
 fn b7() {
     let e = f64::EPSILON;
     let mut samples = [1.0 - e, -1.0];
-    rows::iq(&mut samples, &[1.0 + e, 1.0, 0.0, 1.0]);
+    rows::mixer(&mut samples, &[1.0 + e, 1.0, 0.0, 1.0], &[0.0, 0.0]);
     same(&samples, &[-e * e, -1.0]);
 }
 
@@ -503,6 +504,29 @@ fn sections() {
     same(&pipeline, &[first, second].concat());
 }
 
+/// The lone steps where both together give another sample (docs/DIFFERENCES.md).
+fn lone_steps() {
+    let unit = [1.0, 0.0, 0.0, 1.0];
+    let mut samples = [-0.0, -0.0];
+    rows::iq(&mut samples, &unit);
+    same(&samples, &[-0.0, -0.0]);
+    rows::mixer(&mut samples, &unit, &[0.0, 0.0]);
+    same(&samples, &[0.0, 0.0]);
+    let mut samples = [-0.0, 0.0];
+    rows::offset(&mut samples, &[-0.0, -0.0]);
+    same(&samples, &[-0.0, 0.0]);
+    rows::mixer(&mut samples, &unit, &[-0.0, -0.0]);
+    same(&samples, &[0.0, 0.0]);
+    let mut samples = [f64::INFINITY, 0.0];
+    rows::offset(&mut samples, &[0.0, 0.0]);
+    same(&samples, &[f64::INFINITY, 0.0]);
+    rows::mixer(&mut samples, &unit, &[0.0, 0.0]);
+    assert!(samples[0] == f64::INFINITY && samples[1].is_nan());
+    let mut row = [0.0];
+    rows::offset(&mut row, &[1.0]);
+    same(&row, &[1.0]);
+}
+
 /// Three taps of one: the third sum is slot 0, slot 1, slot 2, and the fourth begins with the newest sample, in slot 0.
 fn taps() {
     let tiny = f64::EPSILON / 2.0;
@@ -517,6 +541,6 @@ fn taps() {
     let mut rows_of_two = [1.0, 2.0, 3.0, 4.0];
     rows::fir(&mut rows_of_two, 2, &[1.0, 10.0, 100.0]);
     assert_eq!(rows_of_two, [1.0, 12.0, 3.0, 34.0]);
-    rows::offset(&mut rows_of_two, &[0.5, -4.0]);
+    rows::mixer(&mut rows_of_two, &[1.0, 0.0, 0.0, 1.0], &[0.5, -4.0]);
     assert_eq!(rows_of_two, [1.5, 12.5, -1.0, 30.0]);
 }

@@ -48,12 +48,11 @@ pub fn run() {
         "{:44} {:>8} {:>8} {:>8}",
         "nanoseconds a sample of each row", "ours", "Rust", "ratio"
     );
-    step("iq", &[0.9, 0.1, -0.1, 1.1], host::iq, mixer::their_iq);
     step(
-        "offset, two rows",
-        &[0.01, -0.02],
-        host::offset,
-        mixer::their_offset,
+        "mixer",
+        &[0.9, 0.1, -0.1, 1.1, 0.01, -0.02],
+        host::mixer,
+        mixer::their_mixer,
     );
     for count in [1, 2, 3, 4, 5, 8, 16] {
         let name = format!("iir, two rows, sections: {count}");

@@ -46,7 +46,7 @@ mod c {
         pub fn skierralu_shift_freq(osc: State, by: f64, time: f64) -> Moved;
         pub fn skierralu_set_freq(osc: State, to: f64, time: f64) -> Moved;
         pub fn skierralu_swap_phase(one: State, two: State, time: f64) -> Swapped;
-        pub fn skierralu_iq(
+        pub fn skierralu_mixer(
             rows: usize,
             i: *mut f64,
             i_len: usize,
@@ -54,15 +54,8 @@ mod c {
             q_len: usize,
             matrix: *const f64,
             matrix_len: usize,
-        ) -> usize;
-        pub fn skierralu_offset(
-            rows: usize,
-            i: *mut f64,
-            i_len: usize,
-            q: *mut f64,
-            q_len: usize,
-            numbers: *const f64,
-            numbers_len: usize,
+            offsets: *const f64,
+            offsets_len: usize,
         ) -> usize;
         pub fn skierralu_add_plateau(
             rows: usize,
@@ -189,13 +182,23 @@ fn step(call: Step, rows: usize, i: &mut [f64], q: &mut [f64], numbers: &[f64]) 
     }
 }
 
-/// 0, or the number of the refusal; likewise the steps below.
-pub fn iq(rows: usize, i: &mut [f64], q: &mut [f64], matrix: &[f64]) -> usize {
-    step(c::skierralu_iq, rows, i, q, matrix)
-}
-
-pub fn offset(rows: usize, i: &mut [f64], q: &mut [f64], numbers: &[f64]) -> usize {
-    step(c::skierralu_offset, rows, i, q, numbers)
+/// 0, or the number of the refusal; likewise the steps below. The matrix has the first four numbers, the offsets the others.
+pub fn mixer(rows: usize, i: &mut [f64], q: &mut [f64], numbers: &[f64]) -> usize {
+    let (matrix, offsets) = numbers.split_at(4);
+    let (i_len, q_len) = (i.len(), q.len());
+    unsafe {
+        c::skierralu_mixer(
+            rows,
+            i.as_mut_ptr(),
+            i_len,
+            q.as_mut_ptr(),
+            q_len,
+            matrix.as_ptr(),
+            matrix.len(),
+            offsets.as_ptr(),
+            offsets.len(),
+        )
+    }
 }
 
 pub fn fir(rows: usize, i: &mut [f64], q: &mut [f64], taps: &[f64]) -> usize {

@@ -2,7 +2,7 @@
 //! kind, crosstalk, rows, samplings, steps, lines that cannot be read. Refusals before any pulse, of sizes and of syntax are document 01's and
 //! docs/JOBS.md's words; all else is the Rust's.
 use crate::commands::{numbers_of, output, word, CHANNELS};
-use crate::mixer::{their_iq, their_offset};
+use crate::mixer::their_mixer;
 use crate::rng::Rng;
 use crate::sampling::{job, refused_before, same_times, sample, Job};
 use std::collections::BTreeMap;
@@ -265,7 +265,9 @@ impl Text {
             "rows 1",
             "sample  q0",
             " run",
-            "iq 1 2 3",
+            "mixer 1 2 3 4 5",
+            "iq 1 0 0 1",
+            "offset 0.5",
             "fir 2 0",
             "nothing",
             "channel q0 base=1 delta=0",
@@ -366,10 +368,9 @@ impl Text {
         let kind = rng.below(4);
         let mut some = |n: u64| (0..n).map(|_| rng.sample() / 4.0).collect::<Vec<f64>>();
         let (name, mut numbers) = match kind {
-            0 if rows == 2 => ("iq", some(4)),
             1 => ("iir", some(24)),
             2 => ("fir", some(9)),
-            _ => ("offset", some(rows as u64)),
+            _ => ("mixer", some(6)),
         };
         let size = if name == "iir" || name == "fir" {
             format!(" {}", numbers.len())
@@ -383,6 +384,11 @@ impl Text {
         };
         let told: String = numbers.iter().map(|x| word(*x)).collect();
         let line = format!("{name}{size}{told}");
+        if name == "mixer" && rows == 1 {
+            self.ask(&line, "refused 13 0");
+            self.count("steps: mixer, refused by 13", 1);
+            return;
+        }
         if let Some(section) = wrong {
             self.ask(&line, &format!("refused 22 {section}"));
             self.count("steps: iir, refused by 22", 1);
@@ -391,10 +397,9 @@ impl Text {
         self.ask(&line, "ok 0");
         self.count(&format!("steps: {name}"), 1);
         match name {
-            "iq" => their_iq(samples, rows, &numbers),
             "iir" => theirs::rows::iir(samples, rows, &numbers),
             "fir" => theirs::rows::fir(samples, rows, &numbers),
-            _ => their_offset(samples, rows, &numbers),
+            _ => their_mixer(samples, rows, &numbers),
         }
     }
 

@@ -7,8 +7,14 @@ pub(crate) fn rows_of(samples: &mut [f64], rows: usize) -> ArrayViewMut2<'_, f64
     ArrayViewMut2::from_shape((rows, length), samples).expect("rows of equal length")
 }
 
+/// The two steps, one after the other.
+pub fn mixer(samples: &mut [f64], matrix: &[f64], offsets: &[f64]) {
+    iq(samples, matrix);
+    offset(samples, offsets);
+}
+
 /// Two rows times a matrix: m00, m01, m10, m11.
-pub fn iq(samples: &mut [f64], matrix: &[f64; 4]) {
+pub fn iq(samples: &mut [f64], matrix: &[f64]) {
     let matrix = ArrayView2::from_shape((2, 2), matrix).expect("four numbers");
     apply_iq_inplace(&mut rows_of(samples, 2), matrix);
 }

@@ -40,7 +40,19 @@ pub(crate) fn fault(line: &[u8]) {
     }
     say(b"no line begins with ");
     quote_value(line, 0, b"");
+    if is_of_mixer(line) {
+        say(b": the mixer's matrix and its offsets are one line, mixer N N N N N N (docs/JOBS.md)");
+        return;
+    }
     say(b" (docs/JOBS.md has the lines)");
+}
+
+// What older jobs had in two lines.
+fn is_of_mixer(line: &[u8]) -> bool {
+    if is_word(line, 0, b"iq") {
+        return true;
+    }
+    is_word(line, 0, b"offset")
 }
 
 // Whether a line cannot be read for its carriage return.
@@ -94,8 +106,7 @@ crosstalk COUNT NAME.. FACTOR..
 sheet COUNT
 rows R LENGTH
 sample NAME rate=N delay=N level=INTEGER
-iq N N N N
-offset N..
+mixer N N N N N N
 iir COUNT N..
 fir COUNT N..
 print

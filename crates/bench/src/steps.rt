@@ -21,8 +21,7 @@ use job::line::Line;
 use job_sheet::Taken;
 use job_sheet::fewer;
 use job_sheet::take_sheet;
-use mixer::iq;
-use mixer::offset;
+use mixer::mixer;
 use numbers::numbers;
 use quant::refusal::Answer;
 
@@ -36,8 +35,7 @@ pub struct Told {
 
 // The steps on rows that have numbers.
 pub enum RowStep {
-    Iq,
-    Offset,
+    Mixer,
     Iir,
     Fir,
 }
@@ -123,8 +121,7 @@ fn on_parts(said: Line, rows: usize, line: &[u8], i: &mut [f64], q: &mut [f64]) 
             Reply::Nothing
         }
         Line::Print => show_rows(rows, i, q),
-        Line::Iq => step(RowStep::Iq, rows, line, 1, i, q),
-        Line::Offset(_) => step(RowStep::Offset, rows, line, 1, i, q),
+        Line::Mixer => step(RowStep::Mixer, rows, line, 1, i, q),
         Line::Iir(_) => step(RowStep::Iir, rows, line, 2, i, q),
         Line::Fir(_) => step(RowStep::Fir, rows, line, 2, i, q),
         _ => Reply::Nothing,
@@ -140,11 +137,16 @@ fn step(which: RowStep, rows: usize, line: &[u8], k: usize, i: &mut [f64], q: &m
 
 fn stepped(which: RowStep, rows: usize, i: &mut [f64], q: &mut [f64], given: &[f64]) -> Answer {
     match which {
-        RowStep::Iq => iq(rows, i, q, given),
-        RowStep::Offset => offset(rows, i, q, given),
+        RowStep::Mixer => by_mixer(rows, i, q, given),
         RowStep::Iir => iir(rows, i, q, given),
         RowStep::Fir => fir(rows, i, q, given),
     }
+}
+
+// The matrix has the first four numbers, the offsets the others.
+fn by_mixer(rows: usize, i: &mut [f64], q: &mut [f64], given: &[f64]) -> Answer {
+    let n = least(4, given.len());
+    mixer(rows, i, q, &given[..n], &given[n..])
 }
 
 fn clear(row: &mut [f64]) {

@@ -120,8 +120,7 @@ fn pulse(n: usize, place: usize) {
 fn size(line: &[u8]) {
     let sizes: &[u8] = b"rows 1 or 2 rows of at most 65,536 samples
 run at most 1,024 commands to a run
-iq it is for two rows
-offset a number for each row
+mixer it is for two rows
 iir six numbers for each section, and at most 16 sections
 fir 1 to 256 taps
 sheet a sheet has at most 4,096 bytes

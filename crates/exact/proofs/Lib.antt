@@ -18,3 +18,4 @@ pub mod Bounded
 pub mod Truth
 pub mod AtMost
 pub mod Unit
+pub mod Zeros

@@ -37,7 +37,11 @@ number-if-finite nan e = absurd (true≢false (sym e))
 number-if-finite (inf s) e = tt
 number-if-finite (fin s m k) e = tt
 
--- times a plus sign
+-- times a plus sign, and a plus sign times another
 pub like-false : (s : Bool) → unlike s false ≡ s
 like-false true = refl
 like-false false = refl
+
+pub like-plus : (s : Bool) → unlike false s ≡ s
+like-plus true = refl
+like-plus false = refl

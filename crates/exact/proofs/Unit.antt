@@ -7,7 +7,7 @@ use native.Mathlib.Omega.{arith}
 use borrow.Author.Tests.{eqb-true}
 use lib.Dec.{T, eqb, lit<}
 use lib.Pow.{pow-pos}
-use lib.Ieee.{Float, nan, inf, fin, binary64, up, down, round, mul, div, eq, unlike, fits, ofBits}
+use lib.Ieee.{Float, nan, inf, fin, binary64, up, down, round, mul, div, eq, fits, ofBits}
 use lib.Ieee.Exact.{HasValue}
 use lib.Ieee.Fits.{down-pos, mul-fits, div-fits}
 use lib.Ieee.Scale.{finite}
@@ -16,7 +16,7 @@ use Rattle.exact.specs.Value.{Units, signOf, unitsOf}
 use Rattle.exact.proofs.Few.{few-of, few-value, units-below}
 use Rattle.exact.proofs.Operation.{mul-rounds, div-rounds}
 use Rattle.exact.proofs.Value.{own, unique}
-use Rattle.exact.proofs.Truth.{both, like-false}
+use Rattle.exact.proofs.Truth.{both, like-false, like-plus}
 
 -- a double that rounds the sign and the units of x is x
 pub rounds-back : (x y : Float) → T (fits binary64 x) → T (finite x) → T (fits binary64 y) → y ≡ round binary64 (signOf x) (unitsOf x) (2 ^ 1074) → y ≡ x
@@ -28,10 +28,6 @@ rounds-back x y f t g e =
 one-value : HasValue one false 1 1
 unfolding ofBits
 one-value = (refl, refl)
-
-like-plus : (s : Bool) → unlike false s ≡ s
-like-plus true = refl
-like-plus false = refl
 
 pub one-times : (x : Float) → T (fits binary64 x) → mul binary64 one x ≡ x
 unfolding mul ofBits

@@ -2,16 +2,16 @@
 use mathlib.Core.Path.{_≡_, refl, sym, ap, _∙_, subst}
 use mathlib.Core.Logic.{inl, inr}
 use mathlib.Core.Bool.{Bool, true, false, not, cond, Bool·beq, _&&_, _||_, true≢false}
-use Prim.Native.Nat.{ℕ, _-_, _*_, _/_, _%_, _^_, _≤_, _<_}
+use Prim.Native.Nat.{ℕ, _+_, _-_, _*_, _/_, _%_, _^_, _≤_, _<_}
 use native.Mathlib.Nat.{lt-irrefl, lt-of-not-le, eq-zero-or-pos, mul-pos, mul-assoc, mul-comm, mul-one, mul-left-comm, zero-mul, add-zero, sub-zero, mod-lt}
 use native.Mathlib.Omega.{arith}
-use lib.Dec.{T, leb, eqb, ltb→lt, lt→ltb, eqb→eq, lit<}
+use lib.Dec.{T, leb, ltb, eqb, ltb→lt, lt→ltb, eqb→eq, lit<}
 use lib.IntN.{ℤ, pos}
 use lib.Pow.{pow-pos}
 use lib.Ieee.{Float, nan, inf, fin, binary64, up, down, unlike, round, sum, add, mul, eq, fits, isNan, ofFields, ofBits, toBits}
 use lib.Ieee.Bits.{ofBits-toBits}
 use lib.Ieee.Exact.{HasValue}
-use lib.Ieee.Fits.{up-pos, down-pos}
+use lib.Ieee.Fits.{up-pos, down-pos, round-fits, cond-fits, nan-fits, inf-fits, add-fits}
 use lib.Ieee.Scale.{round-same, finite}
 use Rattle.exact.proofs.Sum.{sum-same, sum-like, sum-first}
 use Rattle.exact.proofs.Operation.{mul-rounds, add-rounds}
@@ -116,7 +116,7 @@ none : (s : Bool) (m : ℕ) (e : ℤ) → eq (fin s m e) (fin false 0 (pos 0)) �
 unfolding eq
 none s m e h = sym (mul-one (m * up e)) ∙ level-zero (m * up e * 1) (0 * 1 * down e) (Bool·beq s false) h ∙ zero-mul (down e)
 
-at-zero : (s : Bool) (e : ℤ) → eq (fin s 0 e) (fin false 0 (pos 0)) ≡ true
+pub at-zero : (s : Bool) (e : ℤ) → eq (fin s 0 e) (fin false 0 (pos 0)) ≡ true
 unfolding eq
 at-zero s e = both (0 * up e * 1) (0 * 1 * down e) (Bool·beq s false) (mul-one (0 * up e) ∙ zero-mul (up e)) (zero-mul (down e))
   where
@@ -194,6 +194,22 @@ unfolding fma
 first-wild nan y z h = refl
 first-wild (inf s) y z h = refl
 first-wild (fin s m e) y z h = absurd (true≢false (sym h))
+
+-- ---- the result is a double
+pub fma-fits : (x y z : Float) → T (fits binary64 (fma binary64 x y z))
+unfolding fma sum
+fma-fits nan y z = nan-fits binary64
+fma-fits (inf s) y z = add-fits binary64 (mul binary64 (inf s) y) z
+fma-fits (fin s m e) nan z = nan-fits binary64
+fma-fits (fin s m e) (inf t) z = add-fits binary64 (mul binary64 (fin s m e) (inf t)) z
+fma-fits (fin s m e) (fin t n d) nan = nan-fits binary64
+fma-fits (fin s m e) (fin t n d) (inf u) = inf-fits binary64 u
+fma-fits (fin s m e) (fin t n d) (fin u w g) = sum-fits (unlike s t) (m * up e * (n * up d) * down g) u (w * up g * (down e * down d)) (down e * down d * down g)
+  where
+    sum-fits : (i : Bool) (a : ℕ) (j : Bool) (b c : ℕ) → T (fits binary64 (sum binary64 i a j b c))
+    sum-fits i a j b c =
+        cond-fits binary64 (Bool·beq i j) (round binary64 i (a + b) c) (cond (ltb a b) (round binary64 j (b - a) c) (round binary64 (i && ltb b a) (a - b) c)) (round-fits binary64 i (a + b) c)
+        (cond-fits binary64 (ltb a b) (round binary64 j (b - a) c) (round binary64 (i && ltb b a) (a - b) c) (round-fits binary64 j (b - a) c) (round-fits binary64 (i && ltb b a) (a - b) c))
 
 -- ---- the bits of a double that is finite and not zero
 pub not-nan : (x : Float) → T (nonzero x) → T (not (isNan x))

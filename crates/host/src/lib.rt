@@ -11,7 +11,7 @@ ghost use Rattle.host.specs.Places.{indexOf, placeOf, refusedPlace};
 ghost use Rattle.iir.specs.Iir.{Iir};
 ghost use Rattle.mix.specs.Part.{firstRow, secondRow};
 ghost use Rattle.mix.specs.Plateau.{carried, real, imaginary};
-ghost use Rattle.mixer.specs.Mixer.{Iq, Offset};
+ghost use Rattle.mixer.specs.Mixer.{Mixer};
 ghost use Rattle.quant.specs.Aligned.{alignedOf, placedOf};
 ghost use Rattle.quant.specs.declared.refusal.Answer.{Answer};
 ghost use Rattle.spline.specs.Value.{valueIn};
@@ -149,23 +149,16 @@ pub extern "C" fn skierralu_swap_phase(one: OscState, two: OscState, time: Time)
 
 // The steps on rows answer 0, or the number of their refusal.
 #[no_mangle]
-pub extern "C" fn skierralu_iq(rows: usize, i: &mut [f64], q: &mut [f64], matrix: &[f64]) -> usize
-    ensures { λ n. ⌜ Coded (λ (r : Answer). Iq rows (now (i .entry)) (now (q .entry)) (now (matrix .entry)) r (now (i .exit)) (now (q .exit))) n ⌝ }
-{
-    let r = mixer::iq(rows, i, q, matrix);
-    quant::refusal::code(r)
-}
-
-#[no_mangle]
-pub extern "C" fn skierralu_offset(
+pub extern "C" fn skierralu_mixer(
     rows: usize,
     i: &mut [f64],
     q: &mut [f64],
-    numbers: &[f64],
+    matrix: &[f64],
+    offsets: &[f64],
 ) -> usize
-    ensures { λ n. ⌜ Coded (λ (r : Answer). Offset rows (now (i .entry)) (now (q .entry)) (now (numbers .entry)) r (now (i .exit)) (now (q .exit))) n ⌝ }
+    ensures { λ n. ⌜ Coded (λ (r : Answer). Mixer rows (now (i .entry)) (now (q .entry)) (now (matrix .entry)) (now (offsets .entry)) r (now (i .exit)) (now (q .exit))) n ⌝ }
 {
-    let r = mixer::offset(rows, i, q, numbers);
+    let r = mixer::mixer(rows, i, q, matrix, offsets);
     quant::refusal::code(r)
 }
 

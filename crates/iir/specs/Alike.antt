@@ -1,12 +1,8 @@
 -- Doubles and rows that are equal but for the signs of zeros. There is one NaN here, so that no payload is compared. Definitions only.
 use mathlib.Core.Bool.{Bool}
 use mathlib.Core.List.{List, [], _∷_}
-use lib.IntN.{pos}
-use lib.Ieee.{Float, fin}
-
--- the zero with a sign (true: -0)
-abbrev pub zeroOf : Bool → Float
-zeroOf s = fin s 0 (pos 0)
+use lib.Ieee.{Float}
+use Rattle.exact.specs.Doubles.{zeroOf}
 
 -- equal, or both a zero
 pub data Alike : Float → Float → Type 0 where

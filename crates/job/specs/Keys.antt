@@ -76,13 +76,9 @@ rowsWord = 114 ∷ 111 ∷ 119 ∷ 115 ∷ []
 abbrev pub sampleWord : List ℕ
 sampleWord = 115 ∷ 97 ∷ 109 ∷ 112 ∷ 108 ∷ 101 ∷ []
 
--- `iq`
-abbrev pub iqWord : List ℕ
-iqWord = 105 ∷ 113 ∷ []
-
--- `offset`
-abbrev pub offsetWord : List ℕ
-offsetWord = 111 ∷ 102 ∷ 102 ∷ 115 ∷ 101 ∷ 116 ∷ []
+-- `mixer`
+abbrev pub mixerWord : List ℕ
+mixerWord = 109 ∷ 105 ∷ 120 ∷ 101 ∷ 114 ∷ []
 
 -- `iir`
 abbrev pub iirWord : List ℕ

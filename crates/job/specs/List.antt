@@ -12,10 +12,10 @@ use Rattle.decimal.specs.declared.number.Number.the-variants as number
 use Rattle.fields.specs.Value.{wholeField, nameField}
 use Rattle.fields.specs.Words.{isWord}
 use Rattle.job.specs.declared.line.Line.{Line}
-use Rattle.job.specs.declared.line.Line.the-variants.{Syntax, Spline, Crosstalk, Sheet, Iq, Offset, Iir, Fir}
+use Rattle.job.specs.declared.line.Line.the-variants.{Syntax, Spline, Crosstalk, Sheet, Mixer, Iir, Fir}
 use Rattle.job.specs.Given as given
 use Rattle.job.specs.Given.{word}
-use Rattle.job.specs.Keys.{crosstalkWord, sheetWord, splineWord, iqWord, offsetWord, iirWord, firWord}
+use Rattle.job.specs.Keys.{crosstalkWord, sheetWord, splineWord, mixerWord, iirWord, firWord}
 use Rattle.job.specs.Keys.{degreeKey, controlsKey, knotsKey}
 
 -- ---- words that are numbers
@@ -41,13 +41,9 @@ lessOf n = n - 1
 
 -- ---- the lines
 
--- `iq N N N N`
-unfoldable pub iqOf : List (List ℕ) → Line
-iqOf words = cond (eqb (length words) 5) (cond (numbersFrom 1 words) Iq Syntax) Syntax
-
--- `offset N..`
-unfoldable pub offsetOf : List (List ℕ) → Line
-offsetOf words = cond (numbersFrom 1 words) (Offset (length words - 1)) Syntax
+-- `mixer N N N N N N`
+unfoldable pub mixerOf : List (List ℕ) → Line
+mixerOf words = cond (eqb (length words) 7) (cond (numbersFrom 1 words) Mixer Syntax) Syntax
 
 -- `WORD COUNT N..`: the count, if so many numbers stand behind it
 unfoldable pub countedOf : List (List ℕ) → Digits
@@ -87,11 +83,10 @@ splineOf words =
 
 unfoldable pub listOf : List (List ℕ) → Line
 listOf words =
-    cond (isWord iqWord (word words 0)) (iqOf words)
-    (cond (isWord offsetWord (word words 0)) (offsetOf words)
+    cond (isWord mixerWord (word words 0)) (mixerOf words)
     (cond (isWord iirWord (word words 0)) (iirBy (countedOf words))
     (cond (isWord firWord (word words 0)) (firBy (countedOf words))
     (cond (isWord crosstalkWord (word words 0)) (crosstalkOf words)
     (cond (isWord sheetWord (word words 0)) (sheetOf words)
     (cond (isWord splineWord (word words 0)) (splineOf words)
-    Syntax))))))
+    Syntax)))))

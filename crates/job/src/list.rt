@@ -2,7 +2,7 @@
 // lines behind the line by `job_sheet`.
 ghost use mathlib.Core.Path.{_≡_};
 ghost use Rattle.fields.specs.Words.{wordsOf};
-ghost use Rattle.job.specs.List.{listOf, iqOf, offsetOf, countedOf, iirBy, firBy, crosstalkOf, sheetOf, splineOf, numbersFrom, stopsAt, lessOf};
+ghost use Rattle.job.specs.List.{listOf, mixerOf, countedOf, iirBy, firBy, crosstalkOf, sheetOf, splineOf, numbersFrom, stopsAt, lessOf};
 use super::line::Line;
 use decimal::digits::Digits;
 use decimal::digits::place;
@@ -16,11 +16,8 @@ use fields::words::is_word;
 pub(crate) fn list_line(line: &[u8]) -> Line
     ensures { λ r. ⌜ r ≡ listOf (wordsOf (now (line .entry))) ⌝ }
 {
-    if is_word(line, 0, b"iq") {
-        return iq(line);
-    }
-    if is_word(line, 0, b"offset") {
-        return offset(line);
+    if is_word(line, 0, b"mixer") {
+        return mixer(line);
     }
     if is_word(line, 0, b"iir") {
         return iir(counted(line));
@@ -40,27 +37,17 @@ pub(crate) fn list_line(line: &[u8]) -> Line
     Line::Syntax
 }
 
-// `iq N N N N`.
-fn iq(line: &[u8]) -> Line
-    ensures { λ r. ⌜ r ≡ iqOf (wordsOf (now (line .entry))) ⌝ }
+// `mixer N N N N N N`.
+fn mixer(line: &[u8]) -> Line
+    ensures { λ r. ⌜ r ≡ mixerOf (wordsOf (now (line .entry))) ⌝ }
 {
-    if count(line) != 5 {
+    if count(line) != 7 {
         return Line::Syntax;
     }
     if !all_numbers(line, 1) {
         return Line::Syntax;
     }
-    Line::Iq
-}
-
-// `offset N..`.
-fn offset(line: &[u8]) -> Line
-    ensures { λ r. ⌜ r ≡ offsetOf (wordsOf (now (line .entry))) ⌝ }
-{
-    if !all_numbers(line, 1) {
-        return Line::Syntax;
-    }
-    Line::Offset(count(line) - 1)
+    Line::Mixer
 }
 
 fn iir(count: Digits) -> Line

@@ -15,7 +15,7 @@ use Rattle.hex.specs.Hex as Hex
 use Rattle.fma.specs.Words.{words}
 use Rattle.fma.specs.Sticky.{Whole}
 use Rattle.trig.specs.Trig.{Both}
-use Rattle.mixer.specs.Mixer.{Iq, Offset}
+use Rattle.mixer.specs.Mixer.{Mixer}
 use Rattle.iir.specs.Iir.{Iir}
 use Rattle.fir.specs.Fir.{Fir}
 use Rattle.host.specs.Coded.{Coded}
@@ -46,12 +46,9 @@ one-double negative h l x r s a b =
 
 -- ---- the steps: the answer and both rows
 
-pub one-iq : (rows : ℕ) (i q m : List Float) (r s : Answer) (i' q' i'' q'' : List Float) → Iq rows i q m r i' q' → Iq rows i q m s i'' q'' → (r ≡ s) × (i' ≡ i'') × (q' ≡ q'')
-one-iq rows i q m r s i' q' i'' q'' a b = (one (a .answer) (b .answer), one (a .first) (b .first), one (a .second) (b .second))
-
-pub one-offset : (rows : ℕ) (i q o : List Float) (r s : Answer) (i' q' i'' q'' : List Float) → Offset rows i q o r i' q' → Offset rows i q o s i'' q''
+pub one-mixer : (rows : ℕ) (i q m o : List Float) (r s : Answer) (i' q' i'' q'' : List Float) → Mixer rows i q m o r i' q' → Mixer rows i q m o s i'' q''
     → (r ≡ s) × (i' ≡ i'') × (q' ≡ q'')
-one-offset rows i q o r s i' q' i'' q'' a b = (one (a .answer) (b .answer), one (a .first) (b .first), one (a .second) (b .second))
+one-mixer rows i q m o r s i' q' i'' q'' a b = (one (a .answer) (b .answer), one (a .first) (b .first), one (a .second) (b .second))
 
 pub one-iir : (rows : ℕ) (i q sections : List Float) (r s : Answer) (i' q' i'' q'' : List Float) → Iir rows i q sections r i' q' → Iir rows i q sections s i'' q''
     → (r ≡ s) × (i' ≡ i'') × (q' ≡ q'')
@@ -69,12 +66,9 @@ module _ (P : Answer → List Float → List Float → Type 0) (only : (r s : An
       (a .coded ∙ ap codeOf (same .0) ∙ sym (b .coded), same .1, same .2)
 
 module _ (rows : ℕ) (i q numbers : List Float) (m n : ℕ) (i' q' i'' q'' : List Float) where
-  pub one-iq-code : Coded (λ (r : Answer). Iq rows i q numbers r i' q') m → Coded (λ (r : Answer). Iq rows i q numbers r i'' q'') n → (m ≡ n) × (i' ≡ i'') × (q' ≡ q'')
-  one-iq-code = one-code (Iq rows i q numbers) (one-iq rows i q numbers) m n i' q' i'' q''
-
-  pub one-offset-code : Coded (λ (r : Answer). Offset rows i q numbers r i' q') m → Coded (λ (r : Answer). Offset rows i q numbers r i'' q'') n
+  pub one-mixer-code : (offsets : List Float) → Coded (λ (r : Answer). Mixer rows i q numbers offsets r i' q') m → Coded (λ (r : Answer). Mixer rows i q numbers offsets r i'' q'') n
       → (m ≡ n) × (i' ≡ i'') × (q' ≡ q'')
-  one-offset-code = one-code (Offset rows i q numbers) (one-offset rows i q numbers) m n i' q' i'' q''
+  one-mixer-code offsets = one-code (Mixer rows i q numbers offsets) (one-mixer rows i q numbers offsets) m n i' q' i'' q''
 
   pub one-iir-code : Coded (λ (r : Answer). Iir rows i q numbers r i' q') m → Coded (λ (r : Answer). Iir rows i q numbers r i'' q'') n → (m ≡ n) × (i' ≡ i'') × (q' ≡ q'')
   one-iir-code = one-code (Iir rows i q numbers) (one-iir rows i q numbers) m n i' q' i'' q''

@@ -16,7 +16,7 @@ use Rattle.trig.specs.Trig.{horner, cosineAt, sineAt, cosineOf, sineOf}
 use Rattle.rows.specs.Rows.{allFinite}
 use Rattle.rows.specs.Rows as rows
 use Rattle.naming.specs.Name.{nameByte, every, lowBytes, bytesOfWord, sixteen, bytesOf, pastEnd, isName, sameName}
-use Rattle.mixer.specs.Mixer.{mixedRow, raisedRow}
+use Rattle.mixer.specs.Mixer.{correctedRow, mixerFits}
 use Rattle.iir.specs.Section.{ran, sectionsFrom, a0sFrom}
 use Rattle.iir.specs.Filter.{given, pipelined, turns}
 use Rattle.ring.specs.Ring.{tapAt, sumTo, filteredFrom}
@@ -54,7 +54,7 @@ use Rattle.sampler.specs.Sampler.{sampled}
 use Rattle.sampler_laws.specs.Added.{countIn}
 use Rattle.bench_table.specs.Numbers as numbers
 use Rattle.system.specs.System as system
-use Rattle.stand_ins.specs.Whole.{anything, iq-numbers, offset-numbers, iir-numbers, fir-numbers, bin-alone, bin-pair, pulse-alone, pulse-pair, pulse-of-each}
+use Rattle.stand_ins.specs.Whole.{anything, mixer-numbers, iir-numbers, fir-numbers, bin-alone, bin-pair, pulse-alone, pulse-pair, pulse-of-each}
 use Rattle.stand_ins.specs.ByValue.{always}
 use Rattle.stand_ins.specs.Buffers as lent
 use Rattle.stand_ins.specs.Inputs as given
@@ -72,17 +72,11 @@ codedOf s x =
       q = rows.after (s .answer) (s .q) (x .q);
     }
 
-abbrev iqLeft : lent.Step → lent.Coded-rows
-iqLeft x = codedOf (system.iqStep (rowed (x .i) (x .q) []) (x .rows) (x .numbers)) x
+abbrev mixerLeft : lent.Step → lent.Coded-rows
+mixerLeft x = codedOf (system.mixerStep (rowed (x .i) (x .q) []) (x .rows) (x .numbers) (x .offsets)) x
 
-only-iq : (x : lent.Step) → Only lent.iq-c x (iqLeft x)
-only-iq x z p = λ j. record { code = (p .coded ∙ ap codeOf (p .does .answer)) j; i = p .does .first j; q = p .does .second j }
-
-abbrev offsetLeft : lent.Step → lent.Coded-rows
-offsetLeft x = codedOf (system.offsetStep (rowed (x .i) (x .q) []) (x .rows) (x .numbers)) x
-
-only-offset : (x : lent.Step) → Only lent.offset-c x (offsetLeft x)
-only-offset x z p = λ j. record { code = (p .coded ∙ ap codeOf (p .does .answer)) j; i = p .does .first j; q = p .does .second j }
+only-mixer : (x : lent.Step) → Only lent.mixer-c x (mixerLeft x)
+only-mixer x z p = λ j. record { code = (p .coded ∙ ap codeOf (p .does .answer)) j; i = p .does .first j; q = p .does .second j }
 
 abbrev iirLeft : lent.Step → lent.Coded-rows
 iirLeft x = codedOf (system.iirStep (rowed (x .i) (x .q) []) (x .rows) (x .numbers)) x
@@ -146,18 +140,16 @@ twoEnd : Gathered → Bool
 twoEnd g = eqb (getD (g .ends .ends) 0 0) 2
 
 pub buffers : Buffers
-unfolding isOne isOneRow twoEnd isTwo mixedDown endsFit runsForFrom pulsesIn pickedFrom passed over inOne endsFrom add sub mul div rem neg lt eq le sum round ofBits ofInt ceiling cutOf exp2Of fma wrapped reduced horner cosineAt sineAt cosineOf sineOf allFinite nameByte every lowBytes bytesOfWord sixteen bytesOf pastEnd isName sameName mixedRow raisedRow ran sectionsFrom a0sFrom given pipelined turns tapAt sumTo filteredFrom points inDomain spanTo blendOf dAt spline-row.rowOf wholeOf splineAt valueIn valueOf pointFine values allFine indexAt partedOf shapeOf finitePoints finePoints hannOf sameNumbers sameRow placeOf envelopeOf phase0 dphase startPair rotationPair phaseNumbers judged foundFrom shapeFrom settled settledShape keptFrom summedBy joined joinedTwo packed zipped allNames namesJudged rowFrom partOf partsAt planned onPart carried shaped ofMark allRows firstsAfter good required run.acted run.ran ranPulses ranBins sampled
+unfolding isOne isOneRow twoEnd isTwo mixedDown endsFit runsForFrom pulsesIn pickedFrom passed over inOne endsFrom add sub mul div rem neg lt eq le sum round ofBits ofInt ceiling cutOf exp2Of fma wrapped reduced horner cosineAt sineAt cosineOf sineOf allFinite nameByte every lowBytes bytesOfWord sixteen bytesOf pastEnd isName sameName correctedRow mixerFits ran sectionsFrom a0sFrom given pipelined turns tapAt sumTo filteredFrom points inDomain spanTo blendOf dAt spline-row.rowOf wholeOf splineAt valueIn valueOf pointFine values allFine indexAt partedOf shapeOf finitePoints finePoints hannOf sameNumbers sameRow placeOf envelopeOf phase0 dphase startPair rotationPair phaseNumbers judged foundFrom shapeFrom settled settledShape keptFrom summedBy joined joinedTwo packed zipped allNames namesJudged rowFrom partOf partsAt planned onPart carried shaped ofMark allRows firstsAfter good required run.acted run.ran ranPulses ranBins sampled
 buffers =
     record {
-      iq-c = not-all-refused lent.iq-c _ _ (only-iq (given.stepping iq-numbers 1)) refl;
-      offset-c = not-all-refused lent.offset-c _ _ (only-offset (given.stepping offset-numbers 1)) refl;
+      mixer-c = not-all-refused lent.mixer-c _ _ (only-mixer (given.stepping mixer-numbers 1)) refl;
       iir-c = not-all-refused lent.iir-c _ _ (only-iir (given.stepping iir-numbers 1)) refl;
       fir-c = not-all-refused lent.fir-c _ _ (only-fir (given.stepping fir-numbers 1)) refl;
       envelope = not-all-refused lent.envelope _ _ (only-points given.laying) refl;
       mix-lists = not-all-refused lent.mix-lists _ _ (only-mixed (given.mixing 1 bin-alone pulse-alone)) refl;
       execute-owned = accepts _ lent.isRun (given.owning 1) refl;
-      iq-moves = both-rows-move lent.iq-c stepLeft stepCame _ _ _ _ (only-iq (given.stepping iq-numbers 1)) (only-iq (given.stepping iq-numbers 0)) refl refl refl refl refl refl refl refl refl refl;
-      offset-moves = both-rows-move lent.offset-c stepLeft stepCame _ _ _ _ (only-offset (given.stepping offset-numbers 1)) (only-offset (given.stepping offset-numbers 0)) refl refl refl refl refl refl refl refl refl refl;
+      mixer-moves = both-rows-move lent.mixer-c stepLeft stepCame _ _ _ _ (only-mixer (given.stepping mixer-numbers 1)) (only-mixer (given.stepping mixer-numbers 0)) refl refl refl refl refl refl refl refl refl refl;
       iir-moves = both-rows-move lent.iir-c stepLeft stepCame _ _ _ _ (only-iir (given.stepping iir-numbers 1)) (only-iir (given.stepping iir-numbers 0)) refl refl refl refl refl refl refl refl refl refl;
       fir-moves = both-rows-move lent.fir-c stepLeft stepCame _ _ _ _ (only-fir (given.stepping fir-numbers 1)) (only-fir (given.stepping fir-numbers 0)) refl refl refl refl refl refl refl refl refl refl;
       row-filtered = not-always lent.filter itself (λ (x : lent.Tapped). x .row) isTwo (given.tapped 1) _ (λ z p. p) refl refl refl;

@@ -20,8 +20,7 @@ use Rattle.owned.proofs.execute_owned as execute-owned
 use Rattle.mixdown.specs.Sampled.{rowed}
 use Rattle.sampler.proofs.sample as sample
 use Rattle.owned_sampler.proofs.sample_owned as sample-owned
-use Rattle.mixer.proofs.iq as iq
-use Rattle.mixer.proofs.offset as offset
+use Rattle.mixer.proofs.mixer as mixer
 use Rattle.iir.proofs.iir as iir
 use Rattle.fir.proofs.fir as fir
 use Rattle.system.specs.System.{State, withTables, withShapes, withStored, withLent, withRows, Contract}
@@ -30,15 +29,10 @@ use Rattle.stand_ins.specs.Buffers as lent
 use Rattle.stand_ins.proofs.Says.{Says}
 
 module _ {M : Type 1} (𝓤 : URA M) (H : Heap 𝓤) (A : Atoms 𝓤) (mem : Memory → SProp 𝓤) (run : Routine → Fun 𝓤) (s : State) where
-  pub iq-says : Says 𝓤 iq.ended (iq.clauses 𝓤 H A mem run)
-      (λ κs a r e. Contract (withRows s (now (a .1 .0)) (now (a .1 .1 .0))) (call.iq (a .0) (now (a .1 .1 .1 .0))) r (withRows s (now (e .1 .0)) (now (e .1 .1 .0))))
+  pub mixer-says : Says 𝓤 mixer.ended (mixer.clauses 𝓤 H A mem run)
+      (λ κs a r e. Contract (withRows s (now (a .1 .0)) (now (a .1 .1 .0))) (call.mixer (a .0) (now (a .1 .1 .1 .0)) (now (a .1 .1 .1 .1 .0))) r (withRows s (now (e .1 .0)) (now (e .1 .1 .0))))
   unfolding Contract
-  iq-says κs a g r e = (refl, refl)
-
-  pub offset-says : Says 𝓤 offset.ended (offset.clauses 𝓤 H A mem run)
-      (λ κs a r e. Contract (withRows s (now (a .1 .0)) (now (a .1 .1 .0))) (call.offset (a .0) (now (a .1 .1 .1 .0))) r (withRows s (now (e .1 .0)) (now (e .1 .1 .0))))
-  unfolding Contract
-  offset-says κs a g r e = (refl, refl)
+  mixer-says κs a g r e = (refl, refl)
 
   pub iir-says : Says 𝓤 iir.ended (iir.clauses 𝓤 H A mem run)
       (λ κs a r e. Contract (withRows s (now (a .1 .0)) (now (a .1 .1 .0))) (call.iir (a .0) (now (a .1 .1 .1 .0))) r (withRows s (now (e .1 .0)) (now (e .1 .1 .0))))

@@ -10,7 +10,7 @@ use Rattle.trig.specs.Reduce.{wrapped, reduced}
 use Rattle.trig.specs.Trig.{horner, cosineAt, sineAt, cosineOf, sineOf}
 use Rattle.rows.specs.Rows.{allFinite}
 use Rattle.naming.specs.Name.{nameByte, every, lowBytes, bytesOfWord, sixteen, bytesOf, pastEnd, isName, sameName}
-use Rattle.mixer.specs.Mixer.{mixedRow, raisedRow}
+use Rattle.mixer.specs.Mixer.{correctedRow, mixerFits}
 use Rattle.iir.specs.Section.{ran, sectionsFrom, a0sFrom}
 use Rattle.iir.specs.Filter.{given, pipelined, turns}
 use Rattle.ring.specs.Ring.{tapAt, sumTo, filteredFrom}
@@ -45,7 +45,7 @@ use Rattle.sampler.specs.Sampler.{sampled}
 use Rattle.sampler_laws.specs.Added.{duesOf, allDues, withAll}
 use Rattle.system.specs.System.{outcome}
 use Rattle.bench_table.specs.Numbers.{whole}
-use Rattle.stand_ins.specs.Whole.{plateau, hann, spline, iq, offset, iir, fir, make, add-channel, add-shape, add-spline, execute, no-command, no-pulse, two-pulses, two-bins, Try, Trial, ones, noughts, also, tryOf, samplingOf, firstPulse, firstBin}
+use Rattle.stand_ins.specs.Whole.{plateau, hann, spline, mixer, iir, fir, make, add-channel, add-shape, add-spline, execute, no-command, no-pulse, two-pulses, two-bins, Try, Trial, ones, noughts, also, tryOf, samplingOf, firstPulse, firstBin}
 
 pub record Tried (t : Try) : Type 0 where
   pub answer : outcome (t .asking .state) (t .asking .call) .answer ≡ Done (t .count)
@@ -62,22 +62,20 @@ pub record All : Type 0 where
   pub first : TriedFirst
 
 pub tried : All
-unfolding outcome add sub mul div rem neg lt eq le sum round ofBits ofInt ceiling cutOf exp2Of fma wrapped reduced horner cosineAt sineAt cosineOf sineOf allFinite nameByte every lowBytes bytesOfWord sixteen bytesOf pastEnd isName sameName mixedRow raisedRow ran sectionsFrom a0sFrom given pipelined turns tapAt sumTo filteredFrom points notFalling isSpline inDomain spanTo blendOf fineStep dAt fineAt spline-row.rowOf wholeOf splineAt splineFine valueIn fineIn valueOf pointFine values allFine indexAt partedOf shapeOf finitePoints finePoints hannOf sameNumbers sameRow placeOf envelopeOf phase0 dphase startPair rotationPair phaseNumbers judged foundFrom shapeFrom settled settledShape keptFrom summedBy joined joinedTwo packed zipped allNames namesJudged rowFrom partOf partsAt planned onPart carried shaped ofMark allRows firstsAfter good required run.acted run.ran ranPulses ranBins sampled duesOf allDues withAll
+unfolding outcome add sub mul div rem neg lt eq le sum round ofBits ofInt ceiling cutOf exp2Of fma wrapped reduced horner cosineAt sineAt cosineOf sineOf allFinite nameByte every lowBytes bytesOfWord sixteen bytesOf pastEnd isName sameName correctedRow mixerFits ran sectionsFrom a0sFrom given pipelined turns tapAt sumTo filteredFrom points notFalling isSpline inDomain spanTo blendOf fineStep dAt fineAt spline-row.rowOf wholeOf splineAt splineFine valueIn fineIn valueOf pointFine values allFine indexAt partedOf shapeOf finitePoints finePoints hannOf sameNumbers sameRow placeOf envelopeOf phase0 dphase startPair rotationPair phaseNumbers judged foundFrom shapeFrom settled settledShape keptFrom summedBy joined joinedTwo packed zipped allNames namesJudged rowFrom partOf partsAt planned onPart carried shaped ofMark allRows firstsAfter good required run.acted run.ran ranPulses ranBins sampled duesOf allDues withAll
 tried = record { each = each; first = record { pulse = refl; bin = refl } }
   where
     each : (t : Trial) → Tried (tryOf t)
     each (ones plateau) = record { answer = refl; i = refl; q = refl }
     each (ones hann) = record { answer = refl; i = refl; q = refl }
     each (ones spline) = record { answer = refl; i = refl; q = refl }
-    each (ones iq) = record { answer = refl; i = refl; q = refl }
-    each (ones offset) = record { answer = refl; i = refl; q = refl }
+    each (ones mixer) = record { answer = refl; i = refl; q = refl }
     each (ones iir) = record { answer = refl; i = refl; q = refl }
     each (ones fir) = record { answer = refl; i = refl; q = refl }
     each (noughts plateau) = record { answer = refl; i = refl; q = refl }
     each (noughts hann) = record { answer = refl; i = refl; q = refl }
     each (noughts spline) = record { answer = refl; i = refl; q = refl }
-    each (noughts iq) = record { answer = refl; i = refl; q = refl }
-    each (noughts offset) = record { answer = refl; i = refl; q = refl }
+    each (noughts mixer) = record { answer = refl; i = refl; q = refl }
     each (noughts iir) = record { answer = refl; i = refl; q = refl }
     each (noughts fir) = record { answer = refl; i = refl; q = refl }
     each (also make) = record { answer = refl; i = refl; q = refl }

@@ -9,7 +9,7 @@ use lib.ListN.{length}
 use Rattle.quant.specs.declared.complex.Complex.{Complex}
 use Rattle.quant.specs.declared.refusal.Answer.{Answer}
 use Rattle.quant.specs.declared.settings.Settings.{Settings}
-use Rattle.mixer.specs.Mixer.{Iq, Offset}
+use Rattle.mixer.specs.Mixer.{Mixer}
 use Rattle.iir.specs.Iir.{Iir}
 use Rattle.ring.specs.Ring.{filteredOrKept}
 use Rattle.fir.specs.Fir.{Fir}
@@ -38,13 +38,14 @@ use Rattle.stand_ins.specs.StandIns.{Call, equation}
 use Rattle.stand_ins.specs.Whole.{isDone}
 use Rattle.stand_ins.specs.ByValue.{always, Bent, partsFor, hasPoints}
 
--- ---- the steps over the C border: one or two rows, numbers; a code, 0 or the refusal's number
+-- ---- the steps over the C border: one or two rows, numbers, of the mixer offsets too; a code, 0 or the refusal's number
 
 pub record Step : Type 0 where
   pub rows : ℕ
   pub i : List Float
   pub q : List Float
   pub numbers : List Float
+  pub offsets : List Float
 
 pub record Coded-rows : Type 0 where
   pub code : ℕ
@@ -53,28 +54,25 @@ pub record Coded-rows : Type 0 where
 
 -- a step's contract, of what it is lent, its answer and what it leaves
 abbrev pub Stepping : Type 1
-Stepping = ℕ → List Float → List Float → List Float → Answer → List Float → List Float → Type 0
+Stepping = ℕ → List Float → List Float → List Float → List Float → Answer → List Float → List Float → Type 0
 
 abbrev pub step-c : Stepping → Call
 step-c P =
     record {
       Given = Step;
       Left = Coded-rows;
-      Promise = λ x y. Coded (λ (r : Answer). P (x .rows) (x .i) (x .q) (x .numbers) r (y .i) (y .q)) (y .code);
+      Promise = λ x y. Coded (λ (r : Answer). P (x .rows) (x .i) (x .q) (x .numbers) (x .offsets) r (y .i) (y .q)) (y .code);
       accepted = λ y. eqb (y .code) 0;
     }
 
-abbrev pub iq-c : Call
-iq-c = step-c (λ n i q m r j p. Iq n i q m r j p)
-
-abbrev pub offset-c : Call
-offset-c = step-c (λ n i q m r j p. Offset n i q m r j p)
+abbrev pub mixer-c : Call
+mixer-c = step-c (λ n i q m o r j p. Mixer n i q m o r j p)
 
 abbrev pub iir-c : Call
-iir-c = step-c (λ n i q m r j p. Iir n i q m r j p)
+iir-c = step-c (λ n i q m o r j p. Iir n i q m r j p)
 
 abbrev pub fir-c : Call
-fir-c = step-c (λ n i q m r j p. Fir n i q m r j p)
+fir-c = step-c (λ n i q m o r j p. Fir n i q m r j p)
 
 -- ---- one row through taps; nothing is refused
 

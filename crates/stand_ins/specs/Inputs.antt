@@ -16,7 +16,7 @@ use Rattle.merge.specs.declared.taking.Taking.{Taking}
 use Rattle.sheet.specs.Sheet.{sheetText}
 use Rattle.bench_table.specs.Numbers.{over, whole}
 use Rattle.bench_table.specs.Call.{channel, clock, binWith, pulseAt, noCrosstalk}
-use Rattle.stand_ins.specs.Whole.{tablesOf, holding, rising, barrier, fir-numbers}
+use Rattle.stand_ins.specs.Whole.{tablesOf, holding, rising, barrier, mixer-offsets, fir-numbers}
 use Rattle.stand_ins.specs.ByValue.{Pointing, Timed, Clocked, Turning, Swapping, Weighing, Curve, Bent, Pulsed, Bending, Knotted, Looking, Planning, Verdict}
 use Rattle.stand_ins.specs.Buffers.{Step, Tapped, Plateau, Envelope, Part, Bends, Laying, Summing, gatheredFor, Mixing, Owning}
 use Rattle.stand_ins.specs.Texts.{Place, Field, Fields, Sheet, Printing, Answering, Behind}
@@ -150,10 +150,10 @@ answering n = record { text = sheet-text n; out = replicate 4096 0 }
 abbrev pub sheet-behind : Behind
 sheet-behind = record { text = sheet-text 1; count = 4; cross = record { count = 0; names = replicate 8 noName }; factors = replicate 64 nought }
 
--- ---- rows of one sample each, which holds x: the steps over the C border give twice the sample, or one more
+-- ---- rows of one sample each, which holds x: the steps over the C border give twice the sample
 
 abbrev pub stepping : List Float → ℕ → Step
-stepping numbers x = record { rows = 2; i = whole x ∷ []; q = whole x ∷ []; numbers = numbers }
+stepping numbers x = record { rows = 2; i = whole x ∷ []; q = whole x ∷ []; numbers = numbers; offsets = mixer-offsets }
 
 -- one row, and a tap of 2
 abbrev pub tapped : ℕ → Tapped

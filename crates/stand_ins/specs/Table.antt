@@ -11,7 +11,7 @@ use Rattle.mixdown.specs.Sampled.{Rowed, mixedDown}
 use Rattle.bench_table.specs.Numbers.{over}
 use Rattle.bench_table.specs.Call.{channel}
 use Rattle.stand_ins.specs.StandIns.{NotAllRefused, NotAlways, NotFixed, Row, I, Q, RowsMove}
-use Rattle.stand_ins.specs.Whole.{anything, whole-system, rowLeft, rowCame, answerOf, sampling-call, rowsLeft, firstPulse, firstBin, OnRows, plateau, on, execute, no-command, no-pulse, two-pulses, two-bins, else, samplingOf, Trial, tryOf, iq-numbers, offset-numbers, iir-numbers, fir-numbers, bin-alone, bin-pair, pulse-alone, pulse-pair, pulse-of-each}
+use Rattle.stand_ins.specs.Whole.{anything, whole-system, rowLeft, rowCame, answerOf, sampling-call, rowsLeft, firstPulse, firstBin, OnRows, plateau, on, execute, no-command, no-pulse, two-pulses, two-bins, else, samplingOf, Trial, tryOf, mixer-numbers, iir-numbers, fir-numbers, bin-alone, bin-pair, pulse-alone, pulse-pair, pulse-of-each}
 use Rattle.stand_ins.specs.ByValue as value
 use Rattle.stand_ins.specs.Texts as text
 use Rattle.stand_ins.specs.Buffers as lent
@@ -143,16 +143,14 @@ firstBinMixed x = mixedBy (lent.oneBin (x .tables)) (x .ends) x
 
 pub record Buffers : Type 1 where
   -- "all calls refused"
-  pub iq-c : NotAllRefused lent.iq-c (given.stepping iq-numbers 1)
-  pub offset-c : NotAllRefused lent.offset-c (given.stepping offset-numbers 1)
+  pub mixer-c : NotAllRefused lent.mixer-c (given.stepping mixer-numbers 1)
   pub iir-c : NotAllRefused lent.iir-c (given.stepping iir-numbers 1)
   pub fir-c : NotAllRefused lent.fir-c (given.stepping fir-numbers 1)
   pub envelope : NotAllRefused lent.envelope given.laying
   pub mix-lists : NotAllRefused lent.mix-lists (given.mixing 1 bin-alone pulse-alone)
   pub execute-owned : NotAllRefused lent.execute-owned (given.owning 1)
   -- "rows untouched", "one fixed row"
-  pub iq-moves : RowsMove lent.iq-c stepLeft stepCame (given.stepping iq-numbers 1) (given.stepping iq-numbers 0)
-  pub offset-moves : RowsMove lent.offset-c stepLeft stepCame (given.stepping offset-numbers 1) (given.stepping offset-numbers 0)
+  pub mixer-moves : RowsMove lent.mixer-c stepLeft stepCame (given.stepping mixer-numbers 1) (given.stepping mixer-numbers 0)
   pub iir-moves : RowsMove lent.iir-c stepLeft stepCame (given.stepping iir-numbers 1) (given.stepping iir-numbers 0)
   pub fir-moves : RowsMove lent.fir-c stepLeft stepCame (given.stepping fir-numbers 1) (given.stepping fir-numbers 0)
   pub row-filtered : NotAlways lent.filter itself (λ (x : lent.Tapped). x .row) (given.tapped 1)

@@ -153,12 +153,12 @@ sampleAt level = system.sample (requestAt level) noCrosstalk []
 abbrev pub barrier : Arranged
 barrier = record { command = Barrier; start = record { 0 = whole 0 }; span = record { 0 = whole 0 } }
 
--- the numbers of the four steps: each gives twice the sample, `offset` one more
-abbrev pub iq-numbers : List Float
-iq-numbers = wholes (2 ∷ 0 ∷ 0 ∷ 2 ∷ [])
+-- the numbers of the three steps: each gives twice the sample; of the mixer the matrix, and no offsets
+abbrev pub mixer-numbers : List Float
+mixer-numbers = wholes (2 ∷ 0 ∷ 0 ∷ 2 ∷ [])
 
-abbrev pub offset-numbers : List Float
-offset-numbers = wholes (1 ∷ 1 ∷ [])
+abbrev pub mixer-offsets : List Float
+mixer-offsets = wholes (0 ∷ 0 ∷ [])
 
 abbrev pub iir-numbers : List Float
 iir-numbers = wholes (2 ∷ 0 ∷ 0 ∷ 1 ∷ 0 ∷ 0 ∷ [])
@@ -195,7 +195,7 @@ trying s c count sample = record { asking = record { state = s; call = c }; coun
 
 -- those that change rows, a sampling of a plateau, one of Hann's shape and one of a spline
 pub data OnRows : Type 0 where
-  plateau hann spline iq offset iir fir : OnRows
+  plateau hann spline mixer iir fir : OnRows
 
 -- the bin's row and the time of the one pulse that is stored; the call; its count; whether it leaves one more than the sample, or twice the sample
 pub record Sort : Type 0 where
@@ -211,8 +211,7 @@ sort plateau = record { bin = plain (whole 1); time = whole 0; call = sampleAt (
 -- width 1 at 0.5 and level -1: the one sample is the middle of the shape; so too of the spline
 sort hann = record { bin = curved (whole 1); time = over 5 10; call = sampleAt (negsuc 0); count = 1; adds = true }
 sort spline = record { bin = bending (whole 1); time = over 5 10; call = sampleAt (negsuc 0); count = 1; adds = true }
-sort iq = record { bin = plain (whole 1); time = whole 0; call = system.iq 2 iq-numbers; count = 0; adds = false }
-sort offset = record { bin = plain (whole 1); time = whole 0; call = system.offset 2 offset-numbers; count = 0; adds = true }
+sort mixer = record { bin = plain (whole 1); time = whole 0; call = system.mixer 2 mixer-numbers mixer-offsets; count = 0; adds = false }
 sort iir = record { bin = plain (whole 1); time = whole 0; call = system.iir 2 iir-numbers; count = 0; adds = false }
 sort fir = record { bin = plain (whole 1); time = whole 0; call = system.fir 2 fir-numbers; count = 0; adds = false }
 

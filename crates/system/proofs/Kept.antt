@@ -22,7 +22,7 @@ use Rattle.tables.specs.Tables.{Formed, formed, found, noChannel, channelAt, do
 use Rattle.commands_laws.specs.Sound.{Reached}
 use Rattle.commands_laws.proofs.Sound.{sound}
 use Rattle.commands_laws.proofs.Apart.{has-name}
-use Rattle.system.specs.System.{State, Call, make, add-channel, add-shape, add-spline, execute, sample, iq, offset, iir, fir, Event, calls, lends, withLent, outcome}
+use Rattle.system.specs.System.{State, Call, make, add-channel, add-shape, add-spline, execute, sample, mixer, iir, fir, Event, calls, lends, withLent, outcome}
 use Rattle.system.specs.Kept.{Spares, AllSpare, after, Kept}
 use Rattle.system.proofs.Added.{channel-by, shape-by, spline-by}
 use Rattle.system.proofs.KeptRows.{Stays, as-before, and-then, commands-stay}
@@ -85,8 +85,7 @@ module _ (i k : ℕ) (under : i < 8) (low : k < 64) where
     call-stays (add-spline n p c t) spares = spline-stays n p c t
     call-stays (execute commands) spares = commands-stay i k under low (s .tables) (s .splines) commands (s .bins) (s .pulses) channel there
     call-stays (sample r c factors) spares = came
-    call-stays (iq n m) spares = came
-    call-stays (offset n m) spares = came
+    call-stays (mixer n m o) spares = came
     call-stays (iir n sections) spares = came
     call-stays (fir n taps) spares = came
 

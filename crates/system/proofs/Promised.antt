@@ -4,7 +4,7 @@ use mathlib.Core.List.{List}
 use lib.Ieee.{Float}
 use Rattle.quant.specs.declared.refusal.Answer.{Answer}
 use Rattle.tables.specs.Tables.{made}
-use Rattle.system.specs.System.{State, Call, make, add-channel, add-shape, add-spline, execute, sample, iq, offset, iir, fir, Outcome, told, withTables, withRows, Contract, written, adopted, held, Promised, tabled, hasFormed, remade, hasRun, hasSampled, outcome}
+use Rattle.system.specs.System.{State, Call, make, add-channel, add-shape, add-spline, execute, sample, mixer, iir, fir, Outcome, told, withTables, withRows, Contract, written, adopted, held, Promised, tabled, hasFormed, remade, hasRun, hasSampled, outcome}
 
 module _ (s : State) where
   -- a contract is an equation, and so it holds of what it gives
@@ -16,8 +16,7 @@ module _ (s : State) where
   answered (add-spline n p c t) = record { left = _; contract = refl; rest = refl; after = refl }
   answered (execute commands) = record { left = _; contract = refl; rest = refl; after = refl }
   answered (sample r c factors) = record { left = _; contract = refl; rest = refl; after = refl }
-  answered (iq n m) = record { left = _; contract = record { answer = refl; first = refl; second = refl }; rest = refl; after = refl }
-  answered (offset n m) = record { left = _; contract = record { answer = refl; first = refl; second = refl }; rest = refl; after = refl }
+  answered (mixer n m o) = record { left = _; contract = record { answer = refl; first = refl; second = refl }; rest = refl; after = refl }
   answered (iir n sections) = record { left = _; contract = record { answer = refl; i-row = refl; q-row = refl }; rest = refl; after = refl }
   answered (fir n taps) = record { left = _; contract = record { answer = refl; first = refl; second = refl }; rest = refl; after = refl }
 
@@ -34,7 +33,6 @@ module _ (s : State) where
   only (add-spline n d c t) o p = ap (told (o .answer)) (p .after ∙ p .rest) ∙ ap (hasFormed s) (p .contract)
   only (execute commands) o p = ap (told (o .answer)) (p .after ∙ p .rest) ∙ ap (hasRun s) (p .contract)
   only (sample r c factors) o p = ap (told (o .answer)) (p .after ∙ p .rest) ∙ ap (hasSampled s) (p .contract)
-  only (iq n m) o p = step-only o _ _ _ _ (p .after) (p .rest) (p .contract .answer) (p .contract .first) (p .contract .second)
-  only (offset n m) o p = step-only o _ _ _ _ (p .after) (p .rest) (p .contract .answer) (p .contract .first) (p .contract .second)
+  only (mixer n m offsets) o p = step-only o _ _ _ _ (p .after) (p .rest) (p .contract .answer) (p .contract .first) (p .contract .second)
   only (iir n sections) o p = step-only o _ _ _ _ (p .after) (p .rest) (p .contract .answer) (p .contract .i-row) (p .contract .q-row)
   only (fir n taps) o p = step-only o _ _ _ _ (p .after) (p .rest) (p .contract .answer) (p .contract .first) (p .contract .second)

@@ -1,21 +1,21 @@
 -- The law of the whole system. From made tables, beside whatever is lent, through any run of adds, command calls, sampling calls and steps: every
 -- call has one answer that its promise allows, and what it leaves, refused or not, is as document 01 says. Call by call. Assumes nothing.
 use mathlib.Core.Path.{_≡_, sym, subst}
-use mathlib.Core.Bool.{Bool}
+use mathlib.Core.Bool.{Bool, _&&_}
 use mathlib.Core.List.{List, [], _∷_}
 use lib.Ieee.{Float}
 use lib.ListN.{length}
 use Rattle.quant.specs.declared.refusal.Answer.{Answer}
 use Rattle.quant.specs.declared.refusal.Answer.the-variants.{Done, Refused}
 use Rattle.rows.specs.Rows.{allFinite}
-use Rattle.mixer.specs.Mixer.{iqFits, offsetFits}
+use Rattle.mixer.specs.Mixer.{mixerFits}
 use Rattle.fir.specs.Fir.{firFits}
 use Rattle.tables.specs.declared.Tabled.{Tabled}
 use Rattle.tables.specs.Tables.{made}
 use Rattle.commands_laws.specs.Sound.{Reached}
 use Rattle.commands_laws.specs.Sound as reached
 use Rattle.commands_laws.proofs.Sound.{sound}
-use Rattle.system.specs.System.{State, Call, make, add-channel, add-shape, add-spline, execute, sample, iq, offset, iir, fir, Event, calls, lends, withTables, withLent, adopted, remade, iqStep, offsetStep, firStep, outcome}
+use Rattle.system.specs.System.{State, Call, make, add-channel, add-shape, add-spline, execute, sample, mixer, iir, fir, Event, calls, lends, withTables, withLent, adopted, remade, mixerStep, firStep, outcome}
 use Rattle.system.specs.Said.{AsSaid, Holds, EveryCall}
 use Rattle.system.proofs.Promised.{answered, only}
 use Rattle.system.proofs.Adds.{make-said, channel-said, shape-said, spline-said}
@@ -33,8 +33,7 @@ said s (add-shape n) = shape-said s n
 said s (add-spline n p c t) = spline-said s n p c t
 said s (execute commands) = commands-said s commands
 said s (sample r c factors) = sample-said s r c factors
-said s (iq n m) = let x = iqStep (s .rows) n m in step-said s (x .i) (x .q) (iqFits n (s .rows .i) (s .rows .q) m) (allFinite m)
-said s (offset n m) = let x = offsetStep (s .rows) n m in step-said s (x .i) (x .q) (offsetFits n (s .rows .i) (s .rows .q) m) (allFinite m)
+said s (mixer n m o) = let x = mixerStep (s .rows) n m o in step-said s (x .i) (x .q) (mixerFits n (length (s .rows .i)) (length (s .rows .q)) (length m) (length o)) (allFinite m && allFinite o)
 said s (iir n sections) = iir-said s n sections
 said s (fir n taps) = let x = firStep (s .rows) n taps in step-said s (x .i) (x .q) (firFits n (length (s .rows .i)) (length (s .rows .q)) (length taps)) (allFinite taps)
 
@@ -66,8 +65,7 @@ next s (add-shape n) h = reached.shape (s .tables) (s .splines) (s .bins) (s .pu
 next s (add-spline n p c t) h = reached.spline (s .tables) (s .splines) (s .bins) (s .pulses) n p c t h
 next s (execute commands) h = reached.call (s .tables) (s .splines) (s .bins) (s .pulses) commands h
 next s (sample r c factors) h = h
-next s (iq n m) h = h
-next s (offset n m) h = h
+next s (mixer n m o) h = h
 next s (iir n sections) h = h
 next s (fir n taps) h = h
 

@@ -8,7 +8,7 @@ use lib.ListN.{getD}
 use Rattle.naming.specs.declared.Name.{Name}
 use Rattle.naming.specs.Name.{sameName}
 use Rattle.tables.specs.Tables.{channelAt}
-use Rattle.system.specs.System.{State, Call, make, add-channel, add-shape, add-spline, execute, sample, iq, offset, iir, fir, Event, calls, lends, withLent, outcome}
+use Rattle.system.specs.System.{State, Call, make, add-channel, add-shape, add-spline, execute, sample, mixer, iir, fir, Event, calls, lends, withLent, outcome}
 
 -- a call that neither makes tables anew nor replaces the channel of a name
 unfoldable pub Spares : Name → Call → Type 0
@@ -18,8 +18,7 @@ Spares name (add-shape n) = Unit {0}
 Spares name (add-spline n p c t) = Unit {0}
 Spares name (execute commands) = Unit {0}
 Spares name (sample r c factors) = Unit {0}
-Spares name (iq n m) = Unit {0}
-Spares name (offset n m) = Unit {0}
+Spares name (mixer n m o) = Unit {0}
 Spares name (iir n sections) = Unit {0}
 Spares name (fir n taps) = Unit {0}
 

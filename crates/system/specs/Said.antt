@@ -30,7 +30,7 @@ use Rattle.sampler.specs.declared.Request.{Request}
 use Rattle.sampler.specs.Prepared.{settingsOf}
 use Rattle.sampler.specs.Sizes as lent
 use Rattle.sampler_laws.specs.Added.{Due, allDues, withAll}
-use Rattle.system.specs.System.{State, Call, make, add-channel, add-shape, add-spline, execute, sample, iq, offset, iir, fir, Event, calls, lends, Outcome, told, withLent, Promised, outcome}
+use Rattle.system.specs.System.{State, Call, make, add-channel, add-shape, add-spline, execute, sample, mixer, iir, fir, Event, calls, lends, Outcome, told, withLent, Promised, outcome}
 
 -- "Order for a command: 2, 4, 5, 6, 7, 8, 3"
 abbrev pub commandNumbers : List ℕ
@@ -66,7 +66,7 @@ abbrev pub AddSaid : List ℕ → State → Answer → State → Type 0
 AddSaid numbers s (Done k) u = k ≡ 0
 AddSaid numbers s (Refused why k) u = AsItCame numbers 0 s why k u
 
--- "Order for the filter, matrix and offset steps: 13, 2; these refuse before any sample changes"
+-- "Order for the filter, matrix and offset steps: 13, 2; these refuse before any sample changes", and so for the one step of matrix and offset
 abbrev pub StepSaid : State → Answer → State → Type 0
 StepSaid s (Done k) u = k ≡ 0
 StepSaid s (Refused why k) u = AsItCame (13 ∷ 2 ∷ []) 0 s why k u
@@ -164,8 +164,7 @@ AsSaid s (add-shape n) o = AddSaid shapeNumbers s (o .answer) (o .after)
 AsSaid s (add-spline n p c t) o = AddSaid splineNumbers s (o .answer) (o .after)
 AsSaid s (execute commands) o = CommandsSaid s commands (o .answer) (o .after)
 AsSaid s (sample r c factors) o = SampleSaid s r c factors (o .answer) (o .after)
-AsSaid s (iq n m) o = StepSaid s (o .answer) (o .after)
-AsSaid s (offset n m) o = StepSaid s (o .answer) (o .after)
+AsSaid s (mixer n m offsets) o = StepSaid s (o .answer) (o .after)
 AsSaid s (iir n sections) o = IirSaid s n sections (o .answer) (o .after)
 AsSaid s (fir n taps) o = StepSaid s (o .answer) (o .after)
 

@@ -10,7 +10,7 @@ use Rattle.naming.specs.declared.Name.{Name}
 use Rattle.quant.specs.declared.refusal.Answer.{Answer}
 use Rattle.quant.specs.declared.refusal.Answer.the-variants.{Done, Refused}
 use Rattle.rows.specs.Rows as rows
-use Rattle.mixer.specs.Mixer as mixer
+use Rattle.mixer.specs.Mixer.{Mixer, correctedRow, mixerAnswer}
 use Rattle.iir.specs.Section.{sectionsOf}
 use Rattle.iir.specs.Filter.{filtered}
 use Rattle.iir.specs.Iir.{Iir, iirAnswer}
@@ -42,7 +42,7 @@ pub record State : Type 0 where
   pub marks : List ℕ
 
 -- ---- the calls, with what each is given besides: to make tables, both tolerances and the oversize choice; for a spline its degree, controls and knots; for a
--- step, whether there are one or two rows, and its numbers
+-- step, whether there are one or two rows, and its numbers (of the mixer the matrix and the offsets)
 pub data Call : Type 0 where
   make : Float → Float → Bool → Call
   add-channel : Name → OscState → Call
@@ -50,8 +50,7 @@ pub data Call : Type 0 where
   add-spline : Name → ℕ → List Float → List Float → Call
   execute : List Arranged → Call
   sample : Request → Crosstalk → List Float → Call
-  iq : ℕ → List Float → Call
-  offset : ℕ → List Float → Call
+  mixer : ℕ → List Float → List Float → Call
   iir : ℕ → List Float → Call
   fir : ℕ → List Float → Call
 
@@ -95,8 +94,7 @@ Contract s (add-shape n) a u = formed (record { answer = a; tables = u .tables }
 Contract s (add-spline n p c t) a u = formed (record { answer = a; tables = u .tables }) (u .splines) ≡ withAddedSpline (s .tables) n p c t (s .splines)
 Contract s (execute commands) a u = ranTo (record { answer = a; tables = u .tables }) (u .bins) (u .pulses) ≡ executed (s .tables) (s .splines) commands (s .bins) (s .pulses)
 Contract s (sample r c factors) a u = left a (u .rows) (u .work) (u .marks) ≡ sampled (s .tables) r c factors (s .bins) (s .pulses) (s .rows) (s .work) (s .marks)
-Contract s (iq n m) a u = mixer.Iq n (s .rows .i) (s .rows .q) m a (u .rows .i) (u .rows .q)
-Contract s (offset n m) a u = mixer.Offset n (s .rows .i) (s .rows .q) m a (u .rows .i) (u .rows .q)
+Contract s (mixer n m o) a u = Mixer n (s .rows .i) (s .rows .q) m o a (u .rows .i) (u .rows .q)
 Contract s (iir n sections) a u = Iir n (s .rows .i) (s .rows .q) sections a (u .rows .i) (u .rows .q)
 Contract s (fir n taps) a u = Fir n (s .rows .i) (s .rows .q) taps a (u .rows .i) (u .rows .q)
 
@@ -108,8 +106,7 @@ written s (add-shape n) u = withShapes s (u .tables) (u .splines)
 written s (add-spline n p c t) u = withShapes s (u .tables) (u .splines)
 written s (execute commands) u = withStored s (u .tables) (u .bins) (u .pulses)
 written s (sample r c factors) u = withLent s (u .rows) (u .work) (u .marks)
-written s (iq n m) u = withRows s (u .rows .i) (u .rows .q)
-written s (offset n m) u = withRows s (u .rows .i) (u .rows .q)
+written s (mixer n m o) u = withRows s (u .rows .i) (u .rows .q)
 written s (iir n sections) u = withRows s (u .rows .i) (u .rows .q)
 written s (fir n taps) u = withRows s (u .rows .i) (u .rows .q)
 
@@ -125,8 +122,7 @@ held s (add-shape n) a u = u
 held s (add-spline n p c t) a u = u
 held s (execute commands) a u = u
 held s (sample r c factors) a u = u
-held s (iq n m) a u = u
-held s (offset n m) a u = u
+held s (mixer n m o) a u = u
 held s (iir n sections) a u = u
 held s (fir n taps) a u = u
 
@@ -164,20 +160,12 @@ pub record Step : Type 0 where
 abbrev pub stepped : State → Step → Outcome
 stepped s x = told (x .answer) (withRows s (rows.after (x .answer) (x .i) (s .rows .i)) (rows.after (x .answer) (x .q) (s .rows .q)))
 
-abbrev pub iqStep : Rowed → ℕ → List Float → Step
-iqStep st n m =
+abbrev pub mixerStep : Rowed → ℕ → List Float → List Float → Step
+mixerStep st n m o =
     record {
-      answer = rows.answerOf (mixer.iqFits n (st .i) (st .q) m) (rows.allFinite m);
-      i = mixer.mixedRow (getD m 0 nan) (getD m 1 nan) (st .i) (st .q);
-      q = mixer.mixedRow (getD m 2 nan) (getD m 3 nan) (st .i) (st .q);
-    }
-
-abbrev pub offsetStep : Rowed → ℕ → List Float → Step
-offsetStep st n m =
-    record {
-      answer = rows.answerOf (mixer.offsetFits n (st .i) (st .q) m) (rows.allFinite m);
-      i = mixer.raisedRow (getD m 0 nan) (st .i);
-      q = mixer.raisedRow (getD m 1 nan) (st .q);
+      answer = mixerAnswer n (st .i) (st .q) m o;
+      i = correctedRow (getD m 0 nan) (getD m 1 nan) (getD o 0 nan) (st .i) (st .q);
+      q = correctedRow (getD m 2 nan) (getD m 3 nan) (getD o 1 nan) (st .i) (st .q);
     }
 
 abbrev pub iirStep : Rowed → ℕ → List Float → Step
@@ -205,7 +193,6 @@ outcome s (add-shape n) = hasFormed s (withAddedShape (s .tables) n (s .splines)
 outcome s (add-spline n p c t) = hasFormed s (withAddedSpline (s .tables) n p c t (s .splines))
 outcome s (execute commands) = hasRun s (executed (s .tables) (s .splines) commands (s .bins) (s .pulses))
 outcome s (sample r c factors) = hasSampled s (sampled (s .tables) r c factors (s .bins) (s .pulses) (s .rows) (s .work) (s .marks))
-outcome s (iq n m) = stepped s (iqStep (s .rows) n m)
-outcome s (offset n m) = stepped s (offsetStep (s .rows) n m)
+outcome s (mixer n m o) = stepped s (mixerStep (s .rows) n m o)
 outcome s (iir n sections) = stepped s (iirStep (s .rows) n sections)
 outcome s (fir n taps) = stepped s (firStep (s .rows) n taps)
