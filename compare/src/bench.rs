@@ -50,7 +50,7 @@ pub fn run() {
     );
     step(
         "mixer",
-        &[0.9, 0.1, -0.1, 1.1, 0.01, -0.02],
+        &[0.9, 0.1, -0.1, 1.1, 1e-6, -2e-6],
         host::mixer,
         mixer::their_mixer,
     );

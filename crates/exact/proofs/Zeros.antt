@@ -39,7 +39,7 @@ add-comm (fin s m e) (fin t n d) =
     sum-comm binary64 s t (m * up e * down d) (n * up d * down e) (down e * down d)
     ∙ ap (λ (c : ℕ). sum binary64 t (n * up d * down e) s (m * up e * down d) c) (mul-comm (down e) (down d))
 
-sum-of-one : (s t : Bool) (b c : ℕ) → 0 < b → sum binary64 s 0 t b c ≡ round binary64 t b c
+pub sum-of-one : (s t : Bool) (b c : ℕ) → 0 < b → sum binary64 s 0 t b c ≡ round binary64 t b c
 sum-of-one true true b c h = sum-like binary64 true true 0 b c refl ∙ ap (λ (n : ℕ). round binary64 true n c) (zero-add b)
 sum-of-one true false b c h = sum-second binary64 true false 0 b c refl h ∙ ap (λ (n : ℕ). round binary64 false n c) (sub-zero b)
 sum-of-one false true b c h = sum-second binary64 false true 0 b c refl h ∙ ap (λ (n : ℕ). round binary64 true n c) (sub-zero b)
@@ -56,27 +56,27 @@ unfolding add
 added s t n d = rw (zero-mul (down d), mul-one (n * up d), one-mul (down d))
 
 -- two zeros; a zero and a number that is none, however written
-pub zeros-plus : (s t : Bool) (d : ℤ) → add binary64 (zeroOf s) (fin t zero d) ≡ zeroOf (s && t)
-zeros-plus s t d = added s t zero d ∙ ap (λ (n : ℕ). sum binary64 s 0 t n (down d)) (zero-mul (up d)) ∙ sum-of-none s t (down d) (down-pos d)
+pub two-zeros : (s t : Bool) (d : ℤ) → add binary64 (zeroOf s) (fin t zero d) ≡ zeroOf (s && t)
+two-zeros s t d = added s t zero d ∙ ap (λ (n : ℕ). sum binary64 s 0 t n (down d)) (zero-mul (up d)) ∙ sum-of-none s t (down d) (down-pos d)
 
-pub zero-plus-some : (s t : Bool) (n : ℕ) (d : ℤ) → add binary64 (zeroOf s) (fin t (suc n) d) ≡ round binary64 t (suc n * up d) (down d)
-zero-plus-some s t n d = added s t (suc n) d ∙ sum-of-one s t (suc n * up d) (down d) (mul-pos (zero-lt-suc n) (up-pos d))
+pub zero-and-some : (s t : Bool) (n : ℕ) (d : ℤ) → add binary64 (zeroOf s) (fin t (suc n) d) ≡ round binary64 t (suc n * up d) (down d)
+zero-and-some s t n d = added s t (suc n) d ∙ sum-of-one s t (suc n * up d) (down d) (mul-pos (zero-lt-suc n) (up-pos d))
 
 -- any double beside a zero
-pub zero-plus : (s : Bool) (x : Float) → T (fits binary64 x) → add binary64 (zeroOf s) x ≡ besideZero s x
+pub beside-zero : (s : Bool) (x : Float) → T (fits binary64 x) → add binary64 (zeroOf s) x ≡ besideZero s x
 unfolding add
-zero-plus s nan f = refl
-zero-plus s (inf t) f = refl
-zero-plus s (fin t zero d) f = zeros-plus s t d
-zero-plus s (fin t (suc n) d) f =
+beside-zero s nan f = refl
+beside-zero s (inf t) f = refl
+beside-zero s (fin t zero d) f = two-zeros s t d
+beside-zero s (fin t (suc n) d) f =
     let x = fin t (suc n) d in
     rounds-back x (add binary64 (zeroOf s) x) f tt (add-fits binary64 (zeroOf s) x)
-    (zero-plus-some s t n d ∙ round-same binary64 t (suc n * up d) (down d) (unitsOf x) (2 ^ 1074) (down-pos d) (pow-pos 1074) (own x f tt .1))
+    (zero-and-some s t n d ∙ round-same binary64 t (suc n * up d) (down d) (unitsOf x) (2 ^ 1074) (down-pos d) (pow-pos 1074) (own x f tt .1))
 
 -- x + 0.0 is x, or +0 where x is a zero
 pub plus-zero : (x : Float) → T (fits binary64 x) → add binary64 x nought ≡ plainZero x
 unfolding ofBits
-plus-zero x f = add-comm x nought ∙ zero-plus false x f
+plus-zero x f = add-comm x nought ∙ beside-zero false x f
 
 pub beside-fits : (s : Bool) (x : Float) → T (fits binary64 x) → T (fits binary64 (besideZero s x))
 unfolding fits
@@ -117,15 +117,19 @@ beside-either s t (fin u (suc n) d) f h = refl
 
 pub plus-minus : (x : Float) → T (fits binary64 x) → add binary64 x minusNought ≡ x
 unfolding ofBits
-plus-minus x f = add-comm x minusNought ∙ zero-plus true x f ∙ beside-minus x f
+plus-minus x f = add-comm x minusNought ∙ beside-zero true x f ∙ beside-minus x f
 
--- ---- products: 0.0 times a finite number is a zero with its sign, and times any other NaN
+-- ---- products: a zero times a finite number is a zero, 0.0 times a finite number the zero with its sign, and times any other NaN
+
+pub none-times : (s : Bool) (x : Float) → T (finite x) → mul binary64 (zeroOf s) x ≡ zeroOf (unlike s (signOf x))
+unfolding mul
+none-times s nan h = absurd h
+none-times s (inf t) h = absurd h
+none-times s (fin t n d) h = ap (λ (m : ℕ). round binary64 (unlike s t) m (1 * down d)) (zero-mul (n * up d)) ∙ round-zero (unlike s t) (1 * down d) (mul-pos (zero-lt-suc 0) (down-pos d))
 
 pub nought-times : (x : Float) → T (finite x) → mul binary64 nought x ≡ zeroOf (signOf x)
-unfolding mul ofBits
-nought-times nan h = absurd h
-nought-times (inf s) h = absurd h
-nought-times (fin t n d) h = ap (λ (m : ℕ). round binary64 (unlike false t) m (1 * down d)) (zero-mul (n * up d)) ∙ round-zero (unlike false t) (1 * down d) (mul-pos (zero-lt-suc 0) (down-pos d)) ∙ ap zeroOf (like-plus t)
+unfolding ofBits
+nought-times x h = none-times false x h ∙ ap zeroOf (like-plus (signOf x))
 
 pub nought-times-wild : (x : Float) → finite x ≡ false → mul binary64 nought x ≡ nan
 unfolding mul ofBits

@@ -3,7 +3,7 @@ use mathlib.Core.Path.{_≡_, refl, sym, ap, _∙_, subst}
 use mathlib.Core.Logic.{inl, inr}
 use mathlib.Core.Bool.{Bool, true, false, not, cond, Bool·beq, _&&_, _||_, true≢false}
 use Prim.Native.Nat.{ℕ, _+_, _-_, _*_, _/_, _%_, _^_, _≤_, _<_}
-use native.Mathlib.Nat.{lt-irrefl, lt-of-not-le, eq-zero-or-pos, mul-pos, mul-assoc, mul-comm, mul-one, mul-left-comm, zero-mul, add-zero, sub-zero, mod-lt}
+use native.Mathlib.Nat.{lt-irrefl, lt-of-not-le, eq-zero-or-pos, mul-pos, mul-assoc, mul-comm, mul-one, mul-left-comm, zero-mul, mod-lt}
 use native.Mathlib.Omega.{arith}
 use lib.Dec.{T, leb, ltb, eqb, ltb→lt, lt→ltb, eqb→eq, lit<}
 use lib.IntN.{ℤ, pos}
@@ -13,9 +13,10 @@ use lib.Ieee.Bits.{ofBits-toBits}
 use lib.Ieee.Exact.{HasValue}
 use lib.Ieee.Fits.{up-pos, down-pos, round-fits, cond-fits, nan-fits, inf-fits, add-fits}
 use lib.Ieee.Scale.{round-same, finite}
-use Rattle.exact.proofs.Sum.{sum-same, sum-like, sum-first}
+use Rattle.exact.proofs.Sum.{sum-same, sum-comm}
 use Rattle.exact.proofs.Operation.{mul-rounds, add-rounds}
 use Rattle.exact.proofs.Value.{rescale}
+use Rattle.exact.proofs.Zeros.{round-zero, sum-of-one}
 use Rattle.fma.specs.Fused.{fma, nonzero}
 use Rattle.ieee.proofs.Bits.{bits-are}
 
@@ -58,15 +59,8 @@ fma-at (fin i m e) (fin j n d) (fin k l g) s t u a b c p P v w o =
 own : (s : Bool) (m : ℕ) (e : ℤ) → HasValue (fin s m e) s (m * up e) (down e)
 own s m e = (refl, refl)
 
-zero-one : (s : Bool) → round binary64 s 0 1 ≡ fin s 0 (pos 0)
-unfolding round
-zero-one true = refl
-zero-one false = refl
-
-round-zero : (s : Bool) (n c : ℕ) → n ≡ 0 → 0 < c → HasValue (round binary64 s n c) s 0 1
-round-zero s n c z C =
-    subst (λ (x : Float). HasValue x s 0 1)
-    (sym (ap (λ (x : ℕ). round binary64 s x c) z ∙ round-same binary64 s 0 c 0 1 C (lit< tt) (zero-mul 1 ∙ sym (zero-mul c)) ∙ zero-one s)) (refl, refl)
+none-rounded : (s : Bool) (n c : ℕ) → n ≡ 0 → 0 < c → HasValue (round binary64 s n c) s 0 1
+none-rounded s n c z C = subst (λ (x : Float). HasValue x s 0 1) (sym (ap (λ (x : ℕ). round binary64 s x c) z ∙ round-zero s c C)) (refl, refl)
 
 -- ---- a product that is exactly zero, and something added
 zero-product : (s t u : Bool) (m n w : ℕ) (e d g : ℤ) → m * up e * (n * up d) ≡ 0 → add binary64 (mul binary64 (fin s m e) (fin t n d)) (fin u w g) ≡ fma binary64 (fin s m e) (fin t n d) (fin u w g)
@@ -75,7 +69,7 @@ zero-product s t u m n w e d g z =
     let P = m * up e * (n * up d) in
     let v : HasValue (mul binary64 (fin s m e) (fin t n d)) (unlike s t) 0 1 =
     subst (λ (x : Float). HasValue x (unlike s t) 0 1)
-    (sym (mul-rounds binary64 (fin s m e) (fin t n d) s t (m * up e) (down e) (n * up d) (down d) (down-pos e) (down-pos d) (own s m e) (own t n d))) (round-zero (unlike s t) P D z (mul-pos (down-pos e) (down-pos d))) in
+    (sym (mul-rounds binary64 (fin s m e) (fin t n d) s t (m * up e) (down e) (n * up d) (down d) (down-pos e) (down-pos d) (own s m e) (own t n d))) (none-rounded (unlike s t) P D z (mul-pos (down-pos e) (down-pos d))) in
     add-rounds binary64 (mul binary64 (fin s m e) (fin t n d)) (fin u w g) (unlike s t) u 0 (w * up g) (down g) (down-pos g)
     (rescale (mul binary64 (fin s m e) (fin t n d)) (unlike s t) 0 1 0 (down g) (lit< tt) (zero-mul 1 ∙ sym (zero-mul (down g))) v) (own u w g)
     ∙ sum-same binary64 (unlike s t) u 0 (w * up g) (down g) (P * down g) (w * up g * D) (D * down g) (down-pos g) (denominator e d g)
@@ -85,13 +79,10 @@ zero-product s t u m n w e d g z =
 
 -- ---- a product that is not zero, and a zero added
 alone : (s t : Bool) (a c : ℕ) → 0 < a → sum binary64 s a t 0 c ≡ round binary64 s a c
-alone true true a c h = sum-like binary64 true true a 0 c refl ∙ ap (λ (x : ℕ). round binary64 true x c) (add-zero a)
-alone false false a c h = sum-like binary64 false false a 0 c refl ∙ ap (λ (x : ℕ). round binary64 false x c) (add-zero a)
-alone true false a c h = sum-first binary64 true false a 0 c refl h ∙ ap (λ (x : ℕ). round binary64 true x c) (sub-zero a)
-alone false true a c h = sum-first binary64 false true a 0 c refl h ∙ ap (λ (x : ℕ). round binary64 false x c) (sub-zero a)
+alone s t a c h = sum-comm binary64 s t a 0 c ∙ sum-of-one t s a c h
 
-plus-zero : (s t u : Bool) (m n w : ℕ) (e d g : ℤ) → 0 < m * up e * (n * up d) → w ≡ 0 → mul binary64 (fin s m e) (fin t n d) ≡ fma binary64 (fin s m e) (fin t n d) (fin u w g)
-plus-zero s t u m n w e d g h z =
+product-alone : (s t u : Bool) (m n w : ℕ) (e d g : ℤ) → 0 < m * up e * (n * up d) → w ≡ 0 → mul binary64 (fin s m e) (fin t n d) ≡ fma binary64 (fin s m e) (fin t n d) (fin u w g)
+product-alone s t u m n w e d g h z =
     let D = down e * down d in
     let P = m * up e * (n * up d) in
     mul-rounds binary64 (fin s m e) (fin t n d) s t (m * up e) (down e) (n * up d) (down d) (down-pos e) (down-pos d) (own s m e) (own t n d)
@@ -168,7 +159,7 @@ third-zero (fin s m e) (inf t) z f g h q = absurd g
 third-zero (fin s m e) (fin t n d) nan f g h q = absurd h
 third-zero (fin s m e) (fin t n d) (inf u) f g h q = absurd h
 third-zero (fin s m e) (fin t n d) (fin u w k) f g h q =
-    plus-zero s t u m n w e d k (mul-pos (mul-pos (ltb→lt 0 m f) (up-pos e)) (mul-pos (ltb→lt 0 n g) (up-pos d))) (is-zero u w k q)
+    product-alone s t u m n w e d k (mul-pos (mul-pos (ltb→lt 0 m f) (up-pos e)) (mul-pos (ltb→lt 0 n g) (up-pos d))) (is-zero u w k q)
 
 -- ---- where something is not finite
 pub third-wild : (x y z : Float) → T (finite x) → T (finite y) → false ≡ finite z → z ≡ fma binary64 x y z

@@ -9,7 +9,7 @@ use lib.Ieee.{Float, nan, inf, fin, binary64, up, down, unlike, round, neg, add,
 use lib.Ieee.Fits.{down-pos}
 use lib.Ieee.Scale.{finite}
 use Rattle.exact.specs.Doubles.{zeroOf}
-use Rattle.exact.proofs.Zeros.{round-zero, add-comm, zeros-plus, zero-plus-some}
+use Rattle.exact.proofs.Zeros.{round-zero, add-comm, two-zeros, zero-and-some}
 use Rattle.iir.specs.Alike.{Alike, same, zeros}
 
 pub alike-by : {x y x' y' : Float} → x ≡ x' → y ≡ y' → Alike x' y' → Alike x y
@@ -27,9 +27,9 @@ unfolding add
 zero-first s s' nan = same
 zero-first s s' (inf t) = same
 zero-first s s' (fin t zero d) =
-    alike-by (zeros-plus s t d) (zeros-plus s' t d) zeros
+    alike-by (two-zeros s t d) (two-zeros s' t d) zeros
 zero-first s s' (fin t (suc n) d) =
-    alike-by (zero-plus-some s t n d) (zero-plus-some s' t n d) same
+    alike-by (zero-and-some s t n d) (zero-and-some s' t n d) same
 
 -- ---- the operations
 

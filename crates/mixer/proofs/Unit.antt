@@ -14,7 +14,7 @@ use Rattle.exact.specs.Doubles.{nought, minusNought, one, zeroOf, besideZero, p
 use Rattle.exact.specs.Value.{signOf}
 use Rattle.exact.proofs.Truth.{like-plus}
 use Rattle.exact.proofs.Unit.{one-times}
-use Rattle.exact.proofs.Zeros.{add-comm, zero-plus, plus-zero, plus-minus, beside-fits, beside-plain, beside-minus, beside-either, nought-times, nought-times-wild}
+use Rattle.exact.proofs.Zeros.{add-comm, beside-zero, plus-zero, plus-minus, beside-fits, beside-plain, beside-minus, beside-either, nought-times, nought-times-wild}
 use Rattle.fma.specs.Fused.{fma}
 use Rattle.fma.proofs.Fusing.{at-zero, first-zero, second-zero, third-zero, second-wild, third-wild, fma-fits}
 use Rattle.quant.specs.declared.refusal.Answer.{Answer}
@@ -33,7 +33,7 @@ one-and-zero s nan f = refl
 one-and-zero s (inf t) f = ap inf (like-plus t)
 one-and-zero s (fin t zero d) f =
     let x = fin t zero d in
-    sym (second-zero one x (zeroOf s) tt tt tt (at-zero t d)) ∙ ap (λ (y : Float). add binary64 y (zeroOf s)) (one-times x f) ∙ add-comm x (zeroOf s) ∙ zero-plus s x f
+    sym (second-zero one x (zeroOf s) tt tt tt (at-zero t d)) ∙ ap (λ (y : Float). add binary64 y (zeroOf s)) (one-times x f) ∙ add-comm x (zeroOf s) ∙ beside-zero s x f
 one-and-zero s (fin t (suc n) d) f =
     let x = fin t (suc n) d in
     sym (third-zero one x (zeroOf s) tt (lt→ltb 0 (suc n) (zero-lt-suc n)) tt (at-zero s _)) ∙ one-times x f
@@ -44,7 +44,7 @@ zero-and-one x nan h f = sym (third-wild nought x nan tt h refl)
 zero-and-one x (inf t) h f = sym (third-wild nought x (inf t) tt h refl)
 zero-and-one x (fin t n d) h f =
     let y = fin t n d in
-    sym (first-zero nought x y tt h tt (at-zero false _)) ∙ ap (λ (z : Float). add binary64 z y) (nought-times x h) ∙ zero-plus (signOf x) y f
+    sym (first-zero nought x y tt h tt (at-zero false _)) ∙ ap (λ (z : Float). add binary64 z y) (nought-times x h) ∙ beside-zero (signOf x) y f
 
 plus-nan : (x : Float) → add binary64 x nan ≡ nan
 unfolding add
@@ -145,7 +145,7 @@ either-zero s (fin false zero d) o f g h = ap (λ (z : Float). add binary64 z o)
     plus true = refl
     plus false = refl
 either-zero s (fin true zero d) o f g h =
-    zero-plus (s && true) o g ∙ beside-either (s && true) true o g (h (sym (beside-minus (fin true zero d) f))) ∙ sym (zero-plus true o g) ∙ ap (λ (z : Float). add binary64 z o) (beside-minus (fin true zero d) f)
+    beside-zero (s && true) o g ∙ beside-either (s && true) true o g (h (sym (beside-minus (fin true zero d) f))) ∙ sym (beside-zero true o g) ∙ ap (λ (z : Float). add binary64 z o) (beside-minus (fin true zero d) f)
 
 module _ (o x y : Float) where
   pub offset-alone : T (fits binary64 x) → T (fits binary64 o) → T (finite y) → (x ≡ minusNought → o ≡ minusNought → ⊥) → corrected one nought o x y ≡ add binary64 x o

@@ -39,9 +39,9 @@ module _ (r : Answer) (i' q' : List Float) where
   offset-behind h = (h .first, h .second)
 
   -- one that reads the matrix by columns
-  pub by-rows : Corrects nought one (nought ∷ one ∷ nought ∷ nought ∷ []) noOffsets → (i' ≡ one ∷ []) × (q' ≡ nought ∷ [])
+  pub rows-not-columns : Corrects nought one (nought ∷ one ∷ nought ∷ nought ∷ []) noOffsets → (i' ≡ one ∷ []) × (q' ≡ nought ∷ [])
   unfolding mixerFits correctedRow fma add mul sum round units odd allFinite ofBits
-  by-rows h = (h .first, h .second)
+  rows-not-columns h = (h .first, h .second)
 
   -- one that makes the new Q of the new I
   pub from-old-first : Corrects nought nought (nought ∷ nought ∷ one ∷ nought ∷ []) (one ∷ nought ∷ []) → (i' ≡ one ∷ []) × (q' ≡ nought ∷ [])
@@ -69,6 +69,6 @@ module _ (r : Answer) (i' q' : List Float) where
   sizes-first h = (h .answer, h .first, h .second)
 
   -- one that still offsets one row
-  pub two-rows : Mixer 1 (nought ∷ []) [] unitMatrix (one ∷ []) r i' q' → (r ≡ Refused WrongSize 0) × (i' ≡ nought ∷ [])
+  pub one-row-refused : Mixer 1 (nought ∷ []) [] unitMatrix (one ∷ []) r i' q' → (r ≡ Refused WrongSize 0) × (i' ≡ nought ∷ [])
   unfolding mixerFits allFinite ofBits
-  two-rows h = (h .answer, h .first)
+  one-row-refused h = (h .answer, h .first)

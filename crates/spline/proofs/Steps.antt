@@ -13,7 +13,7 @@ use lib.Ieee.{Float, nan, inf, fin, binary64, ofBits, round, units, odd, sum, ad
 use lib.Ieee.Exact.{HasValue}
 use lib.Ieee.Fits.{up-pos, down-pos, sub-fits}
 use lib.Ieee.Scale.{finite, round-same}
-use Rattle.exact.specs.Doubles.{nought, one}
+use Rattle.exact.specs.Doubles.{nought, one, zeroOf}
 use Rattle.exact.specs.Signed.{Signed, Same, signed}
 use Rattle.exact.specs.Value.{Units, signOf, unitsOf}
 use Rattle.exact.proofs.Few.{few-of, few-value, units-below}
@@ -24,7 +24,8 @@ use Rattle.exact.proofs.Value.{own, units-are}
 use Rattle.spline.specs.Spline.{alphaOf, share, blendOf}
 use Rattle.spline.proofs.Equal.{eq-is}
 use Rattle.spline.proofs.Places.{Number, value-of, place, Less, placed}
-use Rattle.spline.proofs.Zeros.{none, none-value, round-zero, nought-is, none-is-nought, none-times, same-difference}
+use Rattle.exact.proofs.Zeros.{round-zero, none-times}
+use Rattle.spline.proofs.Zeros.{none-value, nought-is, none-is-nought, same-difference}
 use Rattle.spline.proofs.Zeros.{one-less-none, one-less-one, one-units, sum-nothing}
 
 -- ---- what is a number a, and a zero
@@ -35,14 +36,14 @@ module _ (a y : Float) (z : Bool) (A : Number a) (v : Units y (signOf a) (unitsO
       let value : Units x (w .0) (unitsOf a) = subst (λ (q : Float). Units q (w .0) (unitsOf a)) (sym e) (w .1) in
       subst (λ (p : Signed). Same p (place a)) (sym (placed x (w .0) (unitsOf a) value)) (w .2)
 
-  plus-none : Same (place (add binary64 y (none z))) (place a)
+  plus-none : Same (place (add binary64 y (zeroOf z))) (place a)
   plus-none =
-      added (add binary64 y (none z)) (add-rounds binary64 y (none z) (signOf a) z (unitsOf a) 0 (2 ^ 1074) (pow-pos 1074) v (none-value z (2 ^ 1074)))
+      added (add binary64 y (zeroOf z)) (add-rounds binary64 y (zeroOf z) (signOf a) z (unitsOf a) 0 (2 ^ 1074) (pow-pos 1074) v (none-value z (2 ^ 1074)))
 
-  none-plus : Same (place (add binary64 (none z) y)) (place a)
+  none-plus : Same (place (add binary64 (zeroOf z) y)) (place a)
   none-plus =
-      added (add binary64 (none z) y)
-      (add-rounds binary64 (none z) y z (signOf a) 0 (unitsOf a) (2 ^ 1074) (pow-pos 1074) (none-value z (2 ^ 1074)) v
+      added (add binary64 (zeroOf z) y)
+      (add-rounds binary64 (zeroOf z) y z (signOf a) 0 (unitsOf a) (2 ^ 1074) (pow-pos 1074) (none-value z (2 ^ 1074)) v
       ∙ sum-comm binary64 z (signOf a) 0 (unitsOf a) (2 ^ 1074))
 
 -- ---- the difference of two numbers
@@ -63,7 +64,7 @@ empty s e =
     eq-is (fin s zero e) nought s false 0 0 1 (lit< tt) (refl, ap (λ (n : ℕ). n * 1) (zero-mul (up e)) ∙ sym (zero-mul (down e))) (nought-value 1)
     ∙ or-true (Bool·beq s false)
 
-none-quotient : (s : Bool) (w : Float) → T (finite w) → eq w nought ≡ false → div binary64 (none s) w ≡ none (unlike s (signOf w))
+none-quotient : (s : Bool) (w : Float) → T (finite w) → eq w nought ≡ false → div binary64 (zeroOf s) w ≡ zeroOf (unlike s (signOf w))
 unfolding div
 none-quotient s nan t e = absurd t
 none-quotient s (inf u) t e = absurd t
@@ -74,18 +75,18 @@ none-quotient s (fin u (suc n) d) t e =
     ∙ round-zero (unlike s u) (suc n * up d * 1) (mul-pos (mul-pos (zero-lt-suc n) (up-pos d)) (lit< tt)))
 
 -- a zero over a finite number, or over a zero
-none-over : (s : Bool) (w : Float) → T (finite w) → (z : Bool) × (alphaOf (none s) w ≡ none z)
+none-over : (s : Bool) (w : Float) → T (finite w) → (z : Bool) × (alphaOf (zeroOf s) w ≡ zeroOf z)
 none-over s w t = by (eq w nought) refl
   where
-    first : alphaOf (none s) w ≡ cond (eq w nought) nought (div binary64 (none s) w)
-    first = ap (λ (b : Bool). cond (b && eq w nought) nought (div binary64 (none s) w)) (none-is-nought s)
+    first : alphaOf (zeroOf s) w ≡ cond (eq w nought) nought (div binary64 (zeroOf s) w)
+    first = ap (λ (b : Bool). cond (b && eq w nought) nought (div binary64 (zeroOf s) w)) (none-is-nought s)
 
-    by : (b : Bool) → eq w nought ≡ b → (z : Bool) × (alphaOf (none s) w ≡ none z)
-    by true e = (false, first ∙ ap (λ (b : Bool). cond b nought (div binary64 (none s) w)) e ∙ nought-is)
-    by false e = (unlike s (signOf w), first ∙ ap (λ (b : Bool). cond b nought (div binary64 (none s) w)) e ∙ none-quotient s w t e)
+    by : (b : Bool) → eq w nought ≡ b → (z : Bool) × (alphaOf (zeroOf s) w ≡ zeroOf z)
+    by true e = (false, first ∙ ap (λ (b : Bool). cond b nought (div binary64 (zeroOf s) w)) e ∙ nought-is)
+    by false e = (unlike s (signOf w), first ∙ ap (λ (b : Bool). cond b nought (div binary64 (zeroOf s) w)) e ∙ none-quotient s w t e)
 
 module _ (x lo hi a b : Float) (X : Number x) (L : Number lo) (A : Number a) (B : T (finite b)) where
-  share-none : T (finite (sub binary64 hi lo)) → Same (place x) (place lo) → (z : Bool) × (share x lo hi ≡ none z)
+  share-none : T (finite (sub binary64 hi lo)) → Same (place x) (place lo) → (z : Bool) × (share x lo hi ≡ zeroOf z)
   share-none t e =
       let d = same-difference (signOf x) (signOf lo) (unitsOf x) (unitsOf lo) (2 ^ 1074) (pow-pos 1074) e in
       let q = none-over (d .0) (sub binary64 hi lo) t in
@@ -95,7 +96,7 @@ module _ (x lo hi a b : Float) (X : Number x) (L : Number lo) (A : Number a) (B 
   unfolding blendOf
   left-step t e =
       let q = share-none t e in
-      let is : blendOf x lo hi a b ≡ add binary64 (mul binary64 one a) (none (unlike (q .0) (signOf b))) =
+      let is : blendOf x lo hi a b ≡ add binary64 (mul binary64 one a) (zeroOf (unlike (q .0) (signOf b))) =
       (λ i. add binary64 (mul binary64 (sub binary64 one (q .1 i)) a) (mul binary64 (q .1 i) b))
       ∙ (λ i. add binary64 (mul binary64 (one-less-none (q .0) i) a) (none-times (q .0) b B i)) in
       subst (λ (y : Float). Same (place y) (place a)) (sym is) (plus-none a (mul binary64 one a) (unlike (q .0) (signOf b)) A (one-units a A))
@@ -172,7 +173,7 @@ module _ (x lo hi a b : Float) (X : Number x) (L : Number lo) (H : Number hi) (A
   unfolding blendOf
   right-step t e l =
       let q = share-one t e l in
-      let is : blendOf x lo hi a b ≡ add binary64 (none (unlike false (signOf a))) (mul binary64 one b) =
+      let is : blendOf x lo hi a b ≡ add binary64 (zeroOf (unlike false (signOf a))) (mul binary64 one b) =
       (λ i. add binary64 (mul binary64 (sub binary64 one (q i)) a) (mul binary64 (q i) b))
       ∙ ap (λ (y : Float). add binary64 (mul binary64 y a) (mul binary64 one b)) one-less-one
       ∙ ap (λ (y : Float). add binary64 y (mul binary64 one b)) (none-times false a A) in

@@ -2,63 +2,41 @@
 use mathlib.Core.Path.{_≡_, refl, sym, ap, _∙_, subst}
 use mathlib.Core.Logic.{inl, inr}
 use mathlib.Core.Bool.{Bool, true, false, not}
-use Prim.Native.Nat.{ℕ, _+_, _-_, _*_, _^_, _<_}
-use native.Mathlib.Nat.{eq-zero-or-pos, mul-pos, zero-mul, add-zero, sub-zero}
+use Prim.Native.Nat.{ℕ, _+_, _-_, _^_, _<_}
+use native.Mathlib.Nat.{eq-zero-or-pos, zero-mul, add-zero, sub-zero}
 use native.Mathlib.Omega.{arith}
-use lib.Dec.{T, lit<}
-use lib.IntN.{pos}
 use lib.Pow.{pow-pos}
-use lib.Ieee.{Float, nan, inf, fin, binary64, ofBits, round, units, odd, sum, add, sub, neg, mul, eq, up, down, unlike}
+use lib.Ieee.{Float, binary64, ofBits, round, units, odd, sum, add, sub, neg, mul, eq}
 use lib.Ieee.Exact.{HasValue}
-use lib.Ieee.Fits.{down-pos}
-use lib.Ieee.Scale.{finite, round-same}
-use Rattle.exact.specs.Doubles.{nought, one}
+use Rattle.exact.specs.Doubles.{nought, one, zeroOf}
 use Rattle.exact.specs.Signed.{Same, signed}
 use Rattle.exact.specs.Value.{Units, signOf, unitsOf}
 use Rattle.exact.proofs.Few.{Few, few-value}
 use Rattle.exact.proofs.Sum.{sum-like, sum-first, sum-none}
 use Rattle.exact.proofs.Unit.{one-times}
+use Rattle.exact.proofs.Zeros.{round-zero}
 use Rattle.spline.proofs.Places.{Number, value-of}
 
 -- ---- the zeros
-abbrev pub none : Bool → Float
-none s = fin s 0 (pos 0)
-
-pub none-value : (s : Bool) (c : ℕ) → HasValue (none s) s 0 c
+pub none-value : (s : Bool) (c : ℕ) → HasValue (zeroOf s) s 0 c
 none-value s c = (refl, zero-mul c)
 
-pub round-zero : (s : Bool) (c : ℕ) → 0 < c → round binary64 s 0 c ≡ none s
-round-zero s c C = round-same binary64 s 0 c 0 1 C (lit< tt) (zero-mul 1 ∙ sym (zero-mul c)) ∙ by s
-  where
-    by : (s : Bool) → round binary64 s 0 1 ≡ none s
-    by true = unfold round units odd in refl
-    by false = unfold round units odd in refl
-
-pub nought-is : nought ≡ none false
+pub nought-is : nought ≡ zeroOf false
 unfolding ofBits
 nought-is = refl
 
-pub none-is-nought : (s : Bool) → eq (none s) nought ≡ true
+pub none-is-nought : (s : Bool) → eq (zeroOf s) nought ≡ true
 unfolding eq ofBits
 none-is-nought true = refl
 none-is-nought false = refl
 
--- ---- a zero times a finite number is a zero
-pub none-times : (s : Bool) (b : Float) → T (finite b) → mul binary64 (none s) b ≡ none (unlike s (signOf b))
-unfolding mul
-none-times s nan t = absurd t
-none-times s (inf u) t = absurd t
-none-times s (fin u n d) t =
-    ap (λ (k : ℕ). round binary64 (unlike s u) k (1 * down d)) (zero-mul (n * up d))
-    ∙ round-zero (unlike s u) (1 * down d) (mul-pos (lit< tt) (down-pos d))
-
 -- ---- 1 less a zero is 1, and 1 less 1 is +0
-pub one-less-none : (s : Bool) → sub binary64 one (none s) ≡ one
+pub one-less-none : (s : Bool) → sub binary64 one (zeroOf s) ≡ one
 unfolding sub add neg sum round units odd ofBits
 one-less-none true = refl
 one-less-none false = refl
 
-pub one-less-one : sub binary64 one one ≡ none false
+pub one-less-one : sub binary64 one one ≡ zeroOf false
 unfolding sub add neg sum round units odd ofBits
 one-less-one = refl
 
@@ -67,7 +45,7 @@ pub one-units : (a : Float) → Number a → Units (mul binary64 one a) (signOf 
 one-units a A = subst (λ (z : Float). Units z (signOf a) (unitsOf a)) (sym (one-times a (A .fit))) (value-of a A)
 
 -- ---- equal numbers differ by a zero
-pub same-difference : (s u : Bool) (a d c : ℕ) → 0 < c → Same (signed s a) (signed u d) → (z : Bool) × (sum binary64 s a (not u) d c ≡ none z)
+pub same-difference : (s u : Bool) (a d c : ℕ) → 0 < c → Same (signed s a) (signed u d) → (z : Bool) × (sum binary64 s a (not u) d c ≡ zeroOf z)
 same-difference false false a d c C e = (false, sum-none binary64 false true a d c refl (omega arith) ∙ round-zero false c C)
 same-difference true true a d c C e = (false, sum-none binary64 true false a d c refl (omega arith) ∙ round-zero false c C)
 same-difference false true a d c C e =
@@ -86,7 +64,7 @@ sum-nothing s t n f l =
       | inr h ↦ (s, subst (λ (z : Float). Units z s n) (sym (kept s t h)) (few-value s n f l), refl)
     ]
   where
-    zeros : (s t : Bool) → (u : Bool) × (sum binary64 s 0 t 0 (2 ^ 1074) ≡ none u)
+    zeros : (s t : Bool) → (u : Bool) × (sum binary64 s 0 t 0 (2 ^ 1074) ≡ zeroOf u)
     zeros false false = same-difference false true 0 0 (2 ^ 1074) (pow-pos 1074) refl
     zeros true true = same-difference true false 0 0 (2 ^ 1074) (pow-pos 1074) refl
     zeros false true = same-difference false false 0 0 (2 ^ 1074) (pow-pos 1074) refl
@@ -107,5 +85,5 @@ sum-nothing s t n f l =
     at-zero : n ≡ 0 → (u : Bool) × Units (sum binary64 s n t 0 (2 ^ 1074)) u n × Same (signed u n) (signed s n)
     at-zero z =
         let w = zeros s t in
-        let is : sum binary64 s n t 0 (2 ^ 1074) ≡ none (w .0) = ap (λ (m : ℕ). sum binary64 s m t 0 (2 ^ 1074)) z ∙ w .1 in
+        let is : sum binary64 s n t 0 (2 ^ 1074) ≡ zeroOf (w .0) = ap (λ (m : ℕ). sum binary64 s m t 0 (2 ^ 1074)) z ∙ w .1 in
         (w .0, subst (λ (y : Float). Units y (w .0) n) (sym is) (rw z (none-value (w .0) (2 ^ 1074))), same (w .0) s z)

@@ -124,17 +124,17 @@ returns c =
 less-requires : tie.Need-less-requires
 less-requires c κs = search needs
 
--- x < j
-up-is : (c : tie.Then2) → x (c .before .before .before) < j (c .before .before .before)
-up-is c = let l = c .before .less in let a = c .before .before .before in yes (l .result) (x a) (j a) (l .ensures) (c .if2 .taken)
+-- j < x
+down-is : (c : tie.Then2) → j (c .before .before .before) < x (c .before .before .before)
+down-is c = let l = c .before .less in let a = c .before .before .before in yes (l .result) (j a) (x a) (l .ensures) (c .if2 .taken)
 
 sub-requires : tie.Need-sub-requires
-sub-requires c κs = le-of-lt (up-is c)
+sub-requires c κs = le-of-lt (down-is c)
 
 finish-requires-2 : tie.Need-finish-requires-2
 finish-requires-2 c κs =
     let a = c .before .before .before .before in
-    (subst (λ (n : ℕ). 0 < n) (sym (c .sub .ensures)) (less-by (j a) (x a) (up-is (c .before))), s a .pre .e-low, s a .pre .e-high)
+    (subst (λ (n : ℕ). 0 < n) (sym (c .sub .ensures)) (less-by (x a) (j a) (down-is (c .before))), s a .pre .e-low, s a .pre .e-high)
 
 returns-2 : tie.Need-returns-2
 returns-2 c =
@@ -142,24 +142,24 @@ returns-2 c =
     let g = s a .args in
     let X = x a * 2 ^ e a in
     let Y = y a * 2 ^ (e a - d a) in
-    let h = up-is (c .before .before) in
-    c .finish2 .ensures (Y - X) (subst (λ (n : ℕ). Whole n (e a) (Y - X)) (sym (c .before .sub .ensures)) (up-whole a h))
-    ∙ sym (sum-second binary64 (g .nx) (g .ny) X Y (2 ^ 2272) (c .before .before .before .before .if1 .left) (up-order a h))
+    let h = down-is (c .before .before) in
+    c .finish2 .ensures (X - Y) (subst (λ (n : ℕ). Whole n (e a) (X - Y)) (sym (c .before .sub .ensures)) (down-whole a h))
+    ∙ sym (sum-first binary64 (g .nx) (g .ny) X Y (2 ^ 2272) (c .before .before .before .before .if1 .left) (down-order a h))
 
 less-requires-2 : tie.Need-less-requires-2
 less-requires-2 c κs = search needs
 
--- j < x
-down-is : (c : tie.Then3) → j (c .before .before .before .before .before) < x (c .before .before .before .before .before)
-down-is c = let l = c .before .less2 in let a = c .before .before .before .before .before in yes (l .result) (j a) (x a) (l .ensures) (c .if3 .taken)
+-- x < j
+up-is : (c : tie.Then3) → x (c .before .before .before .before .before) < j (c .before .before .before .before .before)
+up-is c = let l = c .before .less2 in let a = c .before .before .before .before .before in yes (l .result) (x a) (j a) (l .ensures) (c .if3 .taken)
 
 sub-requires-2 : tie.Need-sub-requires-2
-sub-requires-2 c κs = le-of-lt (down-is c)
+sub-requires-2 c κs = le-of-lt (up-is c)
 
 finish-requires-3 : tie.Need-finish-requires-3
 finish-requires-3 c κs =
     let a = c .before .before .before .before .before .before in
-    (subst (λ (n : ℕ). 0 < n) (sym (c .sub2 .ensures)) (less-by (x a) (j a) (down-is (c .before))), s a .pre .e-low, s a .pre .e-high)
+    (subst (λ (n : ℕ). 0 < n) (sym (c .sub2 .ensures)) (less-by (j a) (x a) (up-is (c .before))), s a .pre .e-low, s a .pre .e-high)
 
 returns-3 : tie.Need-returns-3
 returns-3 c =
@@ -167,17 +167,17 @@ returns-3 c =
     let g = s a .args in
     let X = x a * 2 ^ e a in
     let Y = y a * 2 ^ (e a - d a) in
-    let h = down-is (c .before .before) in
-    c .finish3 .ensures (X - Y) (subst (λ (n : ℕ). Whole n (e a) (X - Y)) (sym (c .before .sub2 .ensures)) (down-whole a h))
-    ∙ sym (sum-first binary64 (g .nx) (g .ny) X Y (2 ^ 2272) (c .before .before .before .before .before .before .if1 .left) (down-order a h))
+    let h = up-is (c .before .before) in
+    c .finish3 .ensures (Y - X) (subst (λ (n : ℕ). Whole n (e a) (Y - X)) (sym (c .before .sub2 .ensures)) (up-whole a h))
+    ∙ sym (sum-second binary64 (g .nx) (g .ny) X Y (2 ^ 2272) (c .before .before .before .before .before .before .if1 .left) (up-order a h))
 
 returns-4 : tie.Need-returns-4
 returns-4 c =
     let a = c .before .before .before .before .before in
     let g = s a .args in
-    let l = c .before .less2 in
-    let m = c .before .before .before .less in
-    let h : x a ≡ j a = le-antisymm (not-yes (l .result) (j a) (x a) (l .ensures) (c .if3 .left)) (not-yes (m .result) (x a) (j a) (m .ensures) (c .before .before .if2 .left)) in
+    let l = c .before .before .before .less in
+    let m = c .before .less2 in
+    let h : x a ≡ j a = le-antisymm (not-yes (l .result) (j a) (x a) (l .ensures) (c .before .before .if2 .left)) (not-yes (m .result) (x a) (j a) (m .ensures) (c .if3 .left)) in
     zero-is
     ∙ sym (sum-none binary64 (g .nx) (g .ny) (x a * 2 ^ e a) (y a * 2 ^ (e a - d a)) (2 ^ 2272) (c .before .before .before .before .if1 .left) (same-order a h))
 
