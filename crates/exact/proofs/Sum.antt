@@ -6,6 +6,7 @@ use native.Mathlib.Nat.{le-of-eq, le-of-lt, le-antisymm, not-le-of-lt, add-mul, 
 use lib.Dec.{T, ltb, ltb→lt, nltb→le}
 use lib.Ieee.{Float, Format, round, sum}
 use lib.Ieee.Scale.{round-same}
+use Rattle.exact.proofs.Truth.{and-true, and-false}
 use Rattle.exact.proofs.Order.{ltb-yes, ltb-no}
 use Rattle.exact.proofs.Naturals.{ltb-cross, cross-sub}
 
@@ -16,14 +17,6 @@ unlikeSum f s t a b c x y = cond x (round f t (b - a) c) (round f (s && y) (a - 
 sum-is : (f : Format) (s t : Bool) (a b c : ℕ) → sum f s a t b c ≡ cond (Bool·beq s t) (round f s (a + b) c) (unlikeSum f s t a b c (ltb a b) (ltb b a))
 unfolding sum
 sum-is f s t a b c = refl
-
-and-true : (s : Bool) → (s && true) ≡ s
-and-true true = refl
-and-true false = refl
-
-and-false : (s : Bool) → (s && false) ≡ false
-and-false true = refl
-and-false false = refl
 
 -- ---- which way it goes
 module _ (f : Format) (s t : Bool) (a b c : ℕ) where

@@ -37,6 +37,14 @@ number-if-finite nan e = absurd (true≢false (sym e))
 number-if-finite (inf s) e = tt
 number-if-finite (fin s m k) e = tt
 
+pub and-true : (s : Bool) → (s && true) ≡ s
+and-true true = refl
+and-true false = refl
+
+pub and-false : (s : Bool) → (s && false) ≡ false
+and-false true = refl
+and-false false = refl
+
 -- times a plus sign, and a plus sign times another
 pub like-false : (s : Bool) → unlike s false ≡ s
 like-false true = refl

@@ -13,7 +13,7 @@ use Rattle.exact.specs.Doubles.{nought, minusNought, zeroOf, besideZero,
 use Rattle.exact.specs.Value.{signOf, unitsOf}
 use Rattle.exact.proofs.Sum.{sum-like, sum-second, sum-none, sum-comm}
 use Rattle.exact.proofs.Unit.{rounds-back}
-use Rattle.exact.proofs.Truth.{like-plus}
+use Rattle.exact.proofs.Truth.{and-false, like-plus}
 use Rattle.exact.proofs.Value.{own, unique}
 
 pub round-zero : (s : Bool) (c : ℕ) → 0 < c → round binary64 s 0 c ≡ zeroOf s
@@ -108,11 +108,7 @@ unfolding ofBits
 beside-either s t nan f h = refl
 beside-either s t (inf u) f h = refl
 beside-either s t (fin true zero d) f h = absurd (h (sym (zero-is true d f)))
-beside-either s t (fin false zero d) f h = ap zeroOf (plus s ∙ sym (plus t))
-  where
-    plus : (u : Bool) → (u && false) ≡ false
-    plus true = refl
-    plus false = refl
+beside-either s t (fin false zero d) f h = ap zeroOf (and-false s ∙ sym (and-false t))
 beside-either s t (fin u (suc n) d) f h = refl
 
 pub plus-minus : (x : Float) → T (fits binary64 x) → add binary64 x minusNought ≡ x

@@ -12,7 +12,7 @@ use lib.Ieee.{Float, nan, inf, fin, binary64, add, mul, fits, ofBits}
 use lib.Ieee.Scale.{finite}
 use Rattle.exact.specs.Doubles.{nought, minusNought, one, zeroOf, besideZero, plainZero}
 use Rattle.exact.specs.Value.{signOf}
-use Rattle.exact.proofs.Truth.{like-plus}
+use Rattle.exact.proofs.Truth.{and-false, like-plus}
 use Rattle.exact.proofs.Unit.{one-times}
 use Rattle.exact.proofs.Zeros.{add-comm, beside-zero, plus-zero, plus-minus, beside-fits, beside-plain, beside-minus, beside-either, nought-times, nought-times-wild}
 use Rattle.fma.specs.Fused.{fma}
@@ -75,9 +75,9 @@ module _ (x y : Float) where
 plain : (s : Bool) (x v : Float) → T (fits binary64 x) → v ≡ besideZero s x → add binary64 v nought ≡ plainZero x
 plain s x v f e = ap (λ (z : Float). add binary64 z nought) e ∙ plus-zero (besideZero s x) (beside-fits s x f) ∙ beside-plain s x
 
-lost : (v : Float) → v ≡ nan → add binary64 v nought ≡ nan
+lost : (v o : Float) → v ≡ nan → add binary64 v o ≡ nan
 unfolding add
-lost v e = ap (λ (z : Float). add binary64 z nought) e
+lost v o e = ap (λ (z : Float). add binary64 z o) e
 
 module _ (x y : Float) where
   pub first-sample : T (fits binary64 x) → corrected one nought nought x y ≡ unitSample x y
@@ -85,14 +85,14 @@ module _ (x y : Float) where
     where
       by : (b : Bool) → finite y ≡ b → corrected one nought nought x y ≡ cond b (plainZero x) nan
       by true e = plain (signOf y) x (mixed one nought x y) f (unit-first x y f (subst T (sym e) tt))
-      by false e = lost (mixed one nought x y) (wild-first x y e)
+      by false e = lost (mixed one nought x y) nought (wild-first x y e)
 
   pub second-sample : T (fits binary64 y) → corrected nought one nought x y ≡ unitSample y x
   second-sample f = by (finite x) refl
     where
       by : (b : Bool) → finite x ≡ b → corrected nought one nought x y ≡ cond b (plainZero y) nan
       by true e = plain (signOf x) y (mixed nought one x y) f (unit-second x y (subst T (sym e) tt) f)
-      by false e = lost (mixed nought one x y) (wild-second x y e)
+      by false e = lost (mixed nought one x y) nought (wild-second x y e)
 
   -- beside a finite neighbour every sample but -0 stays, bit for bit: every finite one, infinities and NaN
   pub sample-stays : T (fits binary64 x) → finite y ≡ true → (x ≡ minusNought → ⊥) → unitSample x y ≡ x
@@ -133,17 +133,13 @@ module _ (m n x y : Float) where
   pub matrix-alone-plain : corrected m n nought x y ≡ plainZero (mixed m n x y)
   matrix-alone-plain = plus-zero (mixed m n x y) (fma-fits m x (mul binary64 n y))
 
--- the offset: the unit matrix leaves what it gave, beside a finite neighbour, unless sample and offset are both -0
+-- the offset: the unit matrix leaves what it gave, beside a finite neighbour, unless sample and offset are both -0; beside any other it is NaN
 either-zero : (s : Bool) (x o : Float) → T (fits binary64 x) → T (fits binary64 o) → (x ≡ minusNought → o ≡ minusNought → ⊥) → add binary64 (besideZero s x) o ≡ add binary64 x o
 unfolding ofBits
 either-zero s nan o f g h = refl
 either-zero s (inf t) o f g h = refl
 either-zero s (fin t (suc n) d) o f g h = refl
-either-zero s (fin false zero d) o f g h = ap (λ (z : Float). add binary64 z o) (ap zeroOf (plus s) ∙ beside-minus (fin false zero d) f)
-  where
-    plus : (u : Bool) → (u && false) ≡ false
-    plus true = refl
-    plus false = refl
+either-zero s (fin false zero d) o f g h = ap (λ (z : Float). add binary64 z o) (ap zeroOf (and-false s) ∙ beside-minus (fin false zero d) f)
 either-zero s (fin true zero d) o f g h =
     beside-zero (s && true) o g ∙ beside-either (s && true) true o g (h (sym (beside-minus (fin true zero d) f))) ∙ sym (beside-zero true o g) ∙ ap (λ (z : Float). add binary64 z o) (beside-minus (fin true zero d) f)
 
@@ -153,3 +149,9 @@ module _ (o x y : Float) where
 
   pub offset-alone-second : T (finite x) → T (fits binary64 y) → T (fits binary64 o) → (y ≡ minusNought → o ≡ minusNought → ⊥) → corrected nought one o x y ≡ add binary64 y o
   offset-alone-second h f g other = ap (λ (z : Float). add binary64 z o) (unit-second x y h f) ∙ either-zero (signOf x) y o f g other
+
+  pub offset-lost : finite y ≡ false → corrected one nought o x y ≡ nan
+  offset-lost h = lost (mixed one nought x y) o (wild-first x y h)
+
+  pub offset-lost-second : finite x ≡ false → corrected nought one o x y ≡ nan
+  offset-lost-second h = lost (mixed nought one x y) o (wild-second x y h)

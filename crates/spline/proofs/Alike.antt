@@ -7,6 +7,7 @@ use native.Mathlib.Nat.{le-of-suc-le-suc, not-suc-le-zero, suc-ne-zero, suc-inj}
 use native.Mathlib.Numerals.{add-one}
 use lib.ListN.{length, drop, getD}
 use lib.Ieee.{Float, nan, eq}
+use Rattle.exact.proofs.Truth.{and-false}
 use Rattle.spline.specs.Same.{sameNumbers}
 
 pub unlike-lengths : (l m : List Float) → (length l ≡ length m → ⊥) → sameNumbers l m ≡ false
@@ -14,11 +15,7 @@ unfolding sameNumbers
 unlike-lengths [] [] h = absurd (h refl)
 unlike-lengths [] (b ∷ m) h = refl
 unlike-lengths (a ∷ l) [] h = refl
-unlike-lengths (a ∷ l) (b ∷ m) h = ap (λ (z : Bool). eq a b && z) (unlike-lengths l m (λ e. h (ap suc e))) ∙ none (eq a b)
-  where
-    none : (z : Bool) → (z && false) ≡ false
-    none true = refl
-    none false = refl
+unlike-lengths (a ∷ l) (b ∷ m) h = ap (λ (z : Bool). eq a b && z) (unlike-lengths l m (λ e. h (ap suc e))) ∙ and-false (eq a b)
 
 next : (l m : List Float) (i : ℕ) → i < length l → length l ≡ length m
     → sameNumbers (drop i l) (drop i m) ≡ (eq (getD l i nan) (getD m i nan) && sameNumbers (drop (suc i) l) (drop (suc i) m))

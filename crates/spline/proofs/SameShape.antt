@@ -11,6 +11,7 @@ use lib.Dec.{eqb, lit<, lit≤}
 use lib.ListN.{length, take, replicate}
 use lib.Seq.{take-append-add}
 use lib.Ieee.{Float, eq, ofBits}
+use Rattle.exact.proofs.Truth.{and-true, and-false}
 use Rattle.exact.specs.Doubles.{nought}
 use Rattle.spline.specs.Spline.{countsFit}
 use Rattle.spline.specs.Row.{counted, padded, rowOf}
@@ -19,14 +20,6 @@ use Rattle.spline.proofs.Equal.{eq-is}
 use Rattle.spline.proofs.Stored.{Counts, counts-of, counted-value, padded-length}
 
 -- ---- of two conjunctions
-and-true : (a : Bool) → (a && true) ≡ a
-and-true true = refl
-and-true false = refl
-
-and-false : (a : Bool) → (a && false) ≡ false
-and-false true = refl
-and-false false = refl
-
 and-group : (a b c : Bool) → (a && b && c) ≡ (a && (b && c))
 and-group true b c = refl
 and-group false b c = refl
