@@ -48,6 +48,7 @@ pub fn run() {
         "{:44} {:>8} {:>8} {:>8}",
         "nanoseconds a sample of each row", "ours", "Rust", "ratio"
     );
+    // Offsets so small that the rows stay those of the matrix alone: others move them, and with them how often a branch is guessed wrong.
     step(
         "mixer",
         &[0.9, 0.1, -0.1, 1.1, 1e-6, -2e-6],

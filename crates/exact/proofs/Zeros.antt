@@ -14,7 +14,7 @@ use Rattle.exact.specs.Value.{signOf, unitsOf}
 use Rattle.exact.proofs.Sum.{sum-like, sum-second, sum-none, sum-comm}
 use Rattle.exact.proofs.Unit.{rounds-back}
 use Rattle.exact.proofs.Truth.{and-false, like-plus}
-use Rattle.exact.proofs.Value.{own, unique}
+use Rattle.exact.proofs.Value.{own, units-are, zero-is}
 
 pub round-zero : (s : Bool) (c : ℕ) → 0 < c → round binary64 s 0 c ≡ zeroOf s
 unfolding round
@@ -92,14 +92,13 @@ beside-plain s (fin t zero d) = refl
 beside-plain s (fin t (suc n) d) = refl
 
 -- x + -0.0 is x
-zero-is : (t : Bool) (d : ℤ) → T (fits binary64 (fin t zero d)) → zeroOf t ≡ fin t zero d
-unfolding fits
-zero-is t d f = unique (zeroOf t) (fin t zero d) t 0 1 (zero-lt-suc 0) tt f (refl, refl) (refl, ap (λ (n : ℕ). n * 1) (zero-mul (up d)) ∙ sym (zero-mul (down d)))
+as-written : (t : Bool) (d : ℤ) → T (fits binary64 (fin t zero d)) → fin t zero d ≡ zeroOf t
+as-written t d f = zero-is (fin t zero d) f tt (units-are (fin t zero d) t 0 (refl, ap (λ (n : ℕ). n * 2 ^ 1074) (zero-mul (up d)) ∙ zero-mul (2 ^ 1074) ∙ sym (zero-mul (down d))))
 
 pub beside-minus : (x : Float) → T (fits binary64 x) → besideZero true x ≡ x
 beside-minus nan f = refl
 beside-minus (inf t) f = refl
-beside-minus (fin t zero d) f = zero-is t d f
+beside-minus (fin t zero d) f = sym (as-written t d f)
 beside-minus (fin t (suc n) d) f = refl
 
 -- what is not -0 is the same beside either zero
@@ -107,7 +106,7 @@ pub beside-either : (s t : Bool) (x : Float) → T (fits binary64 x) → (x ≡ 
 unfolding ofBits
 beside-either s t nan f h = refl
 beside-either s t (inf u) f h = refl
-beside-either s t (fin true zero d) f h = absurd (h (sym (zero-is true d f)))
+beside-either s t (fin true zero d) f h = absurd (h (as-written true d f))
 beside-either s t (fin false zero d) f h = ap zeroOf (and-false s ∙ sym (and-false t))
 beside-either s t (fin u (suc n) d) f h = refl
 

@@ -24,7 +24,7 @@ two = ofBits binary64 0x4000_0000_0000_0000
 abbrev pub zeroOf : Bool → Float
 zeroOf s = fin s 0 (pos 0)
 
--- x, or where it is a zero the sum of two: of this and of the zero with the sign s, -0 where both are
+-- the zero with the sign s, plus x: x itself; and where x is a zero too, -0 if both are, else +0
 abbrev pub besideZero : Bool → Float → Float
 besideZero s nan = nan
 besideZero s (inf t) = inf t

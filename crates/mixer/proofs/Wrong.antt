@@ -29,7 +29,7 @@ abbrev noMatrix : List Float
 noMatrix = nought ∷ nought ∷ nought ∷ nought ∷ []
 
 module _ (r : Answer) (i' q' : List Float) where
-  -- two rows of one sample, and the row or rows that are told of
+  -- two rows of one sample each
   abbrev Corrects : Float → Float → List Float → List Float → Type 0
   Corrects x y m o = Mixer 2 (x ∷ []) (y ∷ []) m o r i' q'
 
