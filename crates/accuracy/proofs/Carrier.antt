@@ -5,14 +5,15 @@ use Prim.Native.Nat.{ℕ, zero, suc, _+_, _-_, _*_, _^_, _≤_, _<_}
 use native.Mathlib.Nat.{le-refl, le-trans, le-of-eq, le-suc, le-add-left, le-add-right, add-le-add, add-mul, mul-add, mul-one, one-mul, mul-comm, mul-mul-mul-comm, mul-le-mul, mul-le-mul-left, mul-le-mul-right, le-of-mul-le-mul-left, pow-suc, pow-zero}
 use native.Mathlib.Omega.{arith}
 use lib.Dec.{lit≤, lit<}
-use Rattle.exact.specs.Value.{unitsOf}
-use Rattle.exact.specs.Signed.{Signed, Apart, times, plusS, lessS}
+use Rattle.exact.specs.Value.{unitsOf, valueOf}
+use Rattle.exact.specs.Signed.{Signed, Apart, times, plusS, lessS, mag}
+use Rattle.exact.proofs.Sizes.{mag-add}
 use Rattle.quant.specs.declared.complex.Complex.{Complex}
 use Rattle.quant.specs.Complex.{timesC}
 use Rattle.exact.proofs.Few.{value-finite}
 use Rattle.mix.specs.Plateau.{carrierAfter}
-use Rattle.accuracy.specs.Exact.{Gauss, Tame, CarrierNear, timesG, valueOf, exactly, carrierExactly, absolute, squares}
-use Rattle.accuracy.proofs.Sizes.{mag, sq, mag-add, sq-same, sq-by}
+use Rattle.accuracy.specs.Exact.{Gauss, Tame, CarrierNear, timesG, exactly, carrierExactly, absolute, squares}
+use Rattle.accuracy.proofs.Sizes.{sq, sq-same, sq-by}
 use Rattle.accuracy.proofs.Young.{young}
 use Rattle.accuracy.proofs.Error.{sqG, error, norm-times, one-more}
 use Rattle.accuracy.proofs.Product.{Whole, product, lost, held-whole, squares-are, root}

@@ -7,13 +7,14 @@ use native.Mathlib.Nat.{le-trans, le-of-suc-le-suc, lt-of-not-le, not-le-of-lt, 
 use native.Mathlib.Omega.{arith}
 use lib.Dec.{lit≤}
 use lib.Ieee.{Float, binary64, unlike, mul}
-use Rattle.exact.specs.Value.{Units, signOf, unitsOf}
-use Rattle.exact.specs.Signed.{Signed, Apart, signed, times, plusS, lessS}
+use Rattle.exact.specs.Value.{Units, signOf, unitsOf, valueOf}
+use Rattle.exact.specs.Signed.{Signed, Apart, signed, times, plusS, lessS, timesS, mag}
 use Rattle.exact.proofs.Value.{units-are, sign-is, own}
+use Rattle.exact.proofs.Sizes.{mag-signed}
+use Rattle.exact.proofs.Valued.{value-is}
 use Rattle.quant.specs.declared.complex.Complex.{Complex}
 use Rattle.quant.specs.Complex.{timesC}
-use Rattle.accuracy.specs.Exact.{Held, timesS, timesG, valueOf, exactly, squares}
-use Rattle.accuracy.proofs.Sizes.{mag}
+use Rattle.accuracy.specs.Exact.{Held, timesG, exactly, squares}
 use Rattle.accuracy.proofs.Operations.{mul-near, add-near, sub-near}
 use Rattle.accuracy.proofs.Products.{Part, joined, sum-most}
 use Rattle.accuracy.proofs.Step.{step-square}
@@ -30,14 +31,7 @@ held-whole z h = record { re = own (z .re) (h .re-fits) (h .re-finite); im = own
 its-own : (x : Float) (s : Bool) (n : ℕ) → Units x s n → Units x (signOf x) (unitsOf x)
 its-own x s n h = subst (λ (t : Bool). Units x t (unitsOf x)) (sym (sign-is x s n h)) (subst (λ (b : ℕ). Units x s b) (sym (units-are x s n h)) h)
 
-pub value-is : (x : Float) (s : Bool) (n : ℕ) → Units x s n → valueOf x ≡ signed s n
-value-is x s n h = λ i. signed (sign-is x s n h i) (units-are x s n h i)
-
 -- ---- squares of parts
-
-mag-signed : (s : Bool) (n : ℕ) → mag (signed s n) ≡ n
-mag-signed true n = omega arith
-mag-signed false n = omega arith
 
 pub squares-are : (z : Complex) → sqG (exactly z) ≡ squares z
 squares-are z =

@@ -6,9 +6,9 @@ use Prim.Native.Nat.{ℕ, _+_, _-_, _*_, _≤_, _<_}
 use native.Mathlib.Nat.{add-comm}
 use native.Mathlib.Omega.{arith}
 use lib.Dec.{T, leb, leb→le, nleb→lt}
-use Rattle.exact.specs.Signed.{Signed, signed, plusS, lessS}
-use Rattle.accuracy.specs.Exact.{timesS}
-use Rattle.accuracy.proofs.Sizes.{dist, mag, sq, signed-is, same-times, same-less, same-plus, sq-same}
+use Rattle.exact.specs.Signed.{Signed, signed, plusS, lessS, timesS, dist, mag}
+use Rattle.exact.proofs.Sizes.{signed-is, same-product, same-less, same-plus}
+use Rattle.accuracy.proofs.Sizes.{sq, sq-same}
 
 pub dist-square : (a b : ℕ) → dist a b * dist a b + 2 * (a * b) ≡ a * a + b * b
 dist-square a b = by (leb a b) (leb→le a b) (nleb→lt a b)
@@ -69,8 +69,8 @@ norm-mul x y c s =
     let Y = signed (b .0) (mag y) in
     let C = signed (g .0) (mag c) in
     let S = signed (h .0) (mag s) in
-    let re = same-less (timesS x c) (timesS y s) (timesS X C) (timesS Y S) (same-times x c X C (a .1) (g .1)) (same-times y s Y S (b .1) (h .1)) in
-    let im = same-plus (timesS x s) (timesS y c) (timesS X S) (timesS Y C) (same-times x s X S (a .1) (h .1)) (same-times y c Y C (b .1) (g .1)) in
+    let re = same-less (timesS x c) (timesS y s) (timesS X C) (timesS Y S) (same-product x c X C (a .1) (g .1)) (same-product y s Y S (b .1) (h .1)) in
+    let im = same-plus (timesS x s) (timesS y c) (timesS X S) (timesS Y C) (same-product x s X S (a .1) (h .1)) (same-product y c Y C (b .1) (g .1)) in
     let re-is = sq-same (lessS (timesS x c) (timesS y s)) (lessS (timesS X C) (timesS Y S)) re in
     let im-is = sq-same (plusS (timesS x s) (timesS y c)) (plusS (timesS X S) (timesS Y C)) im in
     (λ i. re-is i + im-is i) ∙ norm-signed (a .0) (b .0) (g .0) (h .0) (mag x) (mag y) (mag c) (mag s)

@@ -4,8 +4,9 @@ use mathlib.Core.Path.{_≡_}
 use Prim.Native.Nat.{ℕ, suc, _+_, _*_, _≤_}
 use native.Mathlib.Nat.{le-trans, le-of-eq, add-le-add, mul-le-mul, mul-le-mul-left, le-of-mul-le-mul-left, zero-lt-suc}
 use native.Mathlib.Omega.{arith}
-use Rattle.exact.specs.Signed.{Signed, plusS}
-use Rattle.accuracy.proofs.Sizes.{dist, mag, sq, mag-add}
+use Rattle.exact.specs.Signed.{Signed, plusS, dist, mag}
+use Rattle.exact.proofs.Sizes.{mag-add}
+use Rattle.accuracy.proofs.Sizes.{sq}
 use Rattle.accuracy.proofs.Squares.{dist-square}
 
 pub two-products : (x y : ℕ) → 2 * (x * y) ≤ x * x + y * y

@@ -9,15 +9,14 @@ use lib.Pow.{pow-pos}
 use lib.Ieee.{Float, binary64, fits, round, sum, add, eq}
 use lib.Ieee.Scale.{finite}
 use Rattle.exact.specs.Doubles.{nought}
-use Rattle.exact.specs.Value.{Units, signOf, unitsOf}
+use Rattle.exact.specs.Value.{Units, signOf, unitsOf, valueOf}
 use Rattle.exact.specs.Signed.{signed}
 use Rattle.exact.proofs.Sum.{sum-like, sum-second, sum-none}
 use Rattle.exact.proofs.Operation.{add-rounds}
 use Rattle.exact.proofs.Compare.{none}
 use Rattle.exact.proofs.Value.{own}
 use Rattle.exact.proofs.Few.{Few, few-of, few-value, units-below, value-finite}
-use Rattle.accuracy.specs.Exact.{valueOf}
-use Rattle.accuracy.proofs.Product.{value-is}
+use Rattle.exact.proofs.Valued.{value-is}
 
 record Kept (x : Float) (s : Bool) (n : ℕ) : Type 0 where
   sign : Bool

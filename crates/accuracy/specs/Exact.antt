@@ -4,15 +4,11 @@ use Prim.Native.Nat.{ℕ, zero, suc, _+_, _*_, _^_, _≤_}
 use lib.Ieee.{Float, binary64, fits}
 use lib.Ieee.Scale.{finite}
 use lib.Dec.{T}
-use Rattle.exact.specs.Signed.{Signed, Apart, signed, times, plusS, lessS}
-use Rattle.exact.specs.Value.{signOf, unitsOf}
+use Rattle.exact.specs.Signed.{Signed, Apart, times, plusS, lessS, timesS}
+use Rattle.exact.specs.Value.{unitsOf, valueOf}
 use Rattle.quant.specs.declared.complex.Complex.{Complex}
 use Rattle.quant.specs.Complex.{timesC}
 use Rattle.mix.specs.Plateau.{carrierAfter}
-
--- the product of two signed whole numbers
-abbrev pub timesS : Signed → Signed → Signed
-timesS x y = record { plus = x .plus * y .plus + x .less * y .less; less = x .plus * y .less + x .less * y .plus }
 
 -- ---- complex whole numbers
 
@@ -31,10 +27,6 @@ powerG x zero = oneG
 powerG x (suc k) = timesG (powerG x k) x
 
 -- ---- doubles read exactly
-
--- a finite double times 2 ^ 1074
-abbrev pub valueOf : Float → Signed
-valueOf x = signed (signOf x) (unitsOf x)
 
 abbrev pub exactly : Complex → Gauss
 exactly z = record { re = valueOf (z .re); im = valueOf (z .im) }

@@ -8,6 +8,7 @@ use lib.IntN.{pos}
 use lib.Ieee.{Float, nan, binary64, ofBits}
 use lib.ListN.{getD, replicate}
 use Rattle.exact.specs.Doubles.{nought, one}
+use Rattle.exact.specs.Value.{valueOf}
 use Rattle.exact.specs.Signed.{Apart, times}
 use Rattle.naming.specs.declared.Name.{Name}
 use Rattle.quant.specs.declared.refusal.Answer.the-variants.{Done}
@@ -21,7 +22,7 @@ use Rattle.commands.specs.Step.{noPulse, noHead}
 use Rattle.mixdown.specs.Sampled.{Rowed, rowed}
 use Rattle.sampler.specs.declared.Request.{Request}
 use Rattle.sampler.specs.Sampler.{Left, sampled}
-use Rattle.accuracy.specs.Exact.{valueOf, absolute}
+use Rattle.accuracy.specs.Exact.{absolute}
 use Rattle.accuracy.specs.Call.{Bounded, Zeros, AsSampled, ampOf, startOf, rotationOf, lengthOf, exactOf, Only, PlateauNear}
 
 -- -0.0, 0.125, 3.0 and -9.0

@@ -8,6 +8,10 @@ pub mod Rounding
 pub mod Finite
 pub mod Signed
 pub mod Few
+pub mod Sizes
+pub mod Nearest
+pub mod Rounds
+pub mod Valued
 pub mod Grid
 pub mod Steps
 pub mod Upper

@@ -1,10 +1,12 @@
 -- What a verdict says: that it is not the other one too, of the parts of an `&&` and an `||`, of a comparison of signed numbers, and of a double that is a number. Assumes nothing.
-use mathlib.Core.Path.{_≡_, refl, sym, subst, _∙_}
-use mathlib.Core.Bool.{Bool, true, false, _&&_, _||_, not, true≢false}
-use lib.Dec.{T}
+use mathlib.Core.Path.{_≡_, refl, sym, ap, subst, _∙_}
+use mathlib.Core.Bool.{Bool, true, false, _&&_, _||_, not, Bool·beq, true≢false}
+use Prim.Native.Nat.{_*_}
+use borrow.Author.Tests.{eq-eqb}
+use lib.Dec.{T, eqb}
 use lib.IntN.{ℤ}
 use lib.Signed.{_≤ℤ_, _<ℤ_, ltZ, ltZ-yes, ltZ-no}
-use lib.Ieee.{Float, nan, inf, fin, isNan, ne, unlike}
+use lib.Ieee.{Float, nan, inf, fin, up, down, isNan, eq, ne, unlike}
 use lib.Ieee.Scale.{finite}
 
 pub never : {b : Bool} → b ≡ true → b ≡ false → ⊥
@@ -24,7 +26,18 @@ below e = ltZ-yes (subst T (sym e) tt)
 pub not-below : {a b : ℤ} → ltZ a b ≡ false → b ≤ℤ a
 not-below e = ltZ-no (subst (λ (t : Bool). T (not t)) (sym e) tt)
 
--- a number is equal to itself, and a finite double is one
+-- a NaN is not equal to itself, a number is, and a finite double is one
+pub nan-if-other : (x : Float) → ne x x ≡ true → isNan x ≡ true
+unfolding ne eq isNan
+nan-if-other nan e = refl
+nan-if-other (inf true) e = absurd (true≢false (sym e))
+nan-if-other (inf false) e = absurd (true≢false (sym e))
+nan-if-other (fin s m k) e = absurd (true≢false (sym e ∙ by s (eqb (m * up k * down k) (m * up k * down k)) (eq-eqb (m * up k * down k) (m * up k * down k) refl)))
+  where
+    by : (s b : Bool) → b ≡ true → not (b && (Bool·beq s s || eqb (m * up k * down k) 0)) ≡ false
+    by true b e = ap (λ (c : Bool). not (c && true)) e
+    by false b e = ap (λ (c : Bool). not (c && true)) e
+
 pub number-if-same : (x : Float) → ne x x ≡ false → T (not (isNan x))
 unfolding ne isNan
 number-if-same nan e = absurd (true≢false e)

@@ -1,17 +1,22 @@
 -- A zero in a sum or a product. Beside a zero every number stays but the other zero; of two zeros the sum is -0 where both are. Assumes nothing.
-use mathlib.Core.Path.{_≡_, refl, sym, ap, _∙_}
-use mathlib.Core.Bool.{Bool, true, false, _&&_, true≢false}
-use Prim.Native.Nat.{ℕ, zero, suc, _-_, _*_, _^_, _<_}
-use native.Mathlib.Nat.{zero-mul, mul-one, one-mul, mul-comm, mul-pos, zero-add, zero-lt-suc, sub-zero}
+use mathlib.Core.Path.{_≡_, refl, sym, ap, _∙_, subst}
+use mathlib.Core.Logic.{inl, inr}
+use mathlib.Core.Bool.{Bool, true, false, _&&_, Bool·beq, true≢false}
+use Prim.Native.Nat.{ℕ, zero, suc, _+_, _-_, _*_, _^_, _≤_, _<_, compare, Ordering, Ordering·lt, Ordering·eq, Ordering·gt}
+use native.Mathlib.Nat.{eq-zero-or-pos, zero-mul, mul-one, one-mul, mul-comm, mul-pos, zero-add, zero-lt-suc, sub-zero}
+use native.Mathlib.Omega.{arith}
 use lib.Dec.{T}
 use lib.IntN.{ℤ}
 use lib.Pow.{pow-pos}
 use lib.Ieee.{Float, nan, inf, fin, binary64, up, down, unlike, round, sum, add, mul, fits, ofBits}
 use lib.Ieee.Fits.{up-pos, down-pos, add-fits}
-use lib.Ieee.Scale.{finite, round-same}
+use lib.Ieee.Scale.{finite, grid, round-same}
 use Rattle.exact.specs.Doubles.{nought, minusNought, zeroOf, besideZero, plainZero}
 use Rattle.exact.specs.Value.{signOf, unitsOf}
-use Rattle.exact.proofs.Sum.{sum-like, sum-second, sum-none, sum-comm}
+use Rattle.exact.proofs.Order.{Stands, compared}
+use Rattle.exact.proofs.Sum.{sum-like, sum-first, sum-second, sum-none, sum-comm}
+use Rattle.exact.proofs.Operation.{add-rounds}
+use Rattle.exact.proofs.Rounding.{round-part}
 use Rattle.exact.proofs.Unit.{rounds-back}
 use Rattle.exact.proofs.Truth.{and-false, like-plus}
 use Rattle.exact.proofs.Value.{own, units-are, zero-is}
@@ -113,6 +118,48 @@ beside-either s t (fin u (suc n) d) f h = refl
 pub plus-minus : (x : Float) → T (fits binary64 x) → add binary64 x minusNought ≡ x
 unfolding ofBits
 plus-minus x f = add-comm x minusNought ∙ beside-zero true x f ∙ beside-minus x f
+
+-- ---- a sum is -0 only where both terms are
+some-left : (s t : Bool) (n : ℕ) → 0 < n → round binary64 s n (2 ^ 1074) ≡ zeroOf t → ⊥
+some-left s t n p e =
+    let r = round-part s n (subst (λ (z : Float). T (finite z)) (sym e) tt) in
+    clash (grid binary64 n (2 ^ 1074)) (sym (units-are (round binary64 s n (2 ^ 1074)) s (grid binary64 n (2 ^ 1074)) (r .0)) ∙ ap unitsOf e) (r .1 .under)
+  where
+    clash : (v : ℕ) → v ≡ 0 → n * 2 ^ 53 ≤ v * 2 ^ 53 + n → ⊥
+    clash v z h = omega arith
+
+unlike-sum : (s t : Bool) (a b : ℕ) → Bool·beq s t ≡ false → sum binary64 s a t b (2 ^ 1074) ≡ zeroOf true → ⊥
+unlike-sum s t a b d e = by (compare a b) (compared a b)
+  where
+    some : (m n : ℕ) → m < n → 0 < n - m
+    some m n h = omega arith
+
+    by : (o : Ordering) → Stands o a b → ⊥
+    by Ordering·lt l = some-left t true (b - a) (some a b l) (sym (sum-second binary64 s t a b (2 ^ 1074) d l) ∙ e)
+    by Ordering·eq l = true≢false (ap signOf (sym e ∙ sum-none binary64 s t a b (2 ^ 1074) d l ∙ round-zero false (2 ^ 1074) (pow-pos 1074)))
+    by Ordering·gt l = some-left s true (a - b) (some b a l) (sym (sum-first binary64 s t a b (2 ^ 1074) d l) ∙ e)
+
+minus-sum : (s t : Bool) (a b : ℕ) → sum binary64 s a t b (2 ^ 1074) ≡ zeroOf true → (s ≡ true) × (t ≡ true) × (a + b ≡ 0)
+minus-sum true true a b e = (refl, refl, elim (eq-zero-or-pos (a + b)) [ inl z ↦ z | inr p ↦ absurd (some-left true true (a + b) p (sym (sum-like binary64 true true a b (2 ^ 1074) refl) ∙ e)) ])
+minus-sum false false a b e =
+    absurd
+    (elim (eq-zero-or-pos (a + b)) [
+      | inl z ↦ true≢false (ap signOf (sym (sym (sum-like binary64 false false a b (2 ^ 1074) refl) ∙ e) ∙ ap (λ (n : ℕ). round binary64 false n (2 ^ 1074)) z ∙ round-zero false (2 ^ 1074) (pow-pos 1074)))
+      | inr p ↦ some-left false true (a + b) p (sym (sum-like binary64 false false a b (2 ^ 1074) refl) ∙ e)
+    ])
+minus-sum true false a b e = absurd (unlike-sum true false a b refl e)
+minus-sum false true a b e = absurd (unlike-sum false true a b refl e)
+
+pub minus-only : (x y : Float) → T (fits binary64 x) → T (finite x) → T (fits binary64 y) → T (finite y) → add binary64 x y ≡ zeroOf true → (x ≡ zeroOf true) × (y ≡ zeroOf true)
+minus-only x y f t g u e =
+    let m = minus-sum (signOf x) (signOf y) (unitsOf x) (unitsOf y) (sym (add-rounds binary64 x y (signOf x) (signOf y) (unitsOf x) (unitsOf y) (2 ^ 1074) (pow-pos 1074) (own x f t) (own y g u)) ∙ e) in
+    (zero-is x f t (left (unitsOf x) (unitsOf y) (m .2)) ∙ ap zeroOf (m .0), zero-is y g u (right (unitsOf x) (unitsOf y) (m .2)) ∙ ap zeroOf (m .1))
+  where
+    left : (a b : ℕ) → a + b ≡ 0 → a ≡ 0
+    left a b h = omega arith
+
+    right : (a b : ℕ) → a + b ≡ 0 → b ≡ 0
+    right a b h = omega arith
 
 -- ---- products: a zero times a finite number is a zero, 0.0 times a finite number the zero with its sign, and times any other NaN
 

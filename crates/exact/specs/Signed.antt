@@ -1,7 +1,7 @@
 -- A signed whole number as a pair of naturals: `plus` less `less`. Two pairs may stand for one number. Definitions only.
 use mathlib.Core.Path.{_≡_}
 use mathlib.Core.Bool.{Bool, cond}
-use Prim.Native.Nat.{ℕ, _+_, _*_, _≤_}
+use Prim.Native.Nat.{ℕ, _+_, _-_, _*_, _≤_}
 
 pub record Signed : Type 0 where
   pub plus : ℕ
@@ -30,3 +30,14 @@ plusS x y = record { plus = x .plus + y .plus; less = x .less + y .less }
 
 abbrev pub lessS : Signed → Signed → Signed
 lessS x y = record { plus = x .plus + y .less; less = x .less + y .plus }
+
+-- the product
+abbrev pub timesS : Signed → Signed → Signed
+timesS x y = record { plus = x .plus * y .plus + x .less * y .less; less = x .plus * y .less + x .less * y .plus }
+
+-- how far two naturals are apart, and the size of a signed number
+abbrev pub dist : ℕ → ℕ → ℕ
+dist a b = a - b + (b - a)
+
+abbrev pub mag : Signed → ℕ
+mag x = dist (x .plus) (x .less)

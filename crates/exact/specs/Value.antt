@@ -5,6 +5,7 @@ use lib.Dec.{T}
 use lib.Ieee.{Float, nan, inf, fin, up, down, binary64, fits}
 use lib.Ieee.Scale.{finite}
 use lib.Ieee.Exact.{HasValue}
+use Rattle.exact.specs.Signed.{Signed, signed}
 
 -- x is finite, has the sign s (true: negative) and is n / 2 ^ 1074 in size
 abbrev pub Units : Float → Bool → ℕ → Type 0
@@ -20,6 +21,10 @@ abbrev pub unitsOf : Float → ℕ
 unitsOf nan = 0
 unitsOf (inf s) = 0
 unitsOf (fin s m e) = m * up e * 2 ^ 1074 / down e
+
+-- a finite double times 2 ^ 1074
+abbrev pub valueOf : Float → Signed
+valueOf x = signed (signOf x) (unitsOf x)
 
 -- z is a double of at most m units in size
 pub record AtMost (m : ℕ) (z : Float) : Type 0 where

@@ -34,7 +34,7 @@ use quant::refusal::number;
 pub extern "C" fn skierralu_mul_add(a: f64, b: f64, c: f64) -> f64
     ensures { λ r. ⌜ r ≡ fma binary64 a b c ⌝ }
 {
-    fma::mul_add(a, b, c)
+    quick_fma::mul_add(a, b, c)
 }
 
 #[no_mangle]

@@ -10,10 +10,12 @@ use lib.Bits.{bitAnd, and-mask}
 use lib.Dec.{T, leb, ltb, eqb, ltb→lt, nltb→le, eqb→eq, lit≤}
 use lib.Arith.{le→nltb}
 use lib.Pow.{pow-pos, pow-mono, shl-lt}
-use lib.Ieee.{Float, nan, inf, binary64, odd, ofFields, ofBits, nanBits}
+use lib.Ieee.{Float, nan, inf, binary64, fits, isNan, odd, ofFields, ofBits, toBits, nanBits}
 use lib.Ieee.Exact.{odd-sign}
-use lib.Ieee.Bits.{nanBits-above}
+use lib.Ieee.Bits.{ofBits-toBits, nanBits-is, nanBits-above}
+use lib.Ieee.Scale.{finite}
 use Rattle.exact.specs.Value.{Units}
+use Rattle.exact.proofs.Naturals.{below-or}
 
 pub no-nan : (b : ℕ) → b % 2 ^ 63 ≤ 2047 * 2 ^ 52 → T (not (nanBits binary64 b))
 no-nan b h = subst (λ (t : Bool). T (not t)) (sym (nanBits-above binary64 b)) (le→nltb (2047 * 2 ^ 52) (b % 2 ^ 63) h)
@@ -40,6 +42,34 @@ normal-fields s x t h = go (eqb (suc x) 2047) (eqb→eq (suc x) 2047)
     go : (b : Bool) → (T b → suc x ≡ 2047) → cond b (cond (eqb t 0) (inf s) nan) (odd 53 s (2 ^ 52 + t) x 1074) ≡ odd 53 s (2 ^ 52 + t) x 1074
     go true e = absurd (lt-irrefl 2047 (subst (λ (y : ℕ). y < 2047) (e tt) h))
     go false e = refl
+
+-- ---- which patterns are no NaN's, and which are finite
+
+pub number-bits : (x : Float) → T (fits binary64 x) → T (not (isNan x)) → toBits binary64 x % 2 ^ 63 ≤ 2047 * 2 ^ 52
+number-bits x f n =
+    nltb→le (2047 * 2 ^ 52) (toBits binary64 x % 2 ^ 63)
+    (subst (λ (t : Bool). T (not t)) (ap isNan (sym (ofBits-toBits binary64 x f)) ∙ sym (nanBits-is binary64 (toBits binary64 x)) ∙ nanBits-above binary64 (toBits binary64 x)) n)
+
+pub finite-bits : (b : ℕ) → T (finite (ofBits binary64 b)) → b % 2 ^ 63 / 2 ^ 52 < 2047
+finite-bits b t = go (b % 2 ^ 63 / 2 ^ 52) refl
+  where
+    wild : (c s : Bool) → T (finite (cond c (inf s) nan)) → ⊥
+    wild true s t = t
+    wild false s t = t
+
+    last : ofFields binary64 (leb (2 ^ 63) b) 2047 (b % 2 ^ 52) ≡ cond (eqb (b % 2 ^ 52) 0) (inf (leb (2 ^ 63) b)) nan
+    last = unfold ofFields in refl
+
+    go : (x : ℕ) → b % 2 ^ 63 / 2 ^ 52 ≡ x → x < 2047
+    go x e = elim (below-or x 2047) [
+      | inl l ↦ l
+      | inr g ↦
+          absurd
+          (wild (eqb (b % 2 ^ 52) 0) (leb (2 ^ 63) b) (subst (λ (y : Float). T (finite y)) (bits-are b 2047 (b % 2 ^ 52) (most x e g) refl ∙ last) t))
+    ]
+      where
+        most : (x : ℕ) → b % 2 ^ 63 / 2 ^ 52 ≡ x → 2047 ≤ x → b % 2 ^ 63 / 2 ^ 52 ≡ 2047
+        most x e g = omega arith
 
 -- ---- the value of a pattern, in smallest values
 

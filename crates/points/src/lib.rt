@@ -2,7 +2,7 @@
 ghost use mathlib.Core.Path.{_≡_};
 ghost use lib.ListN.{length};
 ghost use Rattle.points.specs.Points.{pointAt, points};
-use fma::mul_add;
+use quick_fma::mul_add;
 use std::num::nearest_u64_to_f64;
 use sums::lay_sums;
 use sums::on_grid;

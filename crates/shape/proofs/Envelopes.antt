@@ -19,18 +19,18 @@ use Rattle.shape.specs.declared.parts.Parted.{Parted}
 use Rattle.shape.specs.declared.parts.Parted.the-variants as parted
 use Rattle.shape.specs.declared.envelope.Enveloped.the-variants.{Points, Refused}
 use Rattle.points.specs.Points.{pointAt}
-use Rattle.shape.specs.Segment.{valueOf, values}
+use Rattle.shape.specs.Segment.{envelopeAt, values}
 use Rattle.shape.specs.Parts.{indexAt, t1, t3, unbroken, broken, inOrder, partedOf}
 use Rattle.shape.specs.Envelope.{shapeOf, finePoints, filledOf, envelopedOf, scratchAfter, Fitting}
 use Rattle.shape.proofs.Filling.{values-length, within-fits}
 
 module _ (shape : Shape) (numbers : List Float) where
   -- the value at point k of a segment
-  pub values-at : (n i : ℕ) (x dx : Float) (k : ℕ) → k < n → getD (values shape numbers n i x dx) k nan ≡ valueOf shape numbers (pointAt x dx (i + k))
+  pub values-at : (n i : ℕ) (x dx : Float) (k : ℕ) → k < n → getD (values shape numbers n i x dx) k nan ≡ envelopeAt shape numbers (pointAt x dx (i + k))
   unfolding values
   values-at zero i x dx k h = absurd (not-suc-le-zero h)
-  values-at (suc n) i x dx zero h = ap (λ (j : ℕ). valueOf shape numbers (pointAt x dx j)) (omega arith)
-  values-at (suc n) i x dx (suc k) h = values-at n (suc i) x dx k (le-of-suc-le-suc h) ∙ ap (λ (j : ℕ). valueOf shape numbers (pointAt x dx j)) (omega arith)
+  values-at (suc n) i x dx zero h = ap (λ (j : ℕ). envelopeAt shape numbers (pointAt x dx j)) (omega arith)
+  values-at (suc n) i x dx (suc k) h = values-at n (suc i) x dx k (le-of-suc-le-suc h) ∙ ap (λ (j : ℕ). envelopeAt shape numbers (pointAt x dx j)) (omega arith)
 
   -- parts in order have as many points as they say
   pub shape-length : (p : Parts) (n : ℕ) → Fitting p n → length (shapeOf shape numbers p) ≡ p .length

@@ -17,28 +17,28 @@ use Rattle.spline.specs.Value.{valueIn, AlwaysFine}
 use Rattle.shape.specs.declared.parts.Parts.{Parts}
 use Rattle.shape.specs.Envelope.{finitePoints, stepsFine, finePoints}
 use Rattle.shape.specs.Hann.{hannOf}
-use Rattle.shape.specs.Segment.{valueOf, pointFine, values, allFine}
+use Rattle.shape.specs.Segment.{envelopeAt, pointFine, values, allFine}
 
 -- ---- the values
-pub each-valued : (shape : Shape) (numbers : List Float) (n i : ℕ) (x dx : Float) → map (valueOf shape numbers) (points n i x dx) ≡ values shape numbers n i x dx
+pub each-valued : (shape : Shape) (numbers : List Float) (n i : ℕ) (x dx : Float) → map (envelopeAt shape numbers) (points n i x dx) ≡ values shape numbers n i x dx
 unfolding points values
 each-valued shape numbers zero i x dx = refl
-each-valued shape numbers (suc n) i x dx = ap (λ (l : List Float). valueOf shape numbers (pointAt x dx i) ∷ l) (each-valued shape numbers n (suc i) x dx)
+each-valued shape numbers (suc n) i x dx = ap (λ (l : List Float). envelopeAt shape numbers (pointAt x dx i) ∷ l) (each-valued shape numbers n (suc i) x dx)
 
 module _ (numbers : List Float) (n : ℕ) (x dx : Float) where
   pub plain-values : replicate n one ≡ values Plain numbers n 0 x dx
-  unfolding valueOf
+  unfolding envelopeAt
   plain-values =
       ap (λ (k : ℕ). replicate k one) (sym (points-length n 0 x dx))
       ∙ sym (constant one (points n 0 x dx))
       ∙ each-valued Plain numbers n 0 x dx
 
   pub hann-values : map hannOf (points n 0 x dx) ≡ values Hann numbers n 0 x dx
-  unfolding valueOf
+  unfolding envelopeAt
   hann-values = each-valued Hann numbers n 0 x dx
 
   pub spline-values : map (valueIn numbers) (points n 0 x dx) ≡ values Spline numbers n 0 x dx
-  unfolding valueOf
+  unfolding envelopeAt
   spline-values = each-valued Spline numbers n 0 x dx
 
 -- ---- the points' fineness

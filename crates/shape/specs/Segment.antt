@@ -13,10 +13,10 @@ use Rattle.points.specs.Points.{pointAt}
 use Rattle.shape.specs.Hann.{hannOf}
 
 -- the value of a shape at a point, with the numbers of a spline beside it: no shape holds 1
-unfoldable pub valueOf : Shape → List Float → Float → Float
-valueOf Plain numbers x = one
-valueOf Hann numbers x = hannOf x
-valueOf Spline numbers x = valueIn numbers x
+unfoldable pub envelopeAt : Shape → List Float → Float → Float
+envelopeAt Plain numbers x = one
+envelopeAt Hann numbers x = hannOf x
+envelopeAt Spline numbers x = valueIn numbers x
 
 -- whether a point meets no 8: with request P1 "8 also where a step of the recurrence at a point taken is not finite"
 unfoldable pub pointFine : Shape → List Float → Float → Bool
@@ -28,7 +28,7 @@ module _ (shape : Shape) (numbers : List Float) where
   -- at n points from the i-th on
   unfoldable pub values : ℕ → ℕ → Float → Float → List Float
   values zero i x dx = []
-  values (suc n) i x dx = valueOf shape numbers (pointAt x dx i) ∷ values n (suc i) x dx
+  values (suc n) i x dx = envelopeAt shape numbers (pointAt x dx i) ∷ values n (suc i) x dx
 
   unfoldable pub allFine : List Float → Bool
   allFine [] = true

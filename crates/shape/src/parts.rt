@@ -1,13 +1,13 @@
 // Where the parts of an envelope begin and end among the samples. The Rust's `get_envelope_cached`, without its points.
 ghost use mathlib.Core.Path.{_≡_};
 ghost use Rattle.shape.specs.Parts.{indexAt, inOrder, broken, ordered, partedOf};
-use fma::mul_add;
 use ieee::ceil::ceil;
 use ieee::cut::Cut;
 use ieee::cut::cut_off;
 use quant::quantity::Frequency;
 use quant::quantity::Time;
 use quant::refusal::Refusal;
+use quick_fma::mul_add;
 use std::num::nearest_u64_to_f64;
 
 // The head, points from x0 on, lies below `start`; ones lie from there below `end`; the tail, points from x2 on, from there below `length`.

@@ -28,7 +28,7 @@ use Rattle.spline.specs.Spline.{inDomain, spanTo, blendOf, dAt}
 use Rattle.spline.specs.Row as spline-row
 use Rattle.spline.specs.Value.{wholeOf, splineAt, valueIn}
 use Rattle.spline.specs.Same.{sameNumbers}
-use Rattle.shape.specs.Segment.{valueOf, pointFine, values, allFine}
+use Rattle.shape.specs.Segment.{envelopeAt, pointFine, values, allFine}
 use Rattle.shape.specs.Parts.{indexAt, partedOf}
 use Rattle.shape.specs.Envelope.{shapeOf, finitePoints, finePoints, envelopedOf, scratchAfter}
 use Rattle.pulse.specs.Bin.{sameRow, placeOf}
@@ -140,7 +140,7 @@ twoEnd : Gathered → Bool
 twoEnd g = eqb (getD (g .ends .ends) 0 0) 2
 
 pub buffers : Buffers
-unfolding isOne isOneRow twoEnd isTwo mixedDown endsFit runsForFrom pulsesIn pickedFrom passed over inOne endsFrom add sub mul div rem neg lt eq le sum round ofBits ofInt ceiling cutOf exp2Of fma wrapped reduced horner cosineAt sineAt cosineOf sineOf allFinite nameByte every lowBytes bytesOfWord sixteen bytesOf pastEnd isName sameName correctedRow mixerFits ran sectionsFrom a0sFrom given pipelined turns tapAt sumTo filteredFrom points inDomain spanTo blendOf dAt spline-row.rowOf wholeOf splineAt valueIn valueOf pointFine values allFine indexAt partedOf shapeOf finitePoints finePoints hannOf sameNumbers sameRow placeOf envelopeOf phase0 dphase startPair rotationPair phaseNumbers judged foundFrom shapeFrom settled settledShape keptFrom summedBy joined joinedTwo packed zipped allNames namesJudged rowFrom partOf partsAt planned onPart carried shaped ofMark allRows firstsAfter good required run.acted run.ran ranPulses ranBins sampled
+unfolding isOne isOneRow twoEnd isTwo mixedDown endsFit runsForFrom pulsesIn pickedFrom passed over inOne endsFrom add sub mul div rem neg lt eq le sum round ofBits ofInt ceiling cutOf exp2Of fma wrapped reduced horner cosineAt sineAt cosineOf sineOf allFinite nameByte every lowBytes bytesOfWord sixteen bytesOf pastEnd isName sameName correctedRow mixerFits ran sectionsFrom a0sFrom given pipelined turns tapAt sumTo filteredFrom points inDomain spanTo blendOf dAt spline-row.rowOf wholeOf splineAt valueIn envelopeAt pointFine values allFine indexAt partedOf shapeOf finitePoints finePoints hannOf sameNumbers sameRow placeOf envelopeOf phase0 dphase startPair rotationPair phaseNumbers judged foundFrom shapeFrom settled settledShape keptFrom summedBy joined joinedTwo packed zipped allNames namesJudged rowFrom partOf partsAt planned onPart carried shaped ofMark allRows firstsAfter good required run.acted run.ran ranPulses ranBins sampled
 buffers =
     record {
       mixer-c = not-all-refused lent.mixer-c _ _ (only-mixer (given.stepping mixer-numbers 1)) refl;

@@ -21,7 +21,7 @@ use Rattle.spline.specs.Spline.{notFalling, isSpline, inDomain, spanTo, blendOf
 use Rattle.spline.specs.Row as spline-row
 use Rattle.spline.specs.Value.{wholeOf, splineAt, splineFine, valueIn, fineIn}
 use Rattle.spline.specs.Same.{sameNumbers}
-use Rattle.shape.specs.Segment.{valueOf, pointFine, values, allFine}
+use Rattle.shape.specs.Segment.{envelopeAt, pointFine, values, allFine}
 use Rattle.shape.specs.Parts.{indexAt, partedOf}
 use Rattle.shape.specs.Envelope.{shapeOf, finitePoints, finePoints}
 use Rattle.pulse.specs.Bin.{sameRow, placeOf}
@@ -62,7 +62,7 @@ pub record All : Type 0 where
   pub first : TriedFirst
 
 pub tried : All
-unfolding outcome add sub mul div rem neg lt eq le sum round ofBits ofInt ceiling cutOf exp2Of fma wrapped reduced horner cosineAt sineAt cosineOf sineOf allFinite nameByte every lowBytes bytesOfWord sixteen bytesOf pastEnd isName sameName correctedRow mixerFits ran sectionsFrom a0sFrom given pipelined turns tapAt sumTo filteredFrom points notFalling isSpline inDomain spanTo blendOf fineStep dAt fineAt spline-row.rowOf wholeOf splineAt splineFine valueIn fineIn valueOf pointFine values allFine indexAt partedOf shapeOf finitePoints finePoints hannOf sameNumbers sameRow placeOf envelopeOf phase0 dphase startPair rotationPair phaseNumbers judged foundFrom shapeFrom settled settledShape keptFrom summedBy joined joinedTwo packed zipped allNames namesJudged rowFrom partOf partsAt planned onPart carried shaped ofMark allRows firstsAfter good required run.acted run.ran ranPulses ranBins sampled duesOf allDues withAll
+unfolding outcome add sub mul div rem neg lt eq le sum round ofBits ofInt ceiling cutOf exp2Of fma wrapped reduced horner cosineAt sineAt cosineOf sineOf allFinite nameByte every lowBytes bytesOfWord sixteen bytesOf pastEnd isName sameName correctedRow mixerFits ran sectionsFrom a0sFrom given pipelined turns tapAt sumTo filteredFrom points notFalling isSpline inDomain spanTo blendOf fineStep dAt fineAt spline-row.rowOf wholeOf splineAt splineFine valueIn fineIn envelopeAt pointFine values allFine indexAt partedOf shapeOf finitePoints finePoints hannOf sameNumbers sameRow placeOf envelopeOf phase0 dphase startPair rotationPair phaseNumbers judged foundFrom shapeFrom settled settledShape keptFrom summedBy joined joinedTwo packed zipped allNames namesJudged rowFrom partOf partsAt planned onPart carried shaped ofMark allRows firstsAfter good required run.acted run.ran ranPulses ranBins sampled duesOf allDues withAll
 tried = record { each = each; first = record { pulse = refl; bin = refl } }
   where
     each : (t : Trial) → Tried (tryOf t)

@@ -12,11 +12,11 @@ use lib.IntN.{pos}
 use lib.Ieee.{Float, nan, inf, fin, binary64, ofBits, rem, sub, add, neg, lt, fits}
 use lib.Ieee.Fits.{rem-fits, sub-fits, add-fits, cond-fits}
 use lib.Ieee.Scale.{finite}
-use Rattle.exact.specs.Value.{Units, signOf, unitsOf}
+use Rattle.exact.specs.Value.{Units, signOf, unitsOf, valueOf}
 use Rattle.exact.specs.Signed.{Signed, Same, signed, times, plusS}
 use Rattle.exact.proofs.Value.{units-are, sign-is}
 use Rattle.exact.proofs.Few.{few-of, few-mod, value-finite}
-use Rattle.trig.specs.Reduce.{TAU, PI, wrapped, reduced, numberOf, Reduction}
+use Rattle.trig.specs.Reduce.{TAU, PI, wrapped, reduced, Reduction}
 use Rattle.trig.proofs.Reducing.{tau-fits, tau-finite, tau-some, tau-doubles, rem-value, wrapped-near, wrapped-far}
 
 -- ---- in whole numbers: the size a of the angle, and t of TAU
@@ -36,7 +36,7 @@ far-sum s a t h = by s (a % t) (a / t) (div-add-mod a t) (mod-lt a h)
 
 -- ---- a reduction, by the sign and the size of the answer
 reduction : (x r : Float) (s : Bool) (n : ℕ) (k : Signed) → T (fits binary64 r) → Units r s n → n ≤ unitsOf PI
-    → Same (plusS (signed s n) (times (unitsOf TAU) k)) (numberOf x) → Reduction x r
+    → Same (plusS (signed s n) (times (unitsOf TAU) k)) (valueOf x) → Reduction x r
 reduction x r s n k f v h e =
     record {
       fit = f;

@@ -11,12 +11,12 @@ use lib.Pow.{pow-pos}
 use lib.Ieee.{Float, binary64, ofBits, neg, ne, fits}
 use lib.Ieee.Scale.{finite}
 use Rattle.exact.specs.Doubles.{nought}
-use Rattle.exact.specs.Value.{signOf, unitsOf}
+use Rattle.exact.specs.Value.{signOf, unitsOf, valueOf}
 use Rattle.exact.specs.Signed.{Signed, Same, signed, times, plusS}
 use Rattle.exact.proofs.Value.{own, unique}
 use Rattle.exact.proofs.Signed.{alike}
 use Rattle.exact.proofs.Compare.{between, inside, some}
-use Rattle.trig.specs.Reduce.{TAU, PI, reduced, numberOf, Inside}
+use Rattle.trig.specs.Reduce.{TAU, PI, reduced, Inside}
 use Rattle.trig.proofs.Reducing.{pi-value, tau-doubles}
 use Rattle.trig.proofs.Multiple.{reduces}
 
@@ -60,12 +60,12 @@ zero-outside i = false≢true (i .some)
 
 -- ---- the law
 pub settled : (x r : Float) (q : Signed) → T (fits binary64 x) → T (finite x) → T (fits binary64 r) → Inside r
-    → Same (plusS (numberOf r) (times (unitsOf TAU) q)) (numberOf x) → r ≡ reduced x
+    → Same (plusS (valueOf r) (times (unitsOf TAU) q)) (valueOf x) → r ≡ reduced x
 settled x r q f t g i e =
     let p = reduced x in
     let R = reduces x f t in
     let l = close (signOf r) (signOf p) (unitsOf r) (unitsOf p) (unitsOf PI) (unitsOf TAU) tau-doubles (inside-small r g i) (R .small) in
     let a = alike (signOf r) (signOf p) (unitsOf r) (unitsOf p) (inside-some r g i)
-    (only (unitsOf TAU) (numberOf x) (numberOf r) (numberOf p) q (R .k) e (R .exact) (l .0) (l .1)) in
+    (only (unitsOf TAU) (valueOf x) (valueOf r) (valueOf p) q (R .k) e (R .exact) (l .0) (l .1)) in
     unique r p (signOf p) (unitsOf p) (2 ^ 1074) (pow-pos 1074) g (R .fit) (rw (a .0, a .1) at (own r g (inside-finite r g i)))
     (own p (R .fit) (R .known))

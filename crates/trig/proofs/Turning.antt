@@ -13,13 +13,13 @@ use lib.Pow.{pow-pos}
 use lib.Ieee.{Float, nan, inf, fin, binary64, ofBits, sub, mul, neg, below, lt, fits}
 use lib.Ieee.Fits.{sub-fits}
 use lib.Ieee.Scale.{finite}
-use Rattle.exact.specs.Value.{Units, signOf, unitsOf}
+use Rattle.exact.specs.Value.{Units, signOf, unitsOf, valueOf}
 use Rattle.exact.specs.Signed.{Signed, Same, signed, times, plusS, lessS}
 use Rattle.exact.proofs.Value.{neg-value, own, units-are, sign-is}
 use Rattle.exact.proofs.Compare.{lt-is, between}
 use Rattle.exact.proofs.Grid.{On, sub-on, sub-seen, sub-size}
 use Rattle.exact.proofs.Steps.{mul-on, finer, far-on}
-use Rattle.trig.specs.Reduce.{TAU, PI, reduced, numberOf, Far, Inside}
+use Rattle.trig.specs.Reduce.{TAU, PI, reduced, Far, Inside}
 use Rattle.trig.proofs.Reducing.{tau-value, tau-some}
 use Rattle.trig.proofs.Only.{inside-finite, inside-small, settled}
 
@@ -228,7 +228,7 @@ module _ (x q : Float) (f : T (fits binary64 x)) (far : Far x) (w : Whole q) whe
         sub-seen 1024 (lit≤ tt) d (mul binary64 q LOW) (lessS a (times (2 ^ 22) (times 1686629713 k))) (times (2 ^ 3) (times 34211 k))
         d-on low-on r-known (r-size (unitsOf r) (2 ^ 1024) r-small)
 
-    exact : Same (plusS (numberOf r) (times (unitsOf TAU) k)) (numberOf x)
+    exact : Same (plusS (valueOf r) (times (unitsOf TAU) k)) (valueOf x)
     exact =
         let v = r-on .value in
         let n = r-on .steps * 2 ^ 1024 in

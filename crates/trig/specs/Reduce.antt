@@ -7,8 +7,8 @@ use lib.Dec.{T}
 use lib.Ieee.{Float, binary64, ofBits, rem, sub, add, neg, lt, ne, fits}
 use lib.Ieee.Scale.{finite}
 use Rattle.exact.specs.Doubles.{nought}
-use Rattle.exact.specs.Value.{signOf, unitsOf}
-use Rattle.exact.specs.Signed.{Signed, Same, signed, times, plusS}
+use Rattle.exact.specs.Value.{unitsOf, valueOf}
+use Rattle.exact.specs.Signed.{Signed, Same, times, plusS}
 
 -- 6.283185307179586
 abbrev pub TAU : Float
@@ -24,17 +24,13 @@ wrapped r = cond (lt PI r) (sub binary64 r TAU) (cond (lt r (neg PI)) (add binar
 unfoldable pub reduced : Float → Float
 reduced x = wrapped (rem binary64 x TAU)
 
--- a finite double as a signed whole number over 2 ^ 1074
-abbrev pub numberOf : Float → Signed
-numberOf x = signed (signOf x) (unitsOf x)
-
 -- r is a finite double, at most PI in size, and x less k TAU exactly, for a whole number k: r + TAU k = x, over 2 ^ 1074
 pub record Reduction (x r : Float) : Type 0 where
   pub fit : T (fits binary64 r)
   pub known : T (finite r)
   pub small : unitsOf r ≤ unitsOf PI
   pub k : Signed
-  pub exact : Same (plusS (numberOf r) (times (unitsOf TAU) k)) (numberOf x)
+  pub exact : Same (plusS (valueOf r) (times (unitsOf TAU) k)) (valueOf x)
 
 -- x is not between -TAU and TAU: TAU or more in size, or a NaN
 abbrev pub Far : Float → Type 0

@@ -5,9 +5,8 @@ use Prim.Native.Nat.{ℕ, zero, suc, _+_, _*_, _^_}
 use lib.Dec.{T}
 use lib.Ieee.{Float, unlike}
 use lib.Ieee.Scale.{finite}
-use Rattle.exact.specs.Value.{signOf, unitsOf}
+use Rattle.exact.specs.Value.{signOf, unitsOf, valueOf}
 use Rattle.exact.specs.Signed.{Signed, Apart, signed, times, plusS}
-use Rattle.trig.specs.Reduce.{numberOf}
 
 -- p!
 unfoldable pub factorial : ℕ → ℕ
@@ -54,4 +53,4 @@ sineSum r n = partial (signOf r) (unitsOf r) (2 ^ 1074) 1 n
 -- v is finite, and within 2 ^ -48 of a / b. v is n / 2 ^ 1074, so 2 ^ 48 b n and 2 ^ 48 2 ^ 1074 a are at most 2 ^ 1074 b apart
 pub record within (v : Float) (f : Fraction) : Type 0 where
   pub known : T (finite v)
-  pub near : Apart (times (2 ^ 48 * f .bottom) (numberOf v)) (times (2 ^ 48 * 2 ^ 1074) (f .top)) (2 ^ 1074 * f .bottom)
+  pub near : Apart (times (2 ^ 48 * f .bottom) (valueOf v)) (times (2 ^ 48 * 2 ^ 1074) (f .top)) (2 ^ 1074 * f .bottom)
