@@ -48,13 +48,7 @@ pub fn run() {
         "{:44} {:>8} {:>8} {:>8}",
         "nanoseconds a sample of each row", "ours", "Rust", "ratio"
     );
-    // Offsets so small that the rows stay those of the matrix alone: others move them, and with them how often a branch is guessed wrong.
-    step(
-        "mixer",
-        &[0.9, 0.1, -0.1, 1.1, 1e-6, -2e-6],
-        host::mixer,
-        mixer::their_mixer,
-    );
+    mixer_steps();
     for count in [1, 2, 3, 4, 5, 8, 16] {
         let name = format!("iir, two rows, sections: {count}");
         step(&name, &iir::level(count), host::iir, theirs::rows::iir);
@@ -103,6 +97,59 @@ fn spline(degree: usize, count: usize) {
         timed(&|points| host::spline(points, &row)),
         timed(&theirs),
     );
+}
+
+/// The mixer by a matrix all of whose products are rounded, on rows of several kinds; and two pairs of matrix and rows that are hard for ours: ties, and sums of
+/// which all but the lost digits cancels.
+fn mixer_steps() {
+    let mut rng = Rng::new(8);
+    let numbers = [0.9, 0.1, -0.1, 1.1, 1e-6, -2e-6];
+    let turn = |k: usize| {
+        let (sine, cosine) = (0.01 * k as f64 + 0.3).sin_cos();
+        [cosine, sine]
+    };
+    let pulse = |k: usize| match k % 128 {
+        at @ ..=95 => 0.5 - 0.5 * (TAU * at as f64 / 96.0).cos(),
+        _ => 0.0,
+    };
+    mixer_on("sines", &numbers, turn);
+    mixer_on("Hann pulses and gaps", &numbers, |k| {
+        turn(k).map(|part| pulse(k) * part)
+    });
+    mixer_on("samples from -1 to 1", &numbers, |_| {
+        [(); 2].map(|_| rng.sample())
+    });
+    let mut coarse = |_| [(); 2].map(|_| (rng.sample() * 2048.0).floor() / 2048.0);
+    mixer_on("samples of 12 bits", &numbers, &mut coarse);
+    let ties = [1.0, 0.1, -0.1, 1.0, 1e-6, -2e-6];
+    mixer_on("samples of 12 bits, by 1 and 0.1", &ties, &mut coarse);
+    mixer_on("samples below 2^-800", &numbers, |_| {
+        [(); 2].map(|_| rng.sample() * 2f64.powi(-801))
+    });
+    let half = std::f64::consts::FRAC_1_SQRT_2;
+    let cancels = [half, -half, half, half, 1e-6, -2e-6];
+    mixer_on("I and Q alike, turned to 0", &cancels, |_| {
+        [rng.sample(); 2]
+    });
+}
+
+/// Two rows of NUMBERS samples, laid anew for each call.
+fn mixer_on(name: &str, numbers: &[f64], at: impl FnMut(usize) -> [f64; 2]) {
+    let pairs: Vec<[f64; 2]> = (0..NUMBERS).map(at).collect();
+    let one = |row: usize| pairs.iter().map(move |pair| pair[row]);
+    let rows: Vec<f64> = one(0).chain(one(1)).collect();
+    let timed = |call: &dyn Fn(&mut [f64])| {
+        rows_best(&rows, |samples| {
+            samples.copy_from_slice(&rows);
+            call(samples);
+        })
+    };
+    let mine = timed(&|samples| {
+        let (i, q) = samples.split_at_mut(NUMBERS);
+        host::mixer(2, i, q, numbers);
+    });
+    let rust = timed(&|samples| mixer::their_mixer(samples, 2, numbers));
+    row(&format!("mixer, {name}"), mine, rust);
 }
 
 /// Two rows of NUMBERS samples from -1 to 1, stepped in place again and again; the numbers keep them finite.

@@ -69,25 +69,12 @@ fn correct(i: &mut [f64], q: &mut [f64], m00: f64, m01: f64, o0: f64, m10: f64, 
 {
     let fit = both_roomy(m00, m10);
     let h0 = upper(m00);
+    let l0 = m00 - h0;
     let h1 = upper(m10);
+    let l1 = m10 - h1;
     let mut k: usize = 0;
     while i.len() - k >= 2 {
-        two(
-            i,
-            q,
-            k,
-            fit,
-            m00,
-            h0,
-            m00 - h0,
-            m01,
-            o0,
-            m10,
-            h1,
-            m10 - h1,
-            m11,
-            o1,
-        );
+        two(i, q, k, fit, m00, h0, l0, m01, o0, m10, h1, l1, m11, o1);
         k += 2;
     }
     if k < i.len() {

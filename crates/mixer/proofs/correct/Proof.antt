@@ -10,10 +10,10 @@ use Rattle.mixer.proofs.correct.Statement.{statement}
 use Rattle.mixer.proofs.correct.Tie as tie
 
 abbrev Inv-loop : tie.InvT-loop
-Inv-loop i₀ q₀ m00 m01 o0 m10 m11 o1 fit h0 h1 k₀ i q k = SoFar i₀ q₀ m00 m01 o0 m10 m11 o1 i q k
+Inv-loop i₀ q₀ m00 m01 o0 m10 m11 o1 fit h0 l0 h1 l1 k₀ i q k = SoFar i₀ q₀ m00 m01 o0 m10 m11 o1 i q k
 
 abbrev μ-loop : tie.MeasureT-loop
-μ-loop i₀ q₀ m00 m01 o0 m10 m11 o1 fit h0 h1 k₀ i q k = length i₀ - k
+μ-loop i₀ q₀ m00 m01 o0 m10 m11 o1 fit h0 l0 h1 l1 k₀ i q k = length i₀ - k
 
 both-roomy-requires : tie.Need-both-roomy-requires Inv-loop μ-loop
 both-roomy-requires c κs = search needs
