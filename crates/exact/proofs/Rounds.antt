@@ -95,25 +95,25 @@ rounds-error x y r = by (r .sign) (r .size) (rnd (r .size)) (mag x) (r .from) (r
     by false m p e h k a i = record { over = omega (arith, a .over, a .under); under = omega (arith, a .over, a .under) }
 
 -- ---- the order: x is at most y
-abbrev pub Upto : Signed → Signed → Type 0
-Upto x y = x .plus + y .less ≤ y .plus + x .less
+abbrev pub NotAbove : Signed → Signed → Type 0
+NotAbove x y = x .plus + y .less ≤ y .plus + x .less
 
-pub rounds-mono : (x y u v : Signed) → Rounds x y → Rounds u v → Upto x u → Upto y v
+pub rounds-mono : (x y u v : Signed) → Rounds x y → Rounds u v → NotAbove x u → NotAbove y v
 rounds-mono x y u v r q h =
     by (r .sign) (q .sign) (r .size) (q .size) (rnd (r .size)) (rnd (q .size)) (r .from) (r .to) (q .from) (q .to) (rnd-mono (r .size) (q .size)) (rnd-mono (q .size) (r .size)) (rnd-none (r .size)) (rnd-none (q .size))
   where
     by : (s t : Bool) (m n k l : ℕ) → Same x (signed s m) → Same y (signed s k) → Same u (signed t n) → Same v (signed t l)
-        → (m ≤ n → k ≤ l) → (n ≤ m → l ≤ k) → (m ≡ 0 → k ≡ 0) → (n ≡ 0 → l ≡ 0) → Upto y v
+        → (m ≤ n → k ≤ l) → (n ≤ m → l ≤ k) → (m ≡ 0 → k ≡ 0) → (n ≡ 0 → l ≡ 0) → NotAbove y v
     by false false m n k l a b c d f g i j = let o = f (omega arith) in omega arith
     by true true m n k l a b c d f g i j = let o = g (omega arith) in omega arith
     by true false m n k l a b c d f g i j = omega arith
     by false true m n k l a b c d f g i j = let o = i (omega arith) in let p = j (omega arith) in omega arith
 
 -- what lies between two numbers that round to r rounds to r
-pub rounds-between : (l x h r q : Signed) → Rounds l q → Rounds h r → Same r q → Upto l x → Upto x h → Rounds x r
+pub rounds-between : (l x h r q : Signed) → Rounds l q → Rounds h r → Same r q → NotAbove l x → NotAbove x h → Rounds x r
 rounds-between l x h r q a b e f g =
     let y = rounds-of x in
     rounds-same x (y .0) x r refl (both (y .0) (rounds-mono l q x (y .0) a (y .1) f) (rounds-mono x (y .0) h r (y .1) b g)) (y .1)
   where
-    both : (y : Signed) → Upto q y → Upto y r → Same y r
+    both : (y : Signed) → NotAbove q y → NotAbove y r → Same y r
     both y h k = omega arith

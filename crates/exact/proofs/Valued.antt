@@ -130,12 +130,12 @@ module _ (x y : Float) (f : T (fits binary64 x)) (g : T (fits binary64 y)) where
       turned false n = refl
 
 -- ---- a product of multiples of powers of two
-pub record Shifted (x : Float) (i : ℕ) (u : Signed) : Type 0 where
+pub record OnStep (x : Float) (i : ℕ) (u : Signed) : Type 0 where
   pub fit : T (fits binary64 x)
   pub here : T (finite x)
   pub value : Same (valueOf x) (times (2 ^ i) u)
 
-module _ (x y : Float) (i j k : ℕ) (u w : Signed) (f : Shifted x i u) (g : Shifted y j w) (e : i + j ≡ 1074 + k) where
+module _ (x y : Float) (i j k : ℕ) (u w : Signed) (f : OnStep x i u) (g : OnStep y j w) (e : i + j ≡ 1074 + k) where
   abbrev exact : Signed
   exact = times (2 ^ k) (timesS u w)
 

@@ -17,7 +17,7 @@ use Rattle.quick_fma.proofs.Settles.{tried}
 use Rattle.rows.proofs.Turns.{upto, upto-get, upto-next, upto-end}
 use Rattle.mixer.specs.Mixer.{mixed, corrected, correctedRow}
 use Rattle.mixer.specs.declared.Fused.{Fused}
-use Rattle.mixer.specs.Turns.{Parts, oneOn, twoOn, fusedOf}
+use Rattle.mixer.specs.Turns.{InHalves, oneOn, twoOn, fusedOf}
 use Rattle.mixer.proofs.Samples.{corrected-length, corrected-at}
 
 -- ---- the test `!=`
@@ -31,7 +31,7 @@ unequal x y h = taken (eq x y) (eq x y) refl h
 
 -- ---- what doubles settle
 module _ (m h l n x y g z w u : Float) (r : Fused) (fm : T (fits binary64 m)) (fx : T (fits binary64 x)) (fz : T (fits binary64 z)) (rm : roomyOf m ≡ true) (rx : roomyOf x ≡ true) (rz : roomyOf z ≡ true)
-    (p : Parts m h l) (gi : g ≡ upperOf x) (ui : u ≡ upperOf z) (is : r ≡ fusedOf m h l n x g (sub binary64 x g) y z u (sub binary64 z u) w) (settled : r .settled ≡ true) where
+    (p : InHalves m h l) (gi : g ≡ upperOf x) (ui : u ≡ upperOf z) (is : r ≡ fusedOf m h l n x g (sub binary64 x g) y z u (sub binary64 z u) w) (settled : r .settled ≡ true) where
   one-settled : (x y g : Float) → T (fits binary64 x) → roomyOf x ≡ true → g ≡ upperOf x → eq (trialOf m h l x g (sub binary64 x g) (mul binary64 n y) .off) nought ≡ true
       → trialOf m h l x g (sub binary64 x g) (mul binary64 n y) .low ≡ mixed m n x y
   one-settled x y g fx rx gi z =
@@ -47,7 +47,7 @@ module _ (m h l n x y g z w u : Float) (r : Fused) (fm : T (fits binary64 m)) (f
   second-is = ap (λ (f : Fused). f .second) is ∙ one-settled z w u fz rz ui (both-settled .1)
 
 -- ---- the first k samples are corrected
-pub record SoFar (i₀ q₀ : List Float) (m00 m01 o0 m10 m11 o1 : Float) (i q : List Float) (k : ℕ) : Type 0 where
+pub record FirstDone (i₀ q₀ : List Float) (m00 m01 o0 m10 m11 o1 : Float) (i q : List Float) (k : ℕ) : Type 0 where
   pub equal : length i₀ ≡ length q₀
   pub within : k ≤ length i₀
   pub sameI : length i ≡ length i₀
@@ -63,7 +63,7 @@ turn m n o i₀ q₀ old row k v e s h done is =
     ap (λ (l : List Float). set l k v) done ∙ upto-next new old k nan v inside (corrected-length m n o i₀ q₀ e ∙ sym s) (corrected-at m n o i₀ q₀ k e h ∙ sym is)
 
 -- both rows
-turns : (i₀ q₀ : List Float) (m00 m01 o0 m10 m11 o1 : Float) (i q : List Float) (k : ℕ) (v w : Float) → k < length i₀ → SoFar i₀ q₀ m00 m01 o0 m10 m11 o1 i q k → v ≡ corrected m00 m01 o0 (getD i k nan) (getD q k nan) → w ≡ corrected m10 m11 o1 (getD i k nan) (getD q k nan) → SoFar i₀ q₀ m00 m01 o0 m10 m11 o1 (set i k v) (set q k w) (k + 1)
+turns : (i₀ q₀ : List Float) (m00 m01 o0 m10 m11 o1 : Float) (i q : List Float) (k : ℕ) (v w : Float) → k < length i₀ → FirstDone i₀ q₀ m00 m01 o0 m10 m11 o1 i q k → v ≡ corrected m00 m01 o0 (getD i k nan) (getD q k nan) → w ≡ corrected m10 m11 o1 (getD i k nan) (getD q k nan) → FirstDone i₀ q₀ m00 m01 o0 m10 m11 o1 (set i k v) (set q k w) (k + 1)
 turns i₀ q₀ m00 m01 o0 m10 m11 o1 i q k v w h inv is-v is-w =
     let x : getD i k nan ≡ getD i₀ k nan = ap (λ (l : List Float). getD l k nan) (inv .doneI) ∙ upto-get (correctedRow m00 m01 o0 i₀ q₀) i₀ k nan in
     let y : getD q k nan ≡ getD q₀ k nan = ap (λ (l : List Float). getD l k nan) (inv .doneQ) ∙ upto-get (correctedRow m10 m11 o1 i₀ q₀) q₀ k nan in
@@ -96,21 +96,21 @@ one-and-one k m00 m01 o0 m10 m11 o1 i q i' q' i1 q1 i2 q2 a b c d e f =
       f ∙ (λ j. oneOn (k + 1) m10 m11 o1 (I j) (Q j) (Q j)) ∙ (λ j. set (set q k w) (k + 1) (corrected m10 m11 o1 (next-stays i k v j) (next-stays q k w j))),
     )
 
-module _ (i₀ q₀ : List Float) (m00 m01 o0 m10 m11 o1 : Float) (i q : List Float) (k : ℕ) (inv : SoFar i₀ q₀ m00 m01 o0 m10 m11 o1 i q k) where
-  pub one-turn : k < length i₀ → (i' q' : List Float) → i' ≡ oneOn k m00 m01 o0 i q i → q' ≡ oneOn k m10 m11 o1 i q q → SoFar i₀ q₀ m00 m01 o0 m10 m11 o1 i' q' (k + 1)
+module _ (i₀ q₀ : List Float) (m00 m01 o0 m10 m11 o1 : Float) (i q : List Float) (k : ℕ) (inv : FirstDone i₀ q₀ m00 m01 o0 m10 m11 o1 i q k) where
+  pub one-turn : k < length i₀ → (i' q' : List Float) → i' ≡ oneOn k m00 m01 o0 i q i → q' ≡ oneOn k m10 m11 o1 i q q → FirstDone i₀ q₀ m00 m01 o0 m10 m11 o1 i' q' (k + 1)
   one-turn h i' q' a b =
-      subst (λ (r : List Float). SoFar i₀ q₀ m00 m01 o0 m10 m11 o1 r q' (k + 1)) (sym a)
-      (subst (λ (r : List Float). SoFar i₀ q₀ m00 m01 o0 m10 m11 o1 (oneOn k m00 m01 o0 i q i) r (k + 1)) (sym b)
+      subst (λ (r : List Float). FirstDone i₀ q₀ m00 m01 o0 m10 m11 o1 r q' (k + 1)) (sym a)
+      (subst (λ (r : List Float). FirstDone i₀ q₀ m00 m01 o0 m10 m11 o1 (oneOn k m00 m01 o0 i q i) r (k + 1)) (sym b)
       (turns i₀ q₀ m00 m01 o0 m10 m11 o1 i q k (corrected m00 m01 o0 (getD i k nan) (getD q k nan)) (corrected m10 m11 o1 (getD i k nan) (getD q k nan)) h inv refl refl))
 
-  pub two-turns : k + 1 < length i₀ → (i' q' : List Float) → i' ≡ twoOn k m00 m01 o0 i q i → q' ≡ twoOn k m10 m11 o1 i q q → SoFar i₀ q₀ m00 m01 o0 m10 m11 o1 i' q' (k + 2)
+  pub two-turns : k + 1 < length i₀ → (i' q' : List Float) → i' ≡ twoOn k m00 m01 o0 i q i → q' ≡ twoOn k m10 m11 o1 i q q → FirstDone i₀ q₀ m00 m01 o0 m10 m11 o1 i' q' (k + 2)
   two-turns h i' q' a b =
       let v = corrected m00 m01 o0 (getD i k nan) (getD q k nan) in
       let w = corrected m10 m11 o1 (getD i k nan) (getD q k nan) in
       let later : (m n o : Float) → corrected m n o (getD i (k + 1) nan) (getD q (k + 1) nan) ≡ corrected m n o (getD (set i k v) (k + 1) nan) (getD (set q k w) (k + 1) nan) = λ m n o. λ j. corrected m n o (sym (next-stays i k v) j) (sym (next-stays q k w) j) in
-      subst (λ (r : List Float). SoFar i₀ q₀ m00 m01 o0 m10 m11 o1 r q' (k + 2)) (sym a)
-      (subst (λ (r : List Float). SoFar i₀ q₀ m00 m01 o0 m10 m11 o1 (twoOn k m00 m01 o0 i q i) r (k + 2)) (sym b)
-      (subst (λ (n : ℕ). SoFar i₀ q₀ m00 m01 o0 m10 m11 o1 (twoOn k m00 m01 o0 i q i) (twoOn k m10 m11 o1 i q q) n) (two k)
+      subst (λ (r : List Float). FirstDone i₀ q₀ m00 m01 o0 m10 m11 o1 r q' (k + 2)) (sym a)
+      (subst (λ (r : List Float). FirstDone i₀ q₀ m00 m01 o0 m10 m11 o1 (twoOn k m00 m01 o0 i q i) r (k + 2)) (sym b)
+      (subst (λ (n : ℕ). FirstDone i₀ q₀ m00 m01 o0 m10 m11 o1 (twoOn k m00 m01 o0 i q i) (twoOn k m10 m11 o1 i q q) n) (two k)
       (turns i₀ q₀ m00 m01 o0 m10 m11 o1 (set i k v) (set q k w) (k + 1) (corrected m00 m01 o0 (getD i (k + 1) nan) (getD q (k + 1) nan)) (corrected m10 m11 o1 (getD i (k + 1) nan) (getD q (k + 1) nan)) h
       (turns i₀ q₀ m00 m01 o0 m10 m11 o1 i q k v w (less k h) inv refl refl) (later m00 m01 o0) (later m10 m11 o1))))
     where

@@ -19,15 +19,15 @@ abbrev pub twoOn : ℕ → Float → Float → Float → List Float → List Flo
 twoOn k m n o i q row = oneOn (k + 1) m n o i q (oneOn k m n o i q row)
 
 -- m is h + l, split for products
-pub record Parts (m h l : Float) : Type 0 where
+pub record InHalves (m h l : Float) : Type 0 where
   pub upper : h ≡ upperOf m
   pub lower : l ≡ sub binary64 m h
 
 -- the two factors of the fused products, split, and whether both leave room
 pub record Factors (fit : Bool) (m h l n g k : Float) : Type 0 where
   pub room : fit ≡ (roomyOf m && roomyOf n)
-  pub first : Parts m h l
-  pub second : Parts n g k
+  pub first : InHalves m h l
+  pub second : InHalves n g k
 
 -- m x + n y and m z + n w, tried by doubles: m is h + l, x is g + s, and z is u + v
 abbrev pub fusedOf : Float → Float → Float → Float → Float → Float → Float → Float → Float → Float → Float → Float → Fused

@@ -39,7 +39,7 @@ same-sign : (b c : ℕ) → b / 2 ^ 63 ≡ c / 2 ^ 63 → leb (2 ^ 63) c ≡ leb
 same-sign b c e = elim (below-or b (2 ^ 63)) [ inl l ↦ lt-leb (2 ^ 63) c (omega arith) ∙ sym (lt-leb (2 ^ 63) b l) | inr l ↦ le-leb (2 ^ 63) c (omega arith) ∙ sym (le-leb (2 ^ 63) b l) ]
 
 -- ---- the steps of a number and of its upper part
-record Parted (b : ℕ) : Type 0 where
+record UpperSteps (b : ℕ) : Type 0 where
   i : ℕ
   A : ℕ
   B : ℕ
@@ -61,7 +61,7 @@ module _ (b : ℕ) (h : b < 2 ^ 64) (n : b % 2 ^ 63 ≤ 2047 * 2 ^ 52) where
   u = (b % 2 ^ 52 + 2 ^ 26) / 2 ^ 27 * 2 ^ 27
 
   -- a normal one
-  normal : (i : ℕ) → b % 2 ^ 63 / 2 ^ 52 ≡ suc i → 537 ≤ i → T (finite (ofBits binary64 b)) → T (finite (ofBits binary64 c)) → Parted b
+  normal : (i : ℕ) → b % 2 ^ 63 / 2 ^ 52 ≡ suc i → 537 ≤ i → T (finite (ofBits binary64 b)) → T (finite (ofBits binary64 c)) → UpperSteps b
   normal i f far tb tc =
       record {
         i = i;
@@ -109,7 +109,7 @@ module _ (b : ℕ) (h : b < 2 ^ 64) (n : b % 2 ^ 63 ≤ 2047 * 2 ^ 52) where
           digits c m u e k j = omega arith
 
   -- a zero
-  zero : b % 2 ^ 63 ≡ 0 → Parted b
+  zero : b % 2 ^ 63 ≡ 0 → UpperSteps b
   zero z =
       record {
         i = 1074;
@@ -177,5 +177,5 @@ module _ (x : Float) (f : T (fits binary64 x)) (r : roomyOf x ≡ true) where
       at-bits : T (finite (sub binary64 (ofBits binary64 b) (ofBits binary64 (upperBits b)))) → (i : ℕ) × Halved (ofBits binary64 b) (ofBits binary64 (upperBits b)) (sub binary64 (ofBits binary64 b) (ofBits binary64 (upperBits b))) i × (537 ≤ i)
       at-bits t =
           let o = sub-finite binary64 (ofBits binary64 b) (ofBits binary64 (upperBits b)) t in
-          let p : Parted b = elim size [ inl z ↦ zero b h n z | inr l ↦ normal b h n (b % 2 ^ 63 / 2 ^ 52 - 1) (field (b % 2 ^ 63) l .0) (field (b % 2 ^ 63) l .1) (o .0) (o .1) ] in
+          let p : UpperSteps b = elim size [ inl z ↦ zero b h n z | inr l ↦ normal b h n (b % 2 ^ 63 / 2 ^ 52 - 1) (field (b % 2 ^ 63) l .0) (field (b % 2 ^ 63) l .1) (o .0) (o .1) ] in
           (p .i, halved (ofBits binary64 b) (ofBits binary64 (upperBits b)) (p .i) (leb (2 ^ 63) b) (p .A) (p .B) (p .steps) t, p .far)

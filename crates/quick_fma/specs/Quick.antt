@@ -4,8 +4,8 @@ use Prim.Native.Nat.{ℕ, _+_, _%_, _^_}
 use lib.Bits.{bitAnd}
 use lib.Dec.{eqb, leb}
 use lib.Ieee.{Float, binary64, isNan, ofBits, toBits, add, mul}
-use Rattle.roundoff.specs.declared.Ends.{Ends}
-use Rattle.roundoff.specs.Roundoff.{sumOff, productOff, endsOf}
+use Rattle.roundoff.specs.declared.Enclosure.{Enclosure}
+use Rattle.roundoff.specs.Roundoff.{sumOff, productOff, enclosureOf}
 
 -- not a NaN; 0, or a size of 2 ^ -485 at least, whose bits are these
 abbrev pub roomyOf : Float → Bool
@@ -19,5 +19,5 @@ abbrev pub upperOf : Float → Float
 upperOf x = cond (isNan x) x (ofBits binary64 (upperBits (toBits binary64 x)))
 
 -- a is h + l, and x is g + m
-abbrev pub trialOf : Float → Float → Float → Float → Float → Float → Float → Ends
-trialOf a h l x g m c = endsOf (add binary64 (mul binary64 a x) c) (sumOff (mul binary64 a x) c) (productOff a h l x g m)
+abbrev pub trialOf : Float → Float → Float → Float → Float → Float → Float → Enclosure
+trialOf a h l x g m c = enclosureOf (add binary64 (mul binary64 a x) c) (sumOff (mul binary64 a x) c) (productOff a h l x g m)

@@ -7,8 +7,8 @@ ghost use Rattle.exact.specs.Doubles.{nought};
 ghost use Rattle.fma.specs.Fused.{fma};
 ghost use Rattle.quick_fma.specs.Quick.{roomyOf, upperOf, trialOf};
 use ieee::finite::is_finite;
-use roundoff::Ends;
-use roundoff::ends_of;
+use roundoff::Enclosure;
+use roundoff::enclose;
 use roundoff::product_off;
 use roundoff::sum_off;
 
@@ -83,9 +83,9 @@ pub fn upper(x: f64) -> f64
 }
 
 // For an a and an x that are split once for many products: a is h + l, and x is g + m. Where `off` is 0 and all are as `upper` splits them, `low` is the answer.
-pub fn trial(a: f64, h: f64, l: f64, x: f64, g: f64, m: f64, c: f64) -> Ends
+pub fn trial(a: f64, h: f64, l: f64, x: f64, g: f64, m: f64, c: f64) -> Enclosure
     ensures { λ r. ⌜ r ≡ trialOf a h l x g m c ⌝ }
 {
     let p = a * x;
-    ends_of(p + c, sum_off(p, c), product_off(a, h, l, x, g, m))
+    enclose(p + c, sum_off(p, c), product_off(a, h, l, x, g, m))
 }

@@ -18,7 +18,7 @@ use Rattle.exact.proofs.Few.{Few}
 use Rattle.exact.proofs.Sizes.{mag-same, mag-by, mag-add, mag-product, apart-mag, same-less}
 use Rattle.exact.proofs.Nearest.{few-none}
 use Rattle.exact.proofs.Rounds.{rounds-exact, rounds-to, rounds-error}
-use Rattle.exact.proofs.Valued.{Shifted, sub-finite, sub-value, mul-value}
+use Rattle.exact.proofs.Valued.{OnStep, sub-finite, sub-value, mul-value}
 use Rattle.roundoff.specs.Roundoff.{productOff}
 use Rattle.roundoff.proofs.Multiples.{Multiple, multiple-of, multiple-less, multiple-product, multiple-times, multiple-lower, multiple-none, double-multiple, rounds-large}
 
@@ -34,9 +34,9 @@ pub record Halves (H L : Signed) : Type 0 where
 pub record Halved (x h l : Float) (i : ℕ) : Type 0 where
   pub H : Signed
   pub L : Signed
-  pub x-is : Shifted x i (plusS H L)
-  pub h-is : Shifted h i H
-  pub l-is : Shifted l i L
+  pub x-is : OnStep x i (plusS H L)
+  pub h-is : OnStep h i H
+  pub l-is : OnStep l i L
   pub halves : Halves H L
 
 -- ---- the product of two sums, times u

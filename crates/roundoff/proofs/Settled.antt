@@ -30,11 +30,11 @@ use Rattle.exact.proofs.Valued.{value-is, add-finite, sub-finite, mul-finite, a
 use Rattle.roundoff.specs.Roundoff.{ABOVE, BELOW, lowEnd, highEnd}
 
 -- ---- M / 2 ^ 50, rounded to W, where M is less than N 2 ^ 51: off by an eighth part of N / 2 ^ 50 and by a half at most
-record Scaled (W M N : ℕ) : Type 0 where
+record ScaledTo (W M N : ℕ) : Type 0 where
   over : W * 2 ^ 52 ≤ M * 4 + N + 2 ^ 51
   under : M * 4 ≤ W * 2 ^ 52 + N + 2 ^ 51
 
-scaled : (W M N Z n c : ℕ) → 0 < Z → M ≤ N * 2 ^ 51 → n ≡ M * Z → c ≡ 2 ^ 50 * Z → Within W n c → Scaled W M N
+scaled : (W M N Z n c : ℕ) → 0 < Z → M ≤ N * 2 ^ 51 → n ≡ M * Z → c ≡ 2 ^ 50 * Z → Within W n c → ScaledTo W M N
 scaled W M N Z n c P l i j h =
     record {
       over = le-of-mul-le-mul-right {m = W * 2 ^ 52} {n = M * 4 + N + 2 ^ 51} {k = 2 ^ 51} (fewer W M N l (le-of-mul-le-mul-right {m = W * 2 ^ 103} {n = M * 2 ^ 53 + (M + 2 ^ 102)} {k = Z} (one (most n (c * 2 ^ 52)) (ap (λ (z : ℕ). W * z) j)) P)) (pow-pos 51);
@@ -57,12 +57,12 @@ scaled W M N Z n c P l i j h =
     more W M N l h = omega arith
 
 -- a double times F, which is K 2 ^ 1024 units
-record Product (v F : Float) (K : ℕ) : Type 0 where
+record ByFactor (v F : Float) (K : ℕ) : Type 0 where
   size : ℕ
   value : valueOf (mul binary64 v F) ≡ signed (signOf v) size
-  near : Scaled size (unitsOf v * K) (unitsOf v)
+  near : ScaledTo size (unitsOf v * K) (unitsOf v)
 
-product : (v F : Float) (K : ℕ) → K ≤ 2 ^ 51 → Units F false (K * 2 ^ 1024) → T (fits binary64 v) → T (finite (mul binary64 v F)) → Product v F K
+product : (v F : Float) (K : ℕ) → K ≤ 2 ^ 51 → Units F false (K * 2 ^ 1024) → T (fits binary64 v) → T (finite (mul binary64 v F)) → ByFactor v F K
 product v F K l u f t =
     let n = unitsOf v in
     let q = 2 ^ 1074 in
@@ -128,7 +128,7 @@ short-of n N U l h k = le-of-mul-le-mul-right {m = U} {n = n} {k = 2 ^ 52} (one 
     two : (n N : ℕ) → n ≤ N * 2 → N * 2 ^ 53 ≤ n * 2 ^ 53 + n → N * 2 ^ 52 ≤ n * 2 ^ 52 + N * 2
     two n N l h = omega arith
 
-between : (n N W U : ℕ) → Part N n → ((N ≡ n) ⊎ (2 ^ 53 ≤ N)) → Scaled W (N * (2 ^ 50 + 1)) N → Scaled U (N * (2 ^ 50 - 1)) N → (U ≤ n) × (n ≤ W)
+between : (n N W U : ℕ) → Part N n → ((N ≡ n) ⊎ (2 ^ 53 ≤ N)) → ScaledTo W (N * (2 ^ 50 + 1)) N → ScaledTo U (N * (2 ^ 50 - 1)) N → (U ≤ n) × (n ≤ W)
 between n N W U p (inl e) w u = (le-trans (at-most N U (u .over)) (le-of-eq e), le-trans (le-of-eq (sym e)) (at-least N W (w .under)))
 between n N W U p (inr l) w u =
     let t = twice n N (p .under) in

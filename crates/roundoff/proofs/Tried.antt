@@ -3,7 +3,7 @@ use mathlib.Core.Path.{_≡_, refl}
 use mathlib.Core.Bool.{false}
 use lib.Ieee.{Float, binary64, ofBits, eq, neg, add, sub, mul, sum, round}
 use Rattle.exact.specs.Doubles.{nought, one}
-use Rattle.roundoff.specs.Roundoff.{sumOff, productOff, endsOf}
+use Rattle.roundoff.specs.Roundoff.{sumOff, productOff, enclosureOf}
 
 -- 2 ^ -53, 2 ^ -52, 2 ^ -104 and 1 + 2 ^ -52
 abbrev half : Float
@@ -33,14 +33,14 @@ unfolding ofBits neg add sub mul sum round
 product-lost = refl
 
 -- 1 + 2 ^ -53 is a tie; 1 - 2 ^ -106 can only be rounded to 1, and 1 + 2 ^ -52 - 2 ^ -106 to 1 + 2 ^ -52
-pub tie-unsettled : eq (endsOf one (neg half) nought .off) nought ≡ false
+pub tie-unsettled : eq (enclosureOf one (neg half) nought .off) nought ≡ false
 unfolding ofBits neg add sub mul sum round eq
 tie-unsettled = refl
 
-pub one-settled : endsOf one (mul binary64 half half) nought ≡ record { low = one; off = nought }
+pub one-settled : enclosureOf one (mul binary64 half half) nought ≡ record { low = one; off = nought }
 unfolding ofBits add sub mul sum round
 one-settled = refl
 
-pub other-settled : endsOf over (mul binary64 half half) nought ≡ record { low = over; off = nought }
+pub other-settled : enclosureOf over (mul binary64 half half) nought ≡ record { low = over; off = nought }
 unfolding ofBits add sub mul sum round
 other-settled = refl

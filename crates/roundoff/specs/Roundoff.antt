@@ -1,6 +1,6 @@
 -- What a rounded sum and a rounded product are off by, as doubles that a program computes. Definitions only.
 use lib.Ieee.{Float, binary64, ofBits, add, sub, mul}
-use Rattle.roundoff.specs.declared.Ends.{Ends}
+use Rattle.roundoff.specs.declared.Enclosure.{Enclosure}
 
 -- Knuth's two-sum: a + b, rounded, less a + b
 abbrev pub sumOff : Float → Float → Float
@@ -28,5 +28,5 @@ lowEnd s t e = sub binary64 s (mul binary64 (add binary64 t e) ABOVE)
 abbrev pub highEnd : Float → Float → Float → Float
 highEnd s t e = sub binary64 s (mul binary64 (add binary64 t e) BELOW)
 
-abbrev pub endsOf : Float → Float → Float → Ends
-endsOf s t e = record { low = lowEnd s t e; off = sub binary64 (lowEnd s t e) (highEnd s t e) }
+abbrev pub enclosureOf : Float → Float → Float → Enclosure
+enclosureOf s t e = record { low = lowEnd s t e; off = sub binary64 (lowEnd s t e) (highEnd s t e) }

@@ -5,12 +5,12 @@ use Prim.Native.Nat.{_+_, _-_}
 use native.Mathlib.Omega.{arith}
 use lib.ListN.{length}
 use Rattle.rows.proofs.Turns.{upto}
-use Rattle.mixer.proofs.Turning.{SoFar, one-turn, two-turns, all-done}
+use Rattle.mixer.proofs.Turning.{FirstDone, one-turn, two-turns, all-done}
 use Rattle.mixer.proofs.correct.Statement.{statement}
 use Rattle.mixer.proofs.correct.Tie as tie
 
 abbrev Inv-loop : tie.InvT-loop
-Inv-loop i₀ q₀ m00 m01 o0 m10 m11 o1 fit h0 l0 h1 l1 k₀ i q k = SoFar i₀ q₀ m00 m01 o0 m10 m11 o1 i q k
+Inv-loop i₀ q₀ m00 m01 o0 m10 m11 o1 fit h0 l0 h1 l1 k₀ i q k = FirstDone i₀ q₀ m00 m01 o0 m10 m11 o1 i q k
 
 abbrev μ-loop : tie.MeasureT-loop
 μ-loop i₀ q₀ m00 m01 o0 m10 m11 o1 fit h0 l0 h1 l1 k₀ i q k = length i₀ - k
@@ -64,7 +64,7 @@ one-requires c κs =
 last-turn : (c : tie.After-slice-known6 Inv-loop μ-loop) → let n = c .before .before .before .before in
     let l = n .before .before .before .before .before in
     let a = l .before .before .before .before .before .before .args in
-    SoFar (a .i .now) (a .q .now) (a .m00) (a .m01) (a .o0) (a .m10) (a .m11) (a .o1) (n .one .last .0) (n .one .last .1 .0) (l .loop .k + 1)
+    FirstDone (a .i .now) (a .q .now) (a .m00) (a .m01) (a .o0) (a .m10) (a .m11) (a .o1) (n .one .last .0) (n .one .last .1 .0) (l .loop .k + 1)
 last-turn c =
     let n = c .before .before .before .before in
     let l = n .before .before .before .before .before in
