@@ -70,6 +70,8 @@ fn fused(report: &mut Report, scale: u64, ours: Fused, theirs: Fused) {
     class("overflow edge", 2 * million, overflow_edge);
     class("ties", 2 * million, ties);
     class("ties of the product", million, product_ties);
+    class("factors around 2^-485", 2 * million, room_edge);
+    class("few digits", 2 * million, few_digits);
     special_grid(report, ours, theirs);
     exponent_grid(report, ours, theirs);
 }
@@ -162,6 +164,37 @@ fn product_ties(rng: &mut Rng) -> [f64; 3] {
         _ => rng.in_field(ea + eb - 1023 - 110),
     };
     [a, b, c]
+}
+
+/// Where a product begins to have digits below the smallest subnormal.
+fn room_edge(rng: &mut Rng) -> [f64; 3] {
+    let (ea, eb, ec) = (
+        rng.within(530, 546),
+        rng.within(530, 546),
+        rng.within(1, 160),
+    );
+    match rng.below(3) {
+        0 => cancelled(rng, ea, eb),
+        1 => [rng.in_field(ea), rng.in_field(eb), rng.subnormal()],
+        _ => [ea, eb, ec].map(|field| rng.in_field(field)),
+    }
+}
+
+/// Products and sums that are doubles, ties, and what is left when they cancel.
+fn few_digits(rng: &mut Rng) -> [f64; 3] {
+    let fields = [
+        rng.within(1013, 1033),
+        rng.within(1013, 1033),
+        rng.within(973, 1043),
+    ];
+    let [a, b, c] = fields.map(|field| {
+        let cut = rng.below(53);
+        float(rng.bits(), field as u64, rng.fraction() >> cut << cut)
+    });
+    match rng.below(3) {
+        0 => [a, b, -(a * b)],
+        _ => [a, b, c],
+    }
 }
 
 /// Numbers of every kind, each with both signs, and a NaN.

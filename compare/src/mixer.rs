@@ -2,12 +2,14 @@
 use crate::host;
 use crate::report::Report;
 use crate::rng::Rng;
-use crate::rows::{any, call, near, sample, step, wild, Calls, Draw, LENGTHS};
+use crate::rows::{any, call, coarse, near, sample, step, tenths, wild, Calls, Draw, LENGTHS};
 
-const DRAWS: [(&str, Draw); 3] = [
+const DRAWS: [(&str, Draw); 5] = [
     ("any finite bits", any),
     ("near exponents", near),
     ("samples", sample),
+    ("samples of 12 bits", coarse),
+    ("tenths", tenths),
 ];
 
 /// What takes one part out of the step: the unit matrix, and offsets of either zero.

@@ -24,6 +24,15 @@ pub fn sample(rng: &mut Rng) -> f64 {
     rng.sample()
 }
 
+/// Numbers of 12 bits, and tenths: sums that are exact, or that cancel but for what was rounded.
+pub fn coarse(rng: &mut Rng) -> f64 {
+    rng.within(-2048, 2047) as f64 / 2048.0
+}
+
+pub fn tenths(rng: &mut Rng) -> f64 {
+    rng.within(-30, 30) as f64 * 0.1
+}
+
 /// Samples as they may stand in a row: now and then an infinity or a NaN.
 pub fn wild(rng: &mut Rng) -> f64 {
     match rng.below(12) {

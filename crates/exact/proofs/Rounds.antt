@@ -50,6 +50,13 @@ rounds-mag x y r =
     ∙ mag-signed (r .sign) (rnd (r .size))
     ∙ ap rnd (sym (mag-same x (signed (r .sign) (r .size)) (r .from) ∙ mag-signed (r .sign) (r .size)))
 
+-- only 0 rounds to 0
+pub rounds-none : (x y : Signed) → Rounds x y → mag y ≡ 0 → mag x ≡ 0
+rounds-none x y r z = by (mag x) (rnd (mag x)) (sym (rounds-mag x y r) ∙ z) (rnd-part (mag x))
+  where
+    by : (n v : ℕ) → v ≡ 0 → Part v n → n ≡ 0
+    by n v e p = omega (arith, p .under)
+
 -- every number has one
 pub rounds-of : (x : Signed) → (y : Signed) × Rounds x y
 rounds-of x = let s = signed-is x in (signed (s .0) (rnd (mag x)), record { sign = s .0; size = mag x; from = s .1; to = refl })

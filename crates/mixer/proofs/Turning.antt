@@ -33,7 +33,7 @@ unequal x y h = taken (eq x y) (eq x y) refl h
 module _ (m h l n x y g z w u : Float) (r : Fused) (fm : T (fits binary64 m)) (fx : T (fits binary64 x)) (fz : T (fits binary64 z)) (rm : roomyOf m ≡ true) (rx : roomyOf x ≡ true) (rz : roomyOf z ≡ true)
     (p : InHalves m h l) (gi : g ≡ upperOf x) (ui : u ≡ upperOf z) (is : r ≡ fusedOf m h l n x g (sub binary64 x g) y z u (sub binary64 z u) w) (settled : r .settled ≡ true) where
   one-settled : (x y g : Float) → T (fits binary64 x) → roomyOf x ≡ true → g ≡ upperOf x → eq (trialOf m h l x g (sub binary64 x g) (mul binary64 n y) .off) nought ≡ true
-      → trialOf m h l x g (sub binary64 x g) (mul binary64 n y) .low ≡ mixed m n x y
+      → trialOf m h l x g (sub binary64 x g) (mul binary64 n y) .far ≡ mixed m n x y
   one-settled x y g fx rx gi z =
       tried m x (mul binary64 n y) fm fx (mul-fits binary64 n y) rm rx h l g (sub binary64 x g) (trialOf m h l x g (sub binary64 x g) (mul binary64 n y)) (p .upper) (p .lower) gi refl refl z
 

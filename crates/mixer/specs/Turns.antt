@@ -34,4 +34,4 @@ abbrev pub fusedOf : Float → Float → Float → Float → Float → Float →
 fusedOf m h l n x g s y z u v w =
     let a = trialOf m h l x g s (mul binary64 n y) in
     let b = trialOf m h l z u v (mul binary64 n w) in
-    record { first = a .low; second = b .low; settled = eq (a .off) nought && eq (b .off) nought }
+    record { first = a .far; second = b .far; settled = eq (a .off) nought && eq (b .off) nought }

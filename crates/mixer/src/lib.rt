@@ -220,8 +220,8 @@ fn two_sums(
     let a = trial(m, h, l, x, g, s, n * y);
     let b = trial(m, h, l, z, u, v, n * w);
     Fused {
-        first: a.low,
-        second: b.low,
+        first: a.far,
+        second: b.far,
         settled: both_none(a.off, b.off),
     }
 }

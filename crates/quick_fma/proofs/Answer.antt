@@ -13,17 +13,15 @@ use lib.Ieee.{Float, binary64, fits, unlike, round, sum, neg, add, sub, mul}
 use lib.Ieee.Fits.{add-fits, sub-fits, mul-fits}
 use lib.Ieee.Scale.{finite}
 use Rattle.exact.specs.Doubles.{zeroOf}
-use Rattle.exact.specs.Near.{Part}
 use Rattle.exact.specs.Value.{Units, signOf, unitsOf, valueOf}
 use Rattle.exact.specs.Signed.{Signed, Same, signed, plusS, lessS, dist, mag}
-use Rattle.exact.specs.Rounds.{rnd, Rounds}
+use Rattle.exact.specs.Rounds.{Rounds}
 use Rattle.exact.proofs.Value.{own, zero-is}
 use Rattle.exact.proofs.Few.{Few, few-of, few-value, units-below}
 use Rattle.exact.proofs.Sum.{sum-same}
 use Rattle.exact.proofs.Operation.{add-rounds}
 use Rattle.exact.proofs.Zeros.{round-zero, two-zeros, minus-only}
-use Rattle.exact.proofs.Nearest.{rnd-part}
-use Rattle.exact.proofs.Rounds.{rounds-same, rounds-mag}
+use Rattle.exact.proofs.Rounds.{rounds-same, rounds-none}
 use Rattle.exact.proofs.Valued.{Result, result-as, result-is, sum-result, add-finite, sub-finite, sub-value, product-scaled, product-same, mul-is}
 use Rattle.fma.specs.Fused.{fma}
 use Rattle.fma.proofs.Fusing.{fma-at}
@@ -31,16 +29,7 @@ use Rattle.roundoff.specs.Roundoff.{sumOff, productOff}
 use Rattle.roundoff.proofs.TwoSum.{two-sum-exact}
 use Rattle.roundoff.proofs.Product.{Halved, scale, exactProduct, product-off}
 
--- ---- a number that rounds to 0 is 0, and of two zeros
-gone : (x y : Signed) → Rounds x y → mag y ≡ 0 → mag x ≡ 0
-gone x y r z = by (rnd (mag x)) (sym (rounds-mag x y r) ∙ z) (rnd-part (mag x))
-  where
-    by : (v : ℕ) → v ≡ 0 → Part v (mag x) → mag x ≡ 0
-    by v e p = last (mag x) (p .under)
-      where
-        last : (n : ℕ) → n * 2 ^ 53 ≤ v * 2 ^ 53 + n → n ≡ 0
-        last n h = omega arith
-
+-- ---- two zeros
 less-zeros : (s t : Bool) → sub binary64 (zeroOf s) (zeroOf t) ≡ zeroOf (s && not t)
 unfolding sub neg
 less-zeros s t = two-zeros s (not t) (pos 0)
@@ -126,7 +115,7 @@ module _ (a h l x g m c : Float) (i j : ℕ) (u : Halved a h l i) (w : Halved x 
       zero : unitsOf (sub binary64 s y) ≡ 0 → sub binary64 s y ≡ fma binary64 a x c
       zero z =
           let o = sub-finite binary64 s y yt in
-          let n = gone (plusS P (valueOf c)) (valueOf (sub binary64 s y)) exactly (mag-value (signOf (sub binary64 s y)) (unitsOf (sub binary64 s y)) z) in
+          let n = rounds-none (plusS P (valueOf c)) (valueOf (sub binary64 s y)) exactly (mag-value (signOf (sub binary64 s y)) (unitsOf (sub binary64 s y)) z) in
           let k : mag P ≡ unitsOf c = level P (signOf c) (unitsOf c) n in
           -- the product is exact, so s is the answer
           let q : Units p sign (mag P) =
@@ -135,7 +124,7 @@ module _ (a h l x g m c : Float) (i j : ℕ) (u : Halved a h l i) (w : Halved x 
           -- and a zero
           let i : answer .size ≡ 0 = size-none (answer .sign) (answer .size) (plusS P (valueOf c)) (answer .same) n in
           let s-zero : s ≡ zeroOf (answer .sign) = s-is ∙ answer .is ∙ ap (λ (b : ℕ). round binary64 (answer .sign) b (2 ^ 1074)) i ∙ round-zero (answer .sign) (2 ^ 1074) (pow-pos 1074) in
-          let y-zero : y ≡ zeroOf (signOf y) = zero-is y fy (o .1) (other (valueOf s) (signOf y) (unitsOf y) (s-none s-zero) (gone (lessS (valueOf s) (valueOf y)) (valueOf (sub binary64 s y)) (sub-value s y (add-fits binary64 p c) fy yt) (mag-value (signOf (sub binary64 s y)) (unitsOf (sub binary64 s y)) z))) in
+          let y-zero : y ≡ zeroOf (signOf y) = zero-is y fy (o .1) (other (valueOf s) (signOf y) (unitsOf y) (s-none s-zero) (rounds-none (lessS (valueOf s) (valueOf y)) (valueOf (sub binary64 s y)) (sub-value s y (add-fits binary64 p c) fy yt) (mag-value (signOf (sub binary64 s y)) (unitsOf (sub binary64 s y)) z))) in
           signs (answer .sign) (signOf y) s-zero y-zero s-is
         where
           mag-value : (b : Bool) (k : ℕ) → k ≡ 0 → mag (signed b k) ≡ 0
@@ -178,7 +167,7 @@ module _ (a h l x g m c : Float) (i j : ℕ) (u : Halved a h l i) (w : Halved x 
               t-zero = ap (λ (b : Float). sumOff b c) (both .0) ∙ ap (sumOff (zeroOf true)) (both .1) ∙ minus-off
 
               e-zero : e ≡ zeroOf (signOf e)
-              e-zero = zero-is e (sub-fits binary64 _ _) (te .1) (last (valueOf s) (valueOf t) (valueOf c) P (signOf e) (unitsOf e) lossless (mag-value (signOf s) (unitsOf s) (ap unitsOf d)) (mag-value (signOf t) (unitsOf t) (ap unitsOf t-zero)) (gone (plusS P (valueOf c)) (valueOf (sub binary64 s y)) exactly (mag-value (signOf (sub binary64 s y)) (unitsOf (sub binary64 s y)) z)))
+              e-zero = zero-is e (sub-fits binary64 _ _) (te .1) (last (valueOf s) (valueOf t) (valueOf c) P (signOf e) (unitsOf e) lossless (mag-value (signOf s) (unitsOf s) (ap unitsOf d)) (mag-value (signOf t) (unitsOf t) (ap unitsOf t-zero)) (rounds-none (plusS P (valueOf c)) (valueOf (sub binary64 s y)) exactly (mag-value (signOf (sub binary64 s y)) (unitsOf (sub binary64 s y)) z)))
                 where
                   last : (s t c q : Signed) (b : Bool) (k : ℕ) → Same (lessS s (plusS t (signed b k))) (plusS q c) → mag s ≡ 0 → mag t ≡ 0 → mag (plusS q c) ≡ 0 → k ≡ 0
                   last s t c q b k h i j o = by (s .plus) (s .less) (t .plus) (t .less) (q .plus + c .plus) (q .less + c .less) b h i j o

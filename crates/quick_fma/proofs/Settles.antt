@@ -17,7 +17,7 @@ use Rattle.exact.proofs.Valued.{add-finite, sub-finite, mul-finite}
 use Rattle.fma.specs.Fused.{fma}
 use Rattle.roundoff.specs.declared.Enclosure.{Enclosure}
 use Rattle.roundoff.specs.Roundoff.{sumOff, productOff, ABOVE}
-use Rattle.roundoff.proofs.Settled.{low-finite, sum-finite, settled, settled-exactly}
+use Rattle.roundoff.proofs.Settled.{far-finite, sum-finite, settled, settled-exactly}
 use Rattle.roundoff.proofs.Product.{Halved}
 use Rattle.quick_fma.specs.Quick.{roomyOf, upperOf, trialOf}
 use Rattle.quick_fma.proofs.Parting.{upper-halves}
@@ -78,13 +78,13 @@ module _ (a x c : Float) (fa : T (fits binary64 a)) (fx : T (fits binary64 x)) (
         by : (i j : ℕ) → 537 ≤ i → 537 ≤ j → 1074 ≤ i + j
         by i j h k = omega arith
 
-  pub settled-is : eq (trialOf a h l x g m c .off) nought ≡ true → trialOf a h l x g m c .low ≡ fma binary64 a x c
+  pub settled-is : eq (trialOf a h l x g m c .off) nought ≡ true → trialOf a h l x g m c .far ≡ fma binary64 a x c
   settled-is z =
       let ft = add-fits binary64 _ _ in
       let fe = sub-fits binary64 _ _ in
       let vt = sum-finite s t e (add-fits binary64 p c) ft fe z in
       fused a h l x g m c (A vt .0) (X vt .0) (A vt .1) (X vt .1) (room vt) fc vt
-      (mul binary64 v ABOVE) (mul-fits binary64 v ABOVE) (low-finite s t e (add-fits binary64 p c) ft fe z) (settled s t e (add-fits binary64 p c) ft fe z)
+      (mul binary64 v ABOVE) (mul-fits binary64 v ABOVE) (far-finite s t e (add-fits binary64 p c) ft fe z) (settled s t e (add-fits binary64 p c) ft fe z)
       (λ n. ap (λ (b : Float). mul binary64 b ABOVE) n ∙ nought-above)
 
   pub exact-is : (eq t nought || eq e nought) ≡ true → finite (sub binary64 s v) ≡ true → sub binary64 s v ≡ fma binary64 a x c
@@ -101,11 +101,11 @@ module _ (a x c : Float) (fa : T (fits binary64 a)) (fx : T (fits binary64 x)) (
       either false d z i j = inr (units-are e (signOf e) 0 (none e (j ∙ z)))
 
   -- ---- with the parts as the code has them
-  pub tried : (h l g m : Float) (w : Enclosure) → h ≡ upperOf a → l ≡ sub binary64 a h → g ≡ upperOf x → m ≡ sub binary64 x g → w ≡ trialOf a h l x g m c → eq (w .off) nought ≡ true → w .low ≡ fma binary64 a x c
+  pub tried : (h l g m : Float) (w : Enclosure) → h ≡ upperOf a → l ≡ sub binary64 a h → g ≡ upperOf x → m ≡ sub binary64 x g → w ≡ trialOf a h l x g m c → eq (w .off) nought ≡ true → w .far ≡ fma binary64 a x c
   tried h l g m w hi li gi mi wi z =
       let W : w ≡ trialOf a (upperOf a) (sub binary64 a (upperOf a)) x (upperOf x) (sub binary64 x (upperOf x)) c =
       wi ∙ (λ i. trialOf a (hi i) ((li ∙ (λ j. sub binary64 a (hi j))) i) x (gi i) ((mi ∙ (λ j. sub binary64 x (gi j))) i) c) in
-      ap (λ (r : Enclosure). r .low) W ∙ settled-is (sym (ap (λ (r : Enclosure). eq (r .off) nought) W) ∙ z)
+      ap (λ (r : Enclosure). r .far) W ∙ settled-is (sym (ap (λ (r : Enclosure). eq (r .off) nought) W) ∙ z)
 
   pub exactly-tried : (h g t e : Float) → h ≡ upperOf a → g ≡ upperOf x → t ≡ sumOff p c → e ≡ productOff a h (sub binary64 a h) x g (sub binary64 x g) → (eq t nought || eq e nought) ≡ true
       → finite (sub binary64 s (add binary64 t e)) ≡ true → sub binary64 s (add binary64 t e) ≡ fma binary64 a x c

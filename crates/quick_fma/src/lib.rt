@@ -24,6 +24,7 @@ pub fn mul_add(a: f64, x: f64, c: f64) -> f64
     fma::mul_add(a, x, c)
 }
 
+// With p the rounded product, s the rounded sum of p and c, e what p is off by and t what s is, s - (t + e) is to be rounded.
 fn by_doubles(a: f64, x: f64, c: f64) -> f64
     requires { ⌜ (roomyOf a ≡ true) × (roomyOf x ≡ true) ⌝ }
     ensures { λ r. ⌜ r ≡ fma binary64 a x c ⌝ }
@@ -34,7 +35,7 @@ fn by_doubles(a: f64, x: f64, c: f64) -> f64
     let m = x - g;
     let w = trial(a, h, l, x, g, m, c);
     if w.off == 0.0 {
-        return w.low;
+        return w.far;
     }
     let p = a * x;
     let t = sum_off(p, c);
@@ -82,7 +83,7 @@ pub fn upper(x: f64) -> f64
     f64::from_bits((f64::to_bits(x) + 0x400_0000) & 0xffff_ffff_f800_0000)
 }
 
-// For an a and an x that are split once for many products: a is h + l, and x is g + m. Where `off` is 0 and all are as `upper` splits them, `low` is the answer.
+// For an a and an x that are split once for many products: a is h + l, and x is g + m. Where `off` is 0 and all are as `upper` splits them, `far` is the answer.
 pub fn trial(a: f64, h: f64, l: f64, x: f64, g: f64, m: f64, c: f64) -> Enclosure
     ensures { λ r. ⌜ r ≡ trialOf a h l x g m c ⌝ }
 {

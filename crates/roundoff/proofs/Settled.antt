@@ -25,9 +25,9 @@ use Rattle.exact.proofs.Operation.{mul-rounds}
 use Rattle.exact.proofs.Rounding.{round-within}
 use Rattle.exact.proofs.Sizes.{mag-signed, signed-is, same-via}
 use Rattle.exact.proofs.Nearest.{few-short, few-most, rnd-exact, rnd-part, rnd-mono}
-use Rattle.exact.proofs.Rounds.{rounds-at, rounds-mag, rounds-same, rounds-exact, rounds-between}
+use Rattle.exact.proofs.Rounds.{rounds-at, rounds-mag, rounds-none, rounds-same, rounds-exact, rounds-between}
 use Rattle.exact.proofs.Valued.{value-is, add-finite, sub-finite, mul-finite, add-value, sub-value}
-use Rattle.roundoff.specs.Roundoff.{ABOVE, BELOW, lowEnd, highEnd}
+use Rattle.roundoff.specs.Roundoff.{ABOVE, BELOW, farEnd, nearEnd}
 
 -- ---- M / 2 ^ 50, rounded to W, where M is less than N 2 ^ 51: off by an eighth part of N / 2 ^ 50 and by a half at most
 record ScaledTo (W M N : ℕ) : Type 0 where
@@ -155,40 +155,34 @@ module _ (s t e : Float) (fs : T (fits binary64 s)) (ft : T (fits binary64 t)) (
   abbrev E : Signed
   E = plusS (valueOf t) (valueOf e)
 
-  abbrev low : Float
-  low = lowEnd s t e
+  abbrev far : Float
+  far = farEnd s t e
 
-  abbrev high : Float
-  high = highEnd s t e
+  abbrev near : Float
+  near = nearEnd s t e
 
   -- a difference of 0 is one of two finite and equal doubles
-  module _ (settles : eq (sub binary64 low high) nought ≡ true) where
-    zero : Units (sub binary64 low high) (signOf (sub binary64 low high)) 0
-    zero = none (sub binary64 low high) settles
+  module _ (settles : eq (sub binary64 far near) nought ≡ true) where
+    zero : Units (sub binary64 far near) (signOf (sub binary64 far near)) 0
+    zero = none (sub binary64 far near) settles
 
-    off-finite : T (finite (sub binary64 low high))
-    off-finite = value-finite (sub binary64 low high) (signOf (sub binary64 low high)) 0 zero
+    off-finite : T (finite (sub binary64 far near))
+    off-finite = value-finite (sub binary64 far near) (signOf (sub binary64 far near)) 0 zero
 
-    both : T (finite low) × T (finite high)
-    both = sub-finite binary64 low high off-finite
+    both : T (finite far) × T (finite near)
+    both = sub-finite binary64 far near off-finite
 
-    pub low-finite : T (finite low)
-    low-finite = both .0
+    pub far-finite : T (finite far)
+    far-finite = both .0
 
-    equal : Same (valueOf low) (valueOf high)
+    equal : Same (valueOf far) (valueOf near)
     equal =
-        let r = sub-value low high (sub-fits binary64 s (mul binary64 v ABOVE)) (sub-fits binary64 s (mul binary64 v BELOW)) off-finite in
-        let z : rnd (mag (lessS (valueOf low) (valueOf high))) ≡ 0 =
-        sym (rounds-mag (lessS (valueOf low) (valueOf high)) (valueOf (sub binary64 low high)) r)
-        ∙ mag-signed (signOf (sub binary64 low high)) (unitsOf (sub binary64 low high))
-        ∙ units-are (sub binary64 low high) (signOf (sub binary64 low high)) 0 zero in
-        by (valueOf low .plus) (valueOf low .less) (valueOf high .plus) (valueOf high .less) (rnd (mag (lessS (valueOf low) (valueOf high)))) z (rnd-part (mag (lessS (valueOf low) (valueOf high))))
+        by (valueOf far .plus) (valueOf far .less) (valueOf near .plus) (valueOf near .less)
+        (rounds-none (lessS (valueOf far) (valueOf near)) (valueOf (sub binary64 far near)) (sub-value far near (sub-fits binary64 s (mul binary64 v ABOVE)) (sub-fits binary64 s (mul binary64 v BELOW)) off-finite)
+        (mag-signed (signOf (sub binary64 far near)) (unitsOf (sub binary64 far near)) ∙ units-are (sub binary64 far near) (signOf (sub binary64 far near)) 0 zero))
       where
-        by : (a b c d r : ℕ) → r ≡ 0 → Part r (dist (a + d) (b + c)) → a + d ≡ c + b
-        by a b c d r e p = last (dist (a + d) (b + c)) r e (p .under) (omega arith)
-          where
-            last : (m r : ℕ) → r ≡ 0 → m * 2 ^ 53 ≤ r * 2 ^ 53 + m → (m ≡ 0 → a + d ≡ c + b) → a + d ≡ c + b
-            last m r e h k = k (omega arith)
+        by : (a b c d : ℕ) → dist (a + d) (b + c) ≡ 0 → a + d ≡ c + b
+        by a b c d e = omega arith
 
     above-finite : T (finite (mul binary64 v ABOVE))
     above-finite = sub-finite binary64 s (mul binary64 v ABOVE) (both .0) .1
@@ -196,7 +190,7 @@ module _ (s t e : Float) (fs : T (fits binary64 s)) (ft : T (fits binary64 t)) (
     pub sum-finite : T (finite v)
     sum-finite = mul-finite binary64 v ABOVE above-finite .0
 
-    pub settled : Rounds (lessS (valueOf s) E) (valueOf low)
+    pub settled : Rounds (lessS (valueOf s) E) (valueOf far)
     settled =
         let n = mag E in
         let N = unitsOf v in
@@ -208,10 +202,10 @@ module _ (s t e : Float) (fs : T (fits binary64 s)) (ft : T (fits binary64 t)) (
         let p : Part N n = subst (λ (z : ℕ). Part z n) (sym N-is) (rnd-part n) in
         let c = between n N (w .size) (u .size) p (subst (λ (z : ℕ). (z ≡ n) ⊎ (2 ^ 53 ≤ z)) (sym N-is) (small-or-full n)) (w .near) (u .near) in
         let same : Same (signed (signOf v) N) (signed (g .0) N) = subst (λ (z : ℕ). Same (valueOf v) (signed (g .0) z)) (sym N-is) (rounds-at E (valueOf v) (g .0) n r (g .1)) in
-        ends (valueOf s) E (valueOf low) (valueOf high) (signOf v) n (w .size) (u .size)
+        ends (valueOf s) E (valueOf far) (valueOf near) (signOf v) n (w .size) (u .size)
         (same-via E (signed (g .0) n) (signed (signOf v) n) (g .1) (its-sign (signOf v) (g .0) N n (gone n N (p .under)) same)) (c .0) (c .1)
-        (subst (λ (z : Signed). Rounds (lessS (valueOf s) z) (valueOf low)) (w .value) (sub-value s (mul binary64 v ABOVE) fs (mul-fits binary64 v ABOVE) (both .0)))
-        (subst (λ (z : Signed). Rounds (lessS (valueOf s) z) (valueOf high)) (u .value) (sub-value s (mul binary64 v BELOW) fs (mul-fits binary64 v BELOW) (both .1)))
+        (subst (λ (z : Signed). Rounds (lessS (valueOf s) z) (valueOf far)) (w .value) (sub-value s (mul binary64 v ABOVE) fs (mul-fits binary64 v ABOVE) (both .0)))
+        (subst (λ (z : Signed). Rounds (lessS (valueOf s) z) (valueOf near)) (u .value) (sub-value s (mul binary64 v BELOW) fs (mul-fits binary64 v BELOW) (both .1)))
         equal
       where
         gone : (n N : ℕ) → n * 2 ^ 53 ≤ N * 2 ^ 53 + n → N ≡ 0 → n ≡ 0

@@ -37,10 +37,10 @@ pub tie-unsettled : eq (enclosureOf one (neg half) nought .off) nought ≡ false
 unfolding ofBits neg add sub mul sum round eq
 tie-unsettled = refl
 
-pub one-settled : enclosureOf one (mul binary64 half half) nought ≡ record { low = one; off = nought }
+pub one-settled : enclosureOf one (mul binary64 half half) nought ≡ record { far = one; off = nought }
 unfolding ofBits add sub mul sum round
 one-settled = refl
 
-pub other-settled : enclosureOf over (mul binary64 half half) nought ≡ record { low = over; off = nought }
+pub other-settled : enclosureOf over (mul binary64 half half) nought ≡ record { far = over; off = nought }
 unfolding ofBits add sub mul sum round
 other-settled = refl

@@ -21,12 +21,13 @@ ABOVE = ofBits binary64 0x3ff0_0000_0000_0004
 abbrev pub BELOW : Float
 BELOW = ofBits binary64 0x3fef_ffff_ffff_fff8
 
--- so s - (t + e), exactly, lies between these two; both are rounded
-abbrev pub lowEnd : Float → Float → Float → Float
-lowEnd s t e = sub binary64 s (mul binary64 (add binary64 t e) ABOVE)
+-- so s - (t + e), exactly, lies between these two, of which the first is the farther from s; both are rounded
+abbrev pub farEnd : Float → Float → Float → Float
+farEnd s t e = sub binary64 s (mul binary64 (add binary64 t e) ABOVE)
 
-abbrev pub highEnd : Float → Float → Float → Float
-highEnd s t e = sub binary64 s (mul binary64 (add binary64 t e) BELOW)
+abbrev pub nearEnd : Float → Float → Float → Float
+nearEnd s t e = sub binary64 s (mul binary64 (add binary64 t e) BELOW)
 
+-- the first, and by how much it is more than the second
 abbrev pub enclosureOf : Float → Float → Float → Enclosure
-enclosureOf s t e = record { low = lowEnd s t e; off = sub binary64 (lowEnd s t e) (highEnd s t e) }
+enclosureOf s t e = record { far = farEnd s t e; off = sub binary64 (farEnd s t e) (nearEnd s t e) }

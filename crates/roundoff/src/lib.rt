@@ -18,9 +18,10 @@ pub fn product_off(a: f64, h: f64, l: f64, x: f64, g: f64, m: f64) -> f64
     a * x - h * g - h * m - l * g - l * m
 }
 
-// Two doubles between which s - (t + e), exactly, lies: the one, and by how much the other is less. Where that is 0, `low` is the rounded number.
+// Of two doubles between which s - (t + e), exactly, lies, the one farther from s, and by how much it is more than the other. Where that is 0, `far` is that sum,
+// rounded once.
 pub struct Enclosure {
-    pub low: f64,
+    pub far: f64,
     pub off: f64,
 }
 
@@ -28,9 +29,9 @@ pub fn enclose(s: f64, t: f64, e: f64) -> Enclosure
     ensures { λ r. ⌜ r ≡ enclosureOf s t e ⌝ }
 {
     let v = t + e;
-    let low = s - v * 1.0000000000000009;
+    let far = s - v * 1.0000000000000009;
     Enclosure {
-        low: low,
-        off: low - (s - v * 0.9999999999999991),
+        far: far,
+        off: far - (s - v * 0.9999999999999991),
     }
 }

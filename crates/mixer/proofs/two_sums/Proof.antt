@@ -20,7 +20,7 @@ returns : tie.Need-returns
 returns c =
     let a = c .before .before .trial .ensures in
     let b = c .before .trial2 .ensures in
-    λ i. record { first = a i .low; second = b i .low; settled = (c .both-none .ensures ∙ (λ j. eq (a j .off) nought && eq (b j .off) nought)) i }
+    λ i. record { first = a i .far; second = b i .far; settled = (c .both-none .ensures ∙ (λ j. eq (a j .off) nought && eq (b j .off) nought)) i }
 
 pub two-sums-spec : {M : Type 1} → statement M
 two-sums-spec = tie.close (tie.spec trial-requires trial-requires-2 both-none-requires returns)
