@@ -1,73 +1,28 @@
 -- Of all numbers of the recurrence only the widths hi - lo and the last sum need to be judged: a sum is finite only where both products are, a
 -- product only where both factors are, a share only where x - lo is. Assumes nothing.
-use mathlib.Core.Path.{_≡_, refl, sym, ap, _∙_}
-use mathlib.Core.Bool.{Bool, true, false, _&&_, Bool·beq, cond, true≢false}
+use mathlib.Core.Path.{_≡_, refl, sym, ap, _∙_, subst}
+use mathlib.Core.Bool.{Bool, true, false, _&&_}
 use mathlib.Core.List.{List}
 use mathlib.Core.Logic.{⊎-elim}
 use Prim.Native.Nat.{ℕ, zero, suc, _+_, _-_, _≤_, _<_}
 use native.Mathlib.Nat.{eq-or-lt-of-le}
 use native.Mathlib.Omega.{arith}
-use lib.Dec.{eqb}
-use lib.Ieee.{Float, nan, inf, fin, binary64, add, sub, mul, div, eq, neg, unlike, ofBits}
+use lib.Dec.{T}
+use lib.Ieee.{Float, nan, inf, fin, binary64, add, sub, mul, div, eq, ofBits}
+use lib.Ieee.Bits.{is-true}
 use lib.Ieee.Scale.{finite}
 use Rattle.exact.specs.Doubles.{one}
 use Rattle.exact.proofs.Truth.{both}
+use Rattle.exact.proofs.Valued.{add-finite, mul-finite}
 use Rattle.spline.specs.Spline.{knotAt, alphaOf, share, blendOf, fineStep, dAt, fineAt}
 use Rattle.spline.specs.Walk.{Within, wideAt, wideRound, wideRounds}
 
 -- ---- what a finite result says of the operands
-either : (b s : Bool) → finite (cond b nan (inf s)) ≡ false
-either true s = refl
-either false s = refl
+sum-known : (x y : Float) → finite (add binary64 x y) ≡ true → (finite x ≡ true) × (finite y ≡ true)
+sum-known x y e = let o = add-finite binary64 x y (subst T (sym e) tt) in (is-true (finite x) (o .0), is-true (finite y) (o .1))
 
-not-both : {A : Type 0} (b : Bool) → b ≡ false → b ≡ true → A
-not-both b e h = absurd (true≢false (sym h ∙ e))
-
-mul-left : (x y : Float) → finite (mul binary64 x y) ≡ true → finite x ≡ true
-unfolding mul
-mul-left nan y e = e
-mul-left (inf s) nan e = e
-mul-left (inf s) (inf t) e = e
-mul-left (inf s) (fin t n d) e = not-both _ (either (eqb n 0) (unlike s t)) e
-mul-left (fin s m k) y e = refl
-
-mul-right : (x y : Float) → finite (mul binary64 x y) ≡ true → finite y ≡ true
-unfolding mul
-mul-right x (fin t n d) e = refl
-mul-right nan nan e = e
-mul-right nan (inf t) e = e
-mul-right (inf s) nan e = e
-mul-right (inf s) (inf t) e = e
-mul-right (fin s m k) nan e = e
-mul-right (fin s m k) (inf t) e = not-both _ (either (eqb m 0) (unlike s t)) e
-
-other : (b s : Bool) → finite (cond b (inf s) nan) ≡ false
-other true s = refl
-other false s = refl
-
-add-left : (x y : Float) → finite (add binary64 x y) ≡ true → finite x ≡ true
-unfolding add
-add-left nan y e = e
-add-left (inf s) nan e = e
-add-left (inf s) (inf t) e = not-both _ (other (Bool·beq s t) s) e
-add-left (inf s) (fin t n d) e = e
-add-left (fin s m k) y e = refl
-
-add-right : (x y : Float) → finite (add binary64 x y) ≡ true → finite y ≡ true
-unfolding add
-add-right x (fin t n d) e = refl
-add-right nan nan e = e
-add-right nan (inf t) e = e
-add-right (inf s) nan e = e
-add-right (inf s) (inf t) e = not-both _ (other (Bool·beq s t) s) e
-add-right (fin s m k) nan e = e
-add-right (fin s m k) (inf t) e = e
-
-sub-right : (x y : Float) → finite (sub binary64 x y) ≡ true → finite y ≡ true
-unfolding sub neg
-sub-right x nan e = add-right x nan e
-sub-right x (inf t) e = add-right x (inf _) e
-sub-right x (fin t n d) e = refl
+product-known : (x y : Float) → finite (mul binary64 x y) ≡ true → (finite x ≡ true) × (finite y ≡ true)
+product-known x y e = let o = mul-finite binary64 x y (subst T (sym e) tt) in (is-true (finite x) (o .0), is-true (finite y) (o .1))
 
 alpha-from : (f w : Float) → finite (alphaOf f w) ≡ true → finite f ≡ true
 unfolding div eq ofBits
@@ -98,14 +53,15 @@ module _ (x lo hi a b : Float) where
   parts e =
       let s = share x lo hi in
       let r = sub binary64 one s in
-      let one-l : finite (mul binary64 r a) ≡ true = add-left (mul binary64 r a) (mul binary64 s b) e in
-      let two-l : finite (mul binary64 s b) ≡ true = add-right (mul binary64 r a) (mul binary64 s b) e in
-      let r-l : finite r ≡ true = mul-left r a one-l in
-      let s-l : finite s ≡ true = mul-left s b two-l in
+      let sum = sum-known (mul binary64 r a) (mul binary64 s b) e in
+      let one-l : finite (mul binary64 r a) ≡ true = sum .0 in
+      let two-l : finite (mul binary64 s b) ≡ true = sum .1 in
+      let r-l : finite r ≡ true = product-known r a one-l .0 in
+      let s-l : finite s ≡ true = product-known s b two-l .0 in
       let f-l : finite (sub binary64 x lo) ≡ true = alpha-from (sub binary64 x lo) (sub binary64 hi lo) s-l in
       record {
-        left = mul-right r a one-l;
-        right = mul-right s b two-l;
+        left = product-known r a one-l .1;
+        right = product-known s b two-l .1;
         fine = λ w. rw (f-l, w, s-l, r-l, one-l, two-l, e);
       }
 

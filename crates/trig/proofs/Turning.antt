@@ -10,13 +10,14 @@ use native.Mathlib.Omega.{arith}
 use borrow.Author.Tests.{ltb-true, ltb-false}
 use lib.Dec.{T, lit≤}
 use lib.Pow.{pow-pos}
-use lib.Ieee.{Float, nan, inf, fin, binary64, ofBits, sub, mul, neg, below, lt, fits}
+use lib.Ieee.{Float, binary64, ofBits, sub, mul, neg, below, lt, fits}
 use lib.Ieee.Fits.{sub-fits}
 use lib.Ieee.Scale.{finite}
 use Rattle.exact.specs.Value.{Units, signOf, unitsOf, valueOf}
 use Rattle.exact.specs.Signed.{Signed, Same, signed, times, plusS, lessS}
 use Rattle.exact.proofs.Value.{neg-value, own, units-are, sign-is}
 use Rattle.exact.proofs.Compare.{lt-is, between}
+use Rattle.exact.proofs.Valued.{sub-finite}
 use Rattle.exact.proofs.Grid.{On, sub-on, sub-seen, sub-size}
 use Rattle.exact.proofs.Steps.{mul-on, finer, far-on}
 use Rattle.trig.specs.Reduce.{TAU, PI, reduced, Far, Inside}
@@ -126,15 +127,6 @@ far-size x f t far =
     over true n b l e = ltb-false n b e
     over false n b l e = omega (arith, ltb-false 0 (b + n) e)
 
--- a difference from a double on a grid is finite only where the first operand is
-first-finite : {j : ℕ} {k : Signed} (x y : Float) → On j y k → T (finite (sub binary64 x y)) → T (finite x)
-unfolding sub
-first-finite nan y w t = t
-first-finite (inf s) nan w t = t
-first-finite (inf s) (inf u) w t = absurd (w .value)
-first-finite (inf s) (fin u n d) w t = t
-first-finite (fin s m e) y w t = tt
-
 -- ---- in steps of g = 2 ^ 1024 units: q LOW, the first difference by the answer, and what the two differences leave of x
 low-few : (s u : Bool) (a n : ℕ) → n < 2 ^ 21 → Same (signed s a) (times (2 ^ 3) (times 34211 (signed u n))) → a < 2 ^ 40
 low-few true true a n h e = omega arith
@@ -199,10 +191,10 @@ module _ (x q : Float) (f : T (fits binary64 x)) (far : Far x) (w : Whole q) whe
     r-small = lt-of-lt-of-le (inside-small r r-fits i) (le-of-eq pi-steps)
 
     d-known : T (finite d)
-    d-known = first-finite d (mul binary64 q LOW) low-on r-known
+    d-known = sub-finite binary64 d (mul binary64 q LOW) r-known .0
 
     x-known : T (finite x)
-    x-known = first-finite x (mul binary64 q HIGH) high-on d-known
+    x-known = sub-finite binary64 x (mul binary64 q HIGH) d-known .0
 
     x-steps : (n : ℕ) × (unitsOf x ≡ n * 2 ^ 1024)
     x-steps =
