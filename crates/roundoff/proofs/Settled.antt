@@ -29,7 +29,7 @@ use Rattle.exact.proofs.Rounds.{rounds-at, rounds-mag, rounds-none, rounds-same
 use Rattle.exact.proofs.Valued.{value-is, add-finite, sub-finite, mul-finite, add-value, sub-value}
 use Rattle.roundoff.specs.Roundoff.{ABOVE, BELOW, farEnd, nearEnd}
 
--- ---- M / 2 ^ 50, rounded to W, where M is less than N 2 ^ 51: off by an eighth part of N / 2 ^ 50 and by a half at most
+-- ---- M / 2 ^ 50, rounded to W, where M is N 2 ^ 51 at most: off by a quarter of N / 2 ^ 50 and a half at most
 record ScaledTo (W M N : ℕ) : Type 0 where
   over : W * 2 ^ 52 ≤ M * 4 + N + 2 ^ 51
   under : M * 4 ≤ W * 2 ^ 52 + N + 2 ^ 51
@@ -109,7 +109,7 @@ far-above N W l h = omega arith
 far-below : (N U : ℕ) → 2 ^ 53 ≤ N → U * 2 ^ 52 ≤ N * (2 ^ 50 - 1) * 4 + N + 2 ^ 51 → U * 2 ^ 52 + N * 2 ≤ N * 2 ^ 52
 far-below N U l h = omega arith
 
--- and n is one part off N at most
+-- and n is a part in 2 ^ 53 off N at most
 twice : (n N : ℕ) → n * 2 ^ 53 ≤ N * 2 ^ 53 + n → n ≤ N * 2
 twice n N h = omega arith
 
