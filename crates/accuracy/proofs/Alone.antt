@@ -11,7 +11,7 @@ use Rattle.quant.specs.declared.refusal.Answer.TheVariants.{Done}
 use Rattle.quant.specs.declared.settings.Fitting.{Fitting}
 use Rattle.quant.specs.declared.settings.Fitting.TheVariants.{Fit}
 use Rattle.quant.specs.declared.settings.Settings.{Settings}
-use Rattle.quant.specs.Settings.{fittingOf}
+use Rattle.quant.specs.Settings.{fitting_of}
 use Rattle.pulse.specs.declared.list.Pulse.{Pulse}
 use Rattle.pulse.specs.Bin.{bin_of}
 use Rattle.tables.specs.declared.Tables.{Tables}
@@ -19,8 +19,8 @@ use Rattle.merge.specs.Taking.{Part, parts_in}
 use Rattle.crosstalk.specs.declared.names.Crosstalk.{Crosstalk}
 use Rattle.crosstalk.specs.Crosstalk.{planned}
 use Rattle.placing.specs.Judged.{placed_at}
-use Rattle.mixdown.specs.Bins.{binsBy, mergedOf}
-use Rattle.mixdown.specs.Sampled.{Rowed, ranBins}
+use Rattle.mixdown.specs.Bins.{bins_by, merged_of}
+use Rattle.mixdown.specs.Sampled.{Rowed, ran_bins}
 use Rattle.sampler.specs.declared.Request.{Request}
 use Rattle.accuracy.specs.Call.{AsSampled, Only}
 use Rattle.accuracy.proofs.One.{one_place}
@@ -39,14 +39,14 @@ module _ (t : Tables) (r : Request) (c : Crosstalk) (factors : List Float) (bins
   parts = parts_in (planned t r.channel c factors).taking
 
   abbrev merged : List Float → List Pulse
-  merged = mergedOf t bins pulses parts
+  merged = merged_of t bins pulses parts
 
   abbrev rs : List (List Float)
-  rs = binsBy t bins parts
+  rs = bins_by t bins parts
 
-  pub only_one : (s : Settings) (st : Rowed) → (ranBins s r.rows merged rs 0 st).answer ≡ Done 1 → (x y : AsSampled) → Only t r c factors bins pulses x → Only t r c factors bins pulses y → x ≡ y
+  pub only_one : (s : Settings) (st : Rowed) → (ran_bins s r.rows merged rs 0 st).answer ≡ Done 1 → (x y : AsSampled) → Only t r c factors bins pulses x → Only t r c factors bins pulses y → x ≡ y
   only_one s st told x y o u =
-      let clock = same-settings (fittingOf r.rate r.delay r.level) x.settings y.settings o.fit u.fit in
+      let clock = same-settings (fitting_of r.rate r.delay r.level) x.settings y.settings o.fit u.fit in
       let place = one_place s r.rows merged rs o.place u.place 0 st told o.within u.within (single x o) (single y u) in
       let row = sym o.there ∙ ap (λ (k : ℕ). get_or rs k []) place ∙ u.there in
       let bin = o.its-bin ∙ ap bin_of row ∙ sym u.its-bin in

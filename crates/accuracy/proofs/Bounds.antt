@@ -6,7 +6,7 @@ use native.Mathlib.Nat.{le_refl, le_trans, le_of_eq, add-le-add, mul_assoc, mul-
 use native.Mathlib.Omega.{arith}
 use lib.Dec.{lit≤, lit<}
 use lib.Pow.{pow_pos}
-use Rattle.accuracy.proofs.Growth.{growth-times, square-power, power-positive}
+use Rattle.accuracy.proofs.Growth.{growth_times, square-power, power-positive}
 use Rattle.accuracy.proofs.Product.{lost}
 
 abbrev pub D : ℕ
@@ -85,7 +85,7 @@ step-there k S M h =
 
 -- ρ ^ k (2 ^ 44 - k) ≤ 2 ^ 44 D ^ 2 k
 pub slow : (k : ℕ) → ρ ^ k * (2 ^ 44 - k) ≤ 2 ^ 44 * (D ^ k * D ^ k)
-slow k = le_trans (growth-times (2 ^ 44) (2 ^ 2104) k) (le_of_eq (ap (λ (z : ℕ). 2 ^ 44 * z) (sym (square-power D k))))
+slow k = le_trans (growth_times (2 ^ 44) (2 ^ 2104) k) (le_of_eq (ap (λ (z : ℕ). 2 ^ 44 * z) (sym (square-power D k))))
 
 pub far : (k : ℕ) → k ≤ 65536 → 2 ^ 44 - 65536 ≤ 2 ^ 44 - k
 far k h = omega arith

@@ -5,32 +5,32 @@ use Prim.Native.Nat.{ℕ, zero, suc, ◌+◌, ◌-◌, ◌*◌, ◌^◌, ◌≤�
 use native.Mathlib.Nat.{le_refl, le_trans, le_of_eq, le-suc, le-add_left, le-add_right, add-le-add, add-mul, mul-add, mul-one, one-mul, mul_comm, mul-mul-mul_comm, mul-le-mul, mul-le-mul_left, mul-le-mul_right, le_of_mul-le-mul_left, pow-suc, pow-zero}
 use native.Mathlib.Omega.{arith}
 use lib.Dec.{lit≤, lit<}
-use Rattle.exact.specs.Value.{unitsOf, value_of}
-use Rattle.exact.specs.Signed.{Signed, Apart, times, plusS, lessS, mag}
+use Rattle.exact.specs.Value.{units_of, value_of}
+use Rattle.exact.specs.Signed.{Signed, Apart, times, plus_s, less_s, mag}
 use Rattle.exact.proofs.Sizes.{mag-add}
 use Rattle.quant.specs.declared.complex.Complex.{Complex}
-use Rattle.quant.specs.Complex.{timesC}
+use Rattle.quant.specs.Complex.{times_c}
 use Rattle.exact.proofs.Few.{value-finite}
-use Rattle.mix.specs.Plateau.{carrierAfter}
-use Rattle.accuracy.specs.Exact.{Gauss, Tame, CarrierNear, timesG, exactly, carrierExactly, absolute, squares}
+use Rattle.mix.specs.Plateau.{carrier_after}
+use Rattle.accuracy.specs.Exact.{Gauss, Tame, CarrierNear, times_g, exactly, carrier_exactly, absolute, squares}
 use Rattle.accuracy.proofs.Sizes.{sq, sq-same, sq-by}
 use Rattle.accuracy.proofs.Young.{young}
-use Rattle.accuracy.proofs.Error.{sqG, error, norm-times, one_more}
+use Rattle.accuracy.proofs.Error.{sq_g, error, norm-times, one_more}
 use Rattle.accuracy.proofs.Product.{Whole, product, lost, held_whole, squares-are, root}
 use Rattle.accuracy.proofs.Gauss.{exact-first, exact-next}
 use Rattle.accuracy.proofs.Bounds.{D, ρ, β, L, step-bound, first-bound, step-there, size-bound, last-bound}
 
 -- ---- a number's square, from another's and from that of the error between them
-one-part : (a : ℕ) (x w : Signed) → 64 * (a * a * sq x) ≤ 65 * sq w + 64 * 65 * sq (lessS (times a x) w)
+one-part : (a : ℕ) (x w : Signed) → 64 * (a * a * sq x) ≤ 65 * sq w + 64 * 65 * sq (less_s (times a x) w)
 one-part a x w =
-    let e = lessS (times a x) w in
-    le_trans (le_of_eq (ap (λ (z : ℕ). 64 * z) (sym (sq-by a x) ∙ sq-same (times a x) (plusS w e) (same (a * x.plus) (a * x.less) w.plus w.less))))
+    let e = less_s (times a x) w in
+    le_trans (le_of_eq (ap (λ (z : ℕ). 64 * z) (sym (sq-by a x) ∙ sq-same (times a x) (plus_s w e) (same (a * x.plus) (a * x.less) w.plus w.less))))
     (le_trans (mul-le-mul_left 64 (mul-le-mul (mag-add w e) (mag-add w e))) (young 64 (mag w) (mag e)))
   where
     same : (p n w v : ℕ) → p + (v + (n + w)) ≡ w + (p + v) + n
     same p n w v = omega arith
 
-both-parts : (a : ℕ) (x w : Gauss) → 64 * (a * a * sqG x) ≤ 65 * sqG w + 64 * 65 * sqG (error a x w)
+both-parts : (a : ℕ) (x w : Gauss) → 64 * (a * a * sq_g x) ≤ 65 * sq_g w + 64 * 65 * sq_g (error a x w)
 both-parts a x w = by (a * a) (sq x.re) (sq x.im) (sq w.re) (sq w.im) (sq (error a x w).re) (sq (error a x w).im) (one-part a x.re w.re) (one-part a x.im w.im)
   where
     by : (a x y w v e f : ℕ) → 64 * (a * x) ≤ 65 * w + 64 * 65 * e → 64 * (a * y) ≤ 65 * v + 64 * 65 * f → 64 * (a * (x + y)) ≤ 65 * (w + v) + 64 * 65 * (e + f)
@@ -38,7 +38,7 @@ both-parts a x w = by (a * a) (sq x.re) (sq x.im) (sq w.re) (sq w.im) (sq (error
 
 -- ---- the squares of the sizes: m² for the amplitude
 amp-squares : (z : Complex) → squares z ≤ absolute z * absolute z
-amp-squares z = by (unitsOf z.re) (unitsOf z.im)
+amp-squares z = by (units_of z.re) (units_of z.im)
   where
     by : (a b : ℕ) → a * a + b * b ≤ (a + b) * (a + b)
     by a b = le_trans (add-le-add (mul-le-mul_left a (le-add_right a b)) (mul-le-mul_left b (le-add_left b a))) (le_of_eq (sym (add-mul a b (a + b))))
@@ -52,10 +52,10 @@ module _ (amp start rotation : Complex) (t : Tame amp start rotation) where
   M = absolute amp * absolute amp
 
   abbrev carrier : ℕ → Complex
-  carrier k = carrierAfter k (timesC start amp) rotation
+  carrier k = carrier_after k (times_c start amp) rotation
 
   abbrev exact : ℕ → Gauss
-  exact k = carrierExactly amp start rotation k
+  exact k = carrier_exactly amp start rotation k
 
   lowest-square : 2 ^ 1748 ≤ M
   lowest-square = le_trans (lit≤ tt) (mul-le-mul t.lowest t.lowest)
@@ -72,36 +72,36 @@ module _ (amp start rotation : Complex) (t : Tame amp start rotation) where
   -- what the induction carries
   record Good (k : ℕ) : Type 0 where
     whole : Whole (carrier k)
-    near : sqG (error (D ^ suc k) (exactly (carrier k)) (exact k)) ≤ suc k * suc k * (β * M * ρ ^ k)
+    near : sq_g (error (D ^ suc k) (exactly (carrier k)) (exact k)) ≤ suc k * suc k * (β * M * ρ ^ k)
 
-  exact-square : (k : ℕ) → sqG (exact k) ≤ ρ * M * ρ ^ k
+  exact-square : (k : ℕ) → sq_g (exact k) ≤ ρ * M * ρ ^ k
   exact-square zero =
-      le_trans (le_of_eq (ap sqG (exact-first amp start rotation) ∙ norm-times (exactly start) (exactly amp)))
+      le_trans (le_of_eq (ap sq_g (exact-first amp start rotation) ∙ norm-times (exactly start) (exactly amp)))
       (le_trans (mul-le-mul (le_trans (le_of_eq (squares-are start)) start-most) (le_trans (le_of_eq (squares-are amp)) (amp-squares amp)))
       (le_of_eq (sym (ap (λ (z : ℕ). ρ * M * z) (pow-zero ρ) ∙ mul-one (ρ * M)))))
   exact-square (suc k) =
-      le_trans (le_of_eq (ap sqG (exact-next amp start rotation k) ∙ norm-times (exact k) (exactly rotation)))
+      le_trans (le_of_eq (ap sq_g (exact-next amp start rotation k) ∙ norm-times (exact k) (exactly rotation)))
       (le_trans (mul-le-mul (exact-square k) (le_trans (le_of_eq (squares-are rotation)) rotation-most))
       (le_of_eq (native.Mathlib.Nat.mul_assoc (ρ * M) (ρ ^ k) ρ ∙ ap (λ (z : ℕ). ρ * M * z) (sym (pow-suc ρ k)))))
 
   carrier-square : (k : ℕ) → suc k ≤ 65536 → Good k → D * D * squares (carrier k) ≤ L * M
   carrier-square k K g =
       subst (λ (z : ℕ). D * D * z ≤ L * M) (squares-are (carrier k))
-      (size-bound (sqG (exactly (carrier k))) (sqG (exact k)) (sqG (error (D ^ suc k) (exactly (carrier k)) (exact k))) M k K
+      (size-bound (sq_g (exactly (carrier k))) (sq_g (exact k)) (sq_g (error (D ^ suc k) (exactly (carrier k)) (exact k))) M k K
       (both-parts (D ^ suc k) (exactly (carrier k)) (exact k)) (exact-square k) g.near)
 
   -- ---- the first product, and each next one
   first : Good 0
-  unfolding carrierAfter
+  unfolding carrier_after
   first =
       let p = product start amp (held_whole start t.start-held) (held_whole amp t.amp-held) (le_trans start-most (lit≤ tt)) (le_trans (amp-squares amp) (le_trans highest-square (lit≤ tt))) in
-      let S = sqG (error D (exactly (timesC start amp)) (timesG (exactly start) (exactly amp))) in
+      let S = sq_g (error D (exactly (times_c start amp)) (times_g (exactly start) (exactly amp))) in
       let h : S ≤ β * M =
       first-bound S (squares start) M (le_trans p.near (add-le-add (mul-le-mul_left 36 (mul-le-mul_left (squares start) (amp-squares amp))) (le_refl lost))) start-most lowest-square in
       record {
         whole = p.whole;
         near =
-            le_trans (le_of_eq ((λ i. sqG (error (first-power i) (exactly (timesC start amp)) (exact-first amp start rotation i))))) (le_trans h (le_of_eq (sym (ap (λ (z : ℕ). 1 * 1 * (β * M * z)) (pow-zero ρ) ∙ plain (β * M)))));
+            le_trans (le_of_eq ((λ i. sq_g (error (first-power i) (exactly (times_c start amp)) (exact-first amp start rotation i))))) (le_trans h (le_of_eq (sym (ap (λ (z : ℕ). 1 * 1 * (β * M * z)) (pow-zero ρ) ∙ plain (β * M)))));
       }
     where
       first-power : D ^ 1 ≡ D
@@ -110,8 +110,8 @@ module _ (amp start rotation : Complex) (t : Tame amp start rotation) where
       plain : (b : ℕ) → 1 * 1 * (b * 1) ≡ b
       plain b = omega arith
 
-  carrier-next : (k : ℕ) → carrier (suc k) ≡ timesC (carrier k) rotation
-  unfolding carrierAfter
+  carrier-next : (k : ℕ) → carrier (suc k) ≡ times_c (carrier k) rotation
+  unfolding carrier_after
   carrier-next k = refl
 
   -- a carrier's square in units: 2 ^ 1275 squared and less, for an amplitude of up to 2 ^ 200
@@ -125,16 +125,16 @@ module _ (amp start rotation : Complex) (t : Tame amp start rotation) where
       let size = carrier-square k K g in
       let p = product z rotation g.whole (held_whole rotation t.rotation-held) (carrier-most k size) (le_trans rotation-most (lit≤ tt)) in
       let a = D ^ suc k in
-      let S = sqG (error D (exactly (timesC z rotation)) (timesG (exactly z) (exactly rotation))) in
+      let S = sq_g (error D (exactly (times_c z rotation)) (times_g (exactly z) (exactly rotation))) in
       let new : a * a * S ≤ β * M * ρ ^ suc k = step-there k S M (step-bound S (squares z) (squares rotation) M p.near size rotation-most lowest-square) in
-      let old : sqG (error a (exactly z) (exact k)) * sqG (exactly rotation) ≤ suc k * suc k * (β * M * ρ ^ suc k) =
+      let old : sq_g (error a (exactly z) (exact k)) * sq_g (exactly rotation) ≤ suc k * suc k * (β * M * ρ ^ suc k) =
       le_trans (mul-le-mul g.near (le_trans (le_of_eq (squares-are rotation)) rotation-most))
       (le_of_eq (grouped (suc k * suc k) (β * M) (ρ ^ k) ρ ∙ ap (λ (x : ℕ). suc k * suc k * (β * M * x)) (sym (pow-suc ρ k)))) in
       record {
         whole = subst Whole (sym (carrier-next k)) p.whole;
         near =
-            le_trans (le_of_eq (λ i. sqG (error (pow-suc D (suc k) i) (exactly (carrier-next k i)) (exact-next amp start rotation k i))))
-            (one_more a D (exactly z) (exactly (timesC z rotation)) (exact k) (exactly rotation) k (β * M * ρ ^ suc k) old new);
+            le_trans (le_of_eq (λ i. sq_g (error (pow-suc D (suc k) i) (exactly (carrier-next k i)) (exact-next amp start rotation k i))))
+            (one_more a D (exactly z) (exactly (times_c z rotation)) (exact k) (exactly rotation) k (β * M * ρ ^ suc k) old new);
       }
     where
       grouped : (j b q r : ℕ) → j * (b * q) * r ≡ j * (b * (q * r))
@@ -160,8 +160,8 @@ module _ (amp start rotation : Complex) (t : Tame amp start rotation) where
       closed j m a = omega arith
 
 -- a distance, as `Apart` has it
-as-apart : (a p e : ℕ) (x w : Signed) → mag (lessS (times a x) w) * p ≤ e → Apart (times (p * a) x) (times p w) e
-as-apart a p e x w h =
+as_apart : (a p e : ℕ) (x w : Signed) → mag (less_s (times a x) w) * p ≤ e → Apart (times (p * a) x) (times p w) e
+as_apart a p e x w h =
     record {
       over = by (a * x.plus + w.less) (a * x.less + w.plus) (p * a * x.plus + p * w.less) (p * w.plus + p * a * x.less) (spread p a x.plus w.less) (swapped p a x.less w.plus) h;
       under = by (a * x.less + w.plus) (a * x.plus + w.less) (p * w.plus + p * a * x.less) (p * a * x.plus + p * w.less) (swapped p a x.less w.plus) (spread p a x.plus w.less)
@@ -187,19 +187,19 @@ as-apart a p e x w h =
 pub carrier-near : (amp start rotation : Complex) → Tame amp start rotation → (k : ℕ) → k ≤ 65535 → CarrierNear amp start rotation k
 carrier-near amp start rotation t k K =
     let g = good amp start rotation t k K in
-    let z = carrierAfter k (timesC start amp) rotation in
-    let w = carrierExactly amp start rotation k in
+    let z = carrier_after k (times_c start amp) rotation in
+    let w = carrier_exactly amp start rotation k in
     let a = D ^ suc k in
     let e = error a (exactly z) w in
     record {
       re =
           record {
             is_finite = value-finite z.re _ _ g.whole.re;
-            apart = as-apart a (2 ^ 49) (suc k * absolute amp * a) (value_of z.re) w.re (part-near amp start rotation t k (mag e.re) K (le_trans (le-add_right (sq e.re) (sq e.im)) g.near));
+            apart = as_apart a (2 ^ 49) (suc k * absolute amp * a) (value_of z.re) w.re (part-near amp start rotation t k (mag e.re) K (le_trans (le-add_right (sq e.re) (sq e.im)) g.near));
           };
       im =
           record {
             is_finite = value-finite z.im _ _ g.whole.im;
-            apart = as-apart a (2 ^ 49) (suc k * absolute amp * a) (value_of z.im) w.im (part-near amp start rotation t k (mag e.im) K (le_trans (le-add_left (sq e.im) (sq e.re)) g.near));
+            apart = as_apart a (2 ^ 49) (suc k * absolute amp * a) (value_of z.im) w.im (part-near amp start rotation t k (mag e.im) K (le_trans (le-add_left (sq e.im) (sq e.re)) g.near));
           };
     }

@@ -11,51 +11,51 @@ use lib.ListN.{length, get_or}
 use Rattle.exact.specs.Doubles.{nought}
 use Rattle.ieee.specs.Ceiling.{ceiling}
 use Rattle.ieee.specs.Cut.{cut_of}
-use Rattle.ieee.specs.Exp2.{exp2Of}
+use Rattle.ieee.specs.Exp2.{exp2_of}
 use Rattle.trig.specs.Reduce.{wrapped, reduced}
-use Rattle.trig.specs.Trig.{horner, cosineAt, sineAt, cosineOf, sineOf}
-use Rattle.rows.specs.Rows.{allFinite}
-use Rattle.naming.specs.Name.{nameByte, every, low_bytes, bytesOfWord, sixteen, bytes_of, pastEnd, isName, same_name}
+use Rattle.trig.specs.Trig.{horner, cosine_at, sine_at, cosine_of, sine_of}
+use Rattle.rows.specs.Rows.{all_finite}
+use Rattle.naming.specs.Name.{name_byte, every, low_bytes, bytes_of_word, sixteen, bytes_of, past_end, is_name, same_name}
 use Rattle.quant.specs.declared.aligned.Placed.TheVariants.{Start}
 use Rattle.quant.specs.declared.refusal.Answer.TheVariants.{Done}
 use Rattle.quant.specs.declared.settings.Fitting.TheVariants.{Fit}
-use Rattle.quant.specs.Settings.{fittingOf}
+use Rattle.quant.specs.Settings.{fitting_of}
 use Rattle.shape.specs.Parts.{index_at}
 use Rattle.spline.specs.Same.{same_numbers}
 use Rattle.pulse.specs.declared.envelope.Shape.TheVariants.{Plain}
-use Rattle.pulse.specs.Bin.{sameRow, place_of}
+use Rattle.pulse.specs.Bin.{same_row, place_of}
 use Rattle.tables.specs.Tables.{found_from}
-use Rattle.merge.specs.Sum.{keptFrom, summedBy}
-use Rattle.merge.specs.Join.{joined, joinedTwo}
+use Rattle.merge.specs.Sum.{kept_from, summed_by}
+use Rattle.merge.specs.Join.{joined, joined_two}
 use Rattle.merge.specs.Taking.{parts_in, packed, zipped}
-use Rattle.crosstalk.specs.Crosstalk.{allNames, namesJudged, rowFrom, part_of, parts_at, planned}
-use Rattle.mix.specs.Part.{onPart}
+use Rattle.crosstalk.specs.Crosstalk.{all_names, names_judged, row_from, part_of, parts_at, planned}
+use Rattle.mix.specs.Part.{on_part}
 use Rattle.mix.specs.Plateau.{carried}
-use Rattle.placing.specs.Phases.{phase0, dphase, startPair, rotationPair, phaseNumbers}
+use Rattle.placing.specs.Phases.{phase0, dphase, start_pair, rotation_pair, phase_numbers}
 use Rattle.placing.specs.Judged.{placed_at, judged}
-use Rattle.mixdown.specs.Runs.{ofMark}
-use Rattle.mixdown.specs.Bins.{all_rows, firstsAfter, binsBy, mergedOf}
-use Rattle.mixdown.specs.Sampled.{ranPulses, ranBins}
+use Rattle.mixdown.specs.Runs.{of_mark}
+use Rattle.mixdown.specs.Bins.{all_rows, firsts_after, bins_by, merged_of}
+use Rattle.mixdown.specs.Sampled.{ran_pulses, ran_bins}
 use Rattle.sampler.specs.Sampler.{sampled}
-use Rattle.accuracy.specs.Exact.{powerG}
-use Rattle.accuracy.specs.Call.{Bounded, ZeroRow, Zeros, AsSampled, ampOf, start_of, rotationOf, length_of, Only, PlateauNear}
-use Rattle.accuracy.specs.Example.{minus-nought, tables, request, cross, row, pulse, bins, pulses, rows, left, theOne, Closer, Shown}
+use Rattle.accuracy.specs.Exact.{power_g}
+use Rattle.accuracy.specs.Call.{Bounded, ZeroRow, Zeros, AsSampled, amp_of, start_of, rotation_of, length_of, Only, PlateauNear}
+use Rattle.accuracy.specs.Example.{minus-nought, tables, request, cross, row, pulse, bins, pulses, rows, left, the_one, Closer, Shown}
 use Rattle.accuracy.proofs.Call.{plateau-near}
 
 -- ---- by computation
 record Computed : Type 0 where
   done : left.answer ≡ Done 1
-  fit : fittingOf request.rate request.delay request.level ≡ Fit theOne.settings
-  bin : binsBy tables bins (parts_in (planned tables request.channel cross []).taking) ≡ row ∷ []
-  merged : mergedOf tables bins pulses (parts_in (planned tables request.channel cross []).taking) row ≡ pulse ∷ []
-  placed : placed_at theOne.settings pulse ≡ Start 1 nought
-  plain : theOne.bin.envelope.shape ≡ Plain
-  bounded : Bounded (ampOf theOne) (start_of theOne) (rotationOf theOne)
-  long : length_of theOne ≡ 3
+  fit : fitting_of request.rate request.delay request.level ≡ Fit the_one.settings
+  bin : bins_by tables bins (parts_in (planned tables request.channel cross []).taking) ≡ row ∷ []
+  merged : merged_of tables bins pulses (parts_in (planned tables request.channel cross []).taking) row ≡ pulse ∷ []
+  placed : placed_at the_one.settings pulse ≡ Start 1 nought
+  plain : the_one.bin.envelope.shape ≡ Plain
+  bounded : Bounded (amp_of the_one) (start_of the_one) (rotation_of the_one)
+  long : length_of the_one ≡ 3
   not-closer : Closer → ⊥
 
 computed : Computed
-unfolding add sub mul div rem lt eq round of_bits of_int ceiling cut_of exp2Of wrapped reduced horner cosineAt sineAt cosineOf sineOf allFinite nameByte every low_bytes bytesOfWord sixteen bytes_of pastEnd isName same_name index_at same_numbers sameRow place_of phase0 dphase startPair rotationPair phaseNumbers judged found_from keptFrom summedBy joined joinedTwo packed zipped allNames namesJudged rowFrom part_of parts_at planned onPart carried ofMark all_rows firstsAfter ranPulses ranBins sampled powerG
+unfolding add sub mul div rem lt eq round of_bits of_int ceiling cut_of exp2_of wrapped reduced horner cosine_at sine_at cosine_of sine_of all_finite name_byte every low_bytes bytes_of_word sixteen bytes_of past_end is_name same_name index_at same_numbers same_row place_of phase0 dphase start_pair rotation_pair phase_numbers judged found_from kept_from summed_by joined joined_two packed zipped all_names names_judged row_from part_of parts_at planned on_part carried of_mark all_rows firsts_after ran_pulses ran_bins sampled power_g
 computed =
     record {
       done = refl;
@@ -90,7 +90,7 @@ zeros : Zeros 2 5 rows
 zeros = record { i = plus (minus (plus (minus (minus no-sample)))); q = λ e. minus (plus (minus (plus (plus no-sample)))) }
 
 -- ---- the pulse that the call added
-only : Only tables request cross [] bins pulses theOne
+only : Only tables request cross [] bins pulses the_one
 only =
     record {
       fit = computed.fit;
@@ -103,12 +103,12 @@ only =
       placed = computed.placed;
     }
 
-near : PlateauNear theOne 2 5 rows left.rows
+near : PlateauNear the_one 2 5 rows left.rows
 near =
     let found = plateau-near tables request cross [] bins pulses rows _ _ 5 zeros computed.done in
-    let is = found.alone theOne only in
+    let is = found.alone the_one only in
     let plain = ap (λ (x : AsSampled). x.bin.envelope.shape) (sym is) ∙ computed.plain in
-    let bounded = subst (λ (x : AsSampled). Bounded (ampOf x) (start_of x) (rotationOf x)) is computed.bounded in
+    let bounded = subst (λ (x : AsSampled). Bounded (amp_of x) (start_of x) (rotation_of x)) is computed.bounded in
     subst (λ (x : AsSampled). PlateauNear x 2 5 rows left.rows) (sym is) (found.near plain bounded)
 
 pub example-near : Shown

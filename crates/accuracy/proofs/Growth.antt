@@ -27,8 +27,8 @@ split : (a b k : ℕ) → (a * b) ^ k ≡ a ^ k * b ^ k
 split a b zero = pow-zero (a * b) ∙ sym (λ i. pow-zero a i * pow-zero b i)
 split a b (suc k) = pow-suc (a * b) k ∙ ap (λ (z : ℕ). z * (a * b)) (split a b k) ∙ mul-mul-mul_comm (a ^ k) (b ^ k) a b ∙ sym (λ i. pow-suc a k i * pow-suc b k i)
 
-pub growth-times : (n t k : ℕ) → ((n + 1) * t) ^ k * (n - k) ≤ n * (n * t) ^ k
-growth-times n t k =
+pub growth_times : (n t k : ℕ) → ((n + 1) * t) ^ k * (n - k) ≤ n * (n * t) ^ k
+growth_times n t k =
     le_trans (le_of_eq (ap (λ (z : ℕ). z * (n - k)) (split (n + 1) t k) ∙ mul_right_comm ((n + 1) ^ k) (t ^ k) (n - k)))
     (le_trans (mul-le-mul_right (t ^ k) (growth n k)) (le_of_eq (mul_right_comm (n ^ k) n (t ^ k) ∙ ap (λ (z : ℕ). z * n) (sym (split n t k)) ∙ mul_comm ((n * t) ^ k) n)))
 

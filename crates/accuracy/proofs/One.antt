@@ -13,41 +13,41 @@ use Rattle.quant.specs.declared.refusal.Answer.TheVariants as answer
 use Rattle.quant.specs.declared.settings.Settings.{Settings}
 use Rattle.pulse.specs.declared.bin.Bin.{Bin}
 use Rattle.pulse.specs.declared.list.Pulse.{Pulse}
-use Rattle.pulse.specs.Bin.{bin_of, numbersOf}
+use Rattle.pulse.specs.Bin.{bin_of, numbers_of}
 use Rattle.placing.specs.declared.Judged.{Judged}
 use Rattle.placing.specs.declared.Judged.TheVariants as judgement
 use Rattle.placing.specs.Judged.{judged}
-use Rattle.mixdown.specs.Sampled.{Rowed, Out, out, addedTo, unlessRefused, ranPulses, and_then, ranBins}
+use Rattle.mixdown.specs.Sampled.{Rowed, Out, out, added_to, unless_refused, ran_pulses, and_then, ran_bins}
 use Rattle.mixdown.specs.Holding.{accepted}
 use Rattle.mixdown.proofs.Listed.{done_inj}
 
 module _ (s : Settings) (rows : ℕ) where
   -- ---- the pulses of a bin
 
-  counted : (b : Bin) (numbers : List Float) (ps : List Pulse) (k m : ℕ) (st : Rowed) → (ranPulses s b numbers rows ps k st).answer ≡ answer.Done m → m ≡ k + length ps
-  unfolding ranPulses
+  counted : (b : Bin) (numbers : List Float) (ps : List Pulse) (k m : ℕ) (st : Rowed) → (ran_pulses s b numbers rows ps k st).answer ≡ answer.Done m → m ≡ k + length ps
+  unfolding ran_pulses
   counted b numbers [] k m st e = let same = done_inj k m e in omega (arith, same)
-  counted b numbers (p ∷ ps) k m st e = go (judged s b numbers p (length st.i)) e (counted b numbers ps (suc k) m (addedTo s b numbers rows (judged s b numbers p (length st.i)) st))
+  counted b numbers (p ∷ ps) k m st e = go (judged s b numbers p (length st.i)) e (counted b numbers ps (suc k) m (added_to s b numbers rows (judged s b numbers p (length st.i)) st))
     where
-      go : (d : Judged) → (unlessRefused d k st (ranPulses s b numbers rows ps (suc k) (addedTo s b numbers rows (judged s b numbers p (length st.i)) st))).answer ≡ answer.Done m → ((ranPulses s b numbers rows ps (suc k) (addedTo s b numbers rows (judged s b numbers p (length st.i)) st)).answer ≡ answer.Done m → m ≡ suc k + length ps) → m ≡ k + suc (length ps)
+      go : (d : Judged) → (unless_refused d k st (ran_pulses s b numbers rows ps (suc k) (added_to s b numbers rows (judged s b numbers p (length st.i)) st))).answer ≡ answer.Done m → ((ran_pulses s b numbers rows ps (suc k) (added_to s b numbers rows (judged s b numbers p (length st.i)) st)).answer ≡ answer.Done m → m ≡ suc k + length ps) → m ≡ k + suc (length ps)
       go (judgement.Refused r) f rest = let z : ◌≡◌ {A = ℕ} 0 1 = cc in absurd (omega arith)
       go (judgement.Plateau x) f rest = let q = rest f in omega (arith, q)
       go (judgement.Shaped c) f rest = let q = rest f in omega (arith, q)
 
-  none_left : (b : Bin) (numbers : List Float) (k : ℕ) (st : Rowed) → (ranPulses s b numbers rows [] k st).left ≡ st
-  unfolding ranPulses
+  none_left : (b : Bin) (numbers : List Float) (k : ℕ) (st : Rowed) → (ran_pulses s b numbers rows [] k st).left ≡ st
+  unfolding ran_pulses
   none_left b numbers k st = refl
 
   -- one pulse that is accepted
   pub record Alone (b : Bin) (numbers : List Float) (p : Pulse) (st st' : Rowed) : Type 0 where
     pub taken : accepted (judged s b numbers p (length st.i)) ≡ true
-    pub left : st' ≡ addedTo s b numbers rows (judged s b numbers p (length st.i)) st
+    pub left : st' ≡ added_to s b numbers rows (judged s b numbers p (length st.i)) st
 
-  one_left : (b : Bin) (numbers : List Float) (p : Pulse) (k m : ℕ) (st : Rowed) → (ranPulses s b numbers rows (p ∷ []) k st).answer ≡ answer.Done m → Alone b numbers p st (ranPulses s b numbers rows (p ∷ []) k st).left
-  unfolding ranPulses
+  one_left : (b : Bin) (numbers : List Float) (p : Pulse) (k m : ℕ) (st : Rowed) → (ran_pulses s b numbers rows (p ∷ []) k st).answer ≡ answer.Done m → Alone b numbers p st (ran_pulses s b numbers rows (p ∷ []) k st).left
+  unfolding ran_pulses
   one_left b numbers p k m st e = go (judged s b numbers p (length st.i)) refl e
     where
-      go : (d : Judged) → judged s b numbers p (length st.i) ≡ d → (unlessRefused d k st (out (answer.Done (suc k)) (addedTo s b numbers rows (judged s b numbers p (length st.i)) st))).answer ≡ answer.Done m → Alone b numbers p st (unlessRefused d k st (out (answer.Done (suc k)) (addedTo s b numbers rows (judged s b numbers p (length st.i)) st))).left
+      go : (d : Judged) → judged s b numbers p (length st.i) ≡ d → (unless_refused d k st (out (answer.Done (suc k)) (added_to s b numbers rows (judged s b numbers p (length st.i)) st))).answer ≡ answer.Done m → Alone b numbers p st (unless_refused d k st (out (answer.Done (suc k)) (added_to s b numbers rows (judged s b numbers p (length st.i)) st))).left
       go (judgement.Refused r) f g = let z : ◌≡◌ {A = ℕ} 0 1 = cc in absurd (omega arith)
       go (judgement.Plateau x) f g = record { taken = ap accepted f; left = refl }
       go (judgement.Shaped c) f g = record { taken = ap accepted f; left = refl }
@@ -59,33 +59,33 @@ module _ (s : Settings) (rows : ℕ) where
     total [] = 0
     total (r ∷ rs) = length (merged r) + total rs
 
-    all-added : (rs : List (List Float)) (k m : ℕ) (st : Rowed) → (ranBins s rows merged rs k st).answer ≡ answer.Done m → m ≡ k + total rs
-    unfolding ranBins total
+    all-added : (rs : List (List Float)) (k m : ℕ) (st : Rowed) → (ran_bins s rows merged rs k st).answer ≡ answer.Done m → m ≡ k + total rs
+    unfolding ran_bins total
     all-added [] k m st e = let same = done_inj k m e in omega (arith, same)
-    all-added (r ∷ rs) k m st e = let o = ranPulses s (bin_of r) (numbersOf r) rows (merged r) k st in by o.answer o.left refl e (λ n l. all-added rs n m l)
+    all-added (r ∷ rs) k m st e = let o = ran_pulses s (bin_of r) (numbers_of r) rows (merged r) k st in by o.answer o.left refl e (λ n l. all-added rs n m l)
       where
-        by : (a : Answer) (l : Rowed) → (ranPulses s (bin_of r) (numbersOf r) rows (merged r) k st).answer ≡ a → (and_then (out a l) (ranBins s rows merged rs)).answer ≡ answer.Done m
-            → ((n : ℕ) (l' : Rowed) → (ranBins s rows merged rs n l').answer ≡ answer.Done m → m ≡ n + total rs) → m ≡ k + (length (merged r) + total rs)
-        by (answer.Done n) l f g later = let c = counted (bin_of r) (numbersOf r) (merged r) k n st f in let d = later n l g in omega (arith, c, d)
+        by : (a : Answer) (l : Rowed) → (ran_pulses s (bin_of r) (numbers_of r) rows (merged r) k st).answer ≡ a → (and_then (out a l) (ran_bins s rows merged rs)).answer ≡ answer.Done m
+            → ((n : ℕ) (l' : Rowed) → (ran_bins s rows merged rs n l').answer ≡ answer.Done m → m ≡ n + total rs) → m ≡ k + (length (merged r) + total rs)
+        by (answer.Done n) l f g later = let c = counted (bin_of r) (numbers_of r) (merged r) k n st f in let d = later n l g in omega (arith, c, d)
         by (answer.Refused why n) l f g later = let z : ◌≡◌ {A = ℕ} 0 1 = cc in absurd (omega arith)
 
     -- none is added
-    stays : (rs : List (List Float)) (k : ℕ) (st : Rowed) → (ranBins s rows merged rs k st).answer ≡ answer.Done k → (ranBins s rows merged rs k st).left ≡ st
-    unfolding ranBins
+    stays : (rs : List (List Float)) (k : ℕ) (st : Rowed) → (ran_bins s rows merged rs k st).answer ≡ answer.Done k → (ran_bins s rows merged rs k st).left ≡ st
+    unfolding ran_bins
     stays [] k st e = refl
-    stays (r ∷ rs) k st e = let o = ranPulses s (bin_of r) (numbersOf r) rows (merged r) k st in by o.answer o.left refl (merged r) refl e (stays rs)
+    stays (r ∷ rs) k st e = let o = ran_pulses s (bin_of r) (numbers_of r) rows (merged r) k st in by o.answer o.left refl (merged r) refl e (stays rs)
       where
-        by : (a : Answer) (l : Rowed) → ranPulses s (bin_of r) (numbersOf r) rows (merged r) k st ≡ out a l → (ps : List Pulse) → merged r ≡ ps → (and_then (out a l) (ranBins s rows merged rs)).answer ≡ answer.Done k
-            → ((n : ℕ) (l' : Rowed) → (ranBins s rows merged rs n l').answer ≡ answer.Done n → (ranBins s rows merged rs n l').left ≡ l') → (and_then (out a l) (ranBins s rows merged rs)).left ≡ st
+        by : (a : Answer) (l : Rowed) → ran_pulses s (bin_of r) (numbers_of r) rows (merged r) k st ≡ out a l → (ps : List Pulse) → merged r ≡ ps → (and_then (out a l) (ran_bins s rows merged rs)).answer ≡ answer.Done k
+            → ((n : ℕ) (l' : Rowed) → (ran_bins s rows merged rs n l').answer ≡ answer.Done n → (ran_bins s rows merged rs n l').left ≡ l') → (and_then (out a l) (ran_bins s rows merged rs)).left ≡ st
         by (answer.Refused why n) l f ps h g later = let z : ◌≡◌ {A = ℕ} 0 1 = cc in absurd (omega arith)
         by (answer.Done n) l f [] h g later =
-            let c = counted (bin_of r) (numbersOf r) (merged r) k n st (ap (λ (o : Out). o.answer) f) in
+            let c = counted (bin_of r) (numbers_of r) (merged r) k n st (ap (λ (o : Out). o.answer) f) in
             let none : length (merged r) ≡ 0 = ap length h in
             let same : n ≡ k = omega (arith, c, none) in
-            let here : l ≡ st = sym (ap (λ (o : Out). o.left) f) ∙ ap (λ (qs : List Pulse). (ranPulses s (bin_of r) (numbersOf r) rows qs k st).left) h ∙ none_left (bin_of r) (numbersOf r) k st in
+            let here : l ≡ st = sym (ap (λ (o : Out). o.left) f) ∙ ap (λ (qs : List Pulse). (ran_pulses s (bin_of r) (numbers_of r) rows qs k st).left) h ∙ none_left (bin_of r) (numbers_of r) k st in
             later n l (g ∙ ap answer.Done (sym same)) ∙ here
         by (answer.Done n) l f (p ∷ ps) h g later =
-            let c = counted (bin_of r) (numbersOf r) (merged r) k n st (ap (λ (o : Out). o.answer) f) in
+            let c = counted (bin_of r) (numbers_of r) (merged r) k n st (ap (λ (o : Out). o.answer) f) in
             let some : length (merged r) ≡ suc (length ps) = ap length h in
             let d = all-added rs n k l g in
             absurd (omega (arith, c, some, d))
@@ -98,36 +98,36 @@ module _ (s : Settings) (rows : ℕ) where
       pub there : get_or rs place [] ≡ row
       pub pulse : Pulse
       pub only : merged row ≡ pulse ∷ []
-      pub alone : Alone (bin_of row) (numbersOf row) pulse st st'
+      pub alone : Alone (bin_of row) (numbers_of row) pulse st st'
 
-    pub one-added : (rs : List (List Float)) (k : ℕ) (st : Rowed) → (ranBins s rows merged rs k st).answer ≡ answer.Done (suc k) → One rs st (ranBins s rows merged rs k st).left
-    unfolding ranBins
+    pub one-added : (rs : List (List Float)) (k : ℕ) (st : Rowed) → (ran_bins s rows merged rs k st).answer ≡ answer.Done (suc k) → One rs st (ran_bins s rows merged rs k st).left
+    unfolding ran_bins
     one-added [] k st e = let same = done_inj k (suc k) e in absurd (omega (arith, same))
-    one-added (r ∷ rs) k st e = let o = ranPulses s (bin_of r) (numbersOf r) rows (merged r) k st in by o.answer o.left refl (merged r) refl e (one-added rs)
+    one-added (r ∷ rs) k st e = let o = ran_pulses s (bin_of r) (numbers_of r) rows (merged r) k st in by o.answer o.left refl (merged r) refl e (one-added rs)
       where
         further : (l : Rowed) → One rs st l → One (r ∷ rs) st l
         further l x = record { row = x.row; place = suc x.place; within = let h = x.within in omega (arith, h); there = x.there; pulse = x.pulse; only = x.only; alone = x.alone }
 
-        by : (a : Answer) (l : Rowed) → ranPulses s (bin_of r) (numbersOf r) rows (merged r) k st ≡ out a l → (ps : List Pulse) → merged r ≡ ps → (and_then (out a l) (ranBins s rows merged rs)).answer ≡ answer.Done (suc k)
-            → ((n : ℕ) (l' : Rowed) → (ranBins s rows merged rs n l').answer ≡ answer.Done (suc n) → One rs l' (ranBins s rows merged rs n l').left) → One (r ∷ rs) st (and_then (out a l) (ranBins s rows merged rs)).left
+        by : (a : Answer) (l : Rowed) → ran_pulses s (bin_of r) (numbers_of r) rows (merged r) k st ≡ out a l → (ps : List Pulse) → merged r ≡ ps → (and_then (out a l) (ran_bins s rows merged rs)).answer ≡ answer.Done (suc k)
+            → ((n : ℕ) (l' : Rowed) → (ran_bins s rows merged rs n l').answer ≡ answer.Done (suc n) → One rs l' (ran_bins s rows merged rs n l').left) → One (r ∷ rs) st (and_then (out a l) (ran_bins s rows merged rs)).left
         by (answer.Refused why n) l f ps h g later = let z : ◌≡◌ {A = ℕ} 0 1 = cc in absurd (omega arith)
         by (answer.Done n) l f [] h g later =
-            let c = counted (bin_of r) (numbersOf r) (merged r) k n st (ap (λ (o : Out). o.answer) f) in
+            let c = counted (bin_of r) (numbers_of r) (merged r) k n st (ap (λ (o : Out). o.answer) f) in
             let none : length (merged r) ≡ 0 = ap length h in
             let same : n ≡ k = omega (arith, c, none) in
-            let here : l ≡ st = sym (ap (λ (o : Out). o.left) f) ∙ ap (λ (qs : List Pulse). (ranPulses s (bin_of r) (numbersOf r) rows qs k st).left) h ∙ none_left (bin_of r) (numbersOf r) k st in
-            further (ranBins s rows merged rs n l).left (subst (λ (x : Rowed). One rs x (ranBins s rows merged rs n l).left) here (later n l (g ∙ ap (λ (x : ℕ). answer.Done (suc x)) (sym same))))
+            let here : l ≡ st = sym (ap (λ (o : Out). o.left) f) ∙ ap (λ (qs : List Pulse). (ran_pulses s (bin_of r) (numbers_of r) rows qs k st).left) h ∙ none_left (bin_of r) (numbers_of r) k st in
+            further (ran_bins s rows merged rs n l).left (subst (λ (x : Rowed). One rs x (ran_bins s rows merged rs n l).left) here (later n l (g ∙ ap (λ (x : ℕ). answer.Done (suc x)) (sym same))))
         by (answer.Done n) l f (p ∷ []) h g later =
-            let c = counted (bin_of r) (numbersOf r) (merged r) k n st (ap (λ (o : Out). o.answer) f) in
+            let c = counted (bin_of r) (numbers_of r) (merged r) k n st (ap (λ (o : Out). o.answer) f) in
             let some : length (merged r) ≡ 1 = ap length h in
             let same : n ≡ suc k = omega (arith, c, some) in
             let rest = stays rs n l (g ∙ ap answer.Done (sym same)) in
-            let done = sym (ap (λ (qs : List Pulse). (ranPulses s (bin_of r) (numbersOf r) rows qs k st).answer) h) ∙ ap (λ (o : Out). o.answer) f in
-            let it = one_left (bin_of r) (numbersOf r) p k n st done in
-            let here : (ranPulses s (bin_of r) (numbersOf r) rows (p ∷ []) k st).left ≡ l = sym (ap (λ (qs : List Pulse). (ranPulses s (bin_of r) (numbersOf r) rows qs k st).left) h) ∙ ap (λ (o : Out). o.left) f in
+            let done = sym (ap (λ (qs : List Pulse). (ran_pulses s (bin_of r) (numbers_of r) rows qs k st).answer) h) ∙ ap (λ (o : Out). o.answer) f in
+            let it = one_left (bin_of r) (numbers_of r) p k n st done in
+            let here : (ran_pulses s (bin_of r) (numbers_of r) rows (p ∷ []) k st).left ≡ l = sym (ap (λ (qs : List Pulse). (ran_pulses s (bin_of r) (numbers_of r) rows qs k st).left) h) ∙ ap (λ (o : Out). o.left) f in
             record { row = r; place = 0; within = omega arith; there = refl; pulse = p; only = h; alone = record { taken = it.taken; left = rest ∙ sym here ∙ it.left } }
         by (answer.Done n) l f (p ∷ q ∷ ps) h g later =
-            let c = counted (bin_of r) (numbersOf r) (merged r) k n st (ap (λ (o : Out). o.answer) f) in
+            let c = counted (bin_of r) (numbers_of r) (merged r) k n st (ap (λ (o : Out). o.answer) f) in
             let some : length (merged r) ≡ suc (suc (length ps)) = ap length h in
             let d = all-added rs n (suc k) l g in
             absurd (omega (arith, c, some, d))
@@ -149,5 +149,5 @@ module _ (s : Settings) (rows : ℕ) where
         let l = at_least rs p (le_of_suc-le-suc h) in
         ap suc (same_place rs p q (le_of_suc-le-suc h) (le_of_suc-le-suc g) e f (omega arith))
 
-    pub one_place : (rs : List (List Float)) (p q k : ℕ) (st : Rowed) → (ranBins s rows merged rs k st).answer ≡ answer.Done (suc k) → p < length rs → q < length rs → length (merged (get_or rs p [])) ≡ 1 → length (merged (get_or rs q [])) ≡ 1 → p ≡ q
+    pub one_place : (rs : List (List Float)) (p q k : ℕ) (st : Rowed) → (ran_bins s rows merged rs k st).answer ≡ answer.Done (suc k) → p < length rs → q < length rs → length (merged (get_or rs p [])) ≡ 1 → length (merged (get_or rs q [])) ≡ 1 → p ≡ q
     one_place rs p q k st d h g e f = let t = all-added rs k (suc k) st d in same_place rs p q h g e f (omega arith)

@@ -11,7 +11,7 @@ use lib.Ieee.{Float, binary64, unlike, round, sum, add, sub, mul}
 use lib.Ieee.Scale.{grid, finite}
 use Rattle.exact.specs.Value.{Units}
 use Rattle.exact.specs.Near.{Part}
-use Rattle.exact.specs.Signed.{Signed, Same, Apart, signed, times, plusS}
+use Rattle.exact.specs.Signed.{Signed, Same, Apart, signed, times, plus_s}
 use Rattle.exact.proofs.Order.{Stands, compared}
 use Rattle.exact.proofs.Sum.{sum_like, sum_first, sum-second, sum-none}
 use Rattle.exact.proofs.Operation.{mul-rounds, add_rounds, sub-rounds}
@@ -40,10 +40,10 @@ rounded z n e x l h same =
     by false v n p same l = record { over = omega (arith, p.over, p.under); under = omega (arith, p.over, p.under) }
 
 module _ (a b : ℕ) (h : a + b ≤ 2 ^ 2090) where
-  like : (s t : Bool) → beq s t ≡ true → Same (signed s (a + b)) (plusS (signed s a) (signed t b)) → Sum (sum binary64 s a t b (2 ^ 1074)) (plusS (signed s a) (signed t b)) (a + b)
+  like : (s t : Bool) → beq s t ≡ true → Same (signed s (a + b)) (plus_s (signed s a) (signed t b)) → Sum (sum binary64 s a t b (2 ^ 1074)) (plus_s (signed s a) (signed t b)) (a + b)
   like s t e same =
-      subst (λ (r : Float). Sum r (plusS (signed s a) (signed t b)) (a + b)) (sym (sum_like binary64 s t a b (2 ^ 1074) e))
-      (rounded s (a + b) (a + b) (plusS (signed s a) (signed t b)) (le_refl (a + b)) h same)
+      subst (λ (r : Float). Sum r (plus_s (signed s a) (signed t b)) (a + b)) (sym (sum_like binary64 s t a b (2 ^ 1074) e))
+      (rounded s (a + b) (a + b) (plus_s (signed s a) (signed t b)) (le_refl (a + b)) h same)
 
   differ : (s t : Bool) (x : Signed) → beq s t ≡ false → (a < b → Same (signed t (b - a)) x) → (b < a → Same (signed s (a - b)) x) → (a ≡ b → Same (signed false 0) x)
       → Sum (sum binary64 s a t b (2 ^ 1074)) x (a + b)
@@ -54,18 +54,18 @@ module _ (a b : ℕ) (h : a + b ≤ 2 ^ 2090) where
       by Ordering.eq l = subst (λ (r : Float). Sum r x (a + b)) (sym (sum-none binary64 s t a b (2 ^ 1074) e l)) (rounded false 0 (a + b) x (omega arith) h (none l))
       by Ordering.gt l = subst (λ (r : Float). Sum r x (a + b)) (sym (sum_first binary64 s t a b (2 ^ 1074) e l)) (rounded s (a - b) (a + b) x (omega arith) h (more l))
 
-  sum_near : (s t : Bool) → Sum (sum binary64 s a t b (2 ^ 1074)) (plusS (signed s a) (signed t b)) (a + b)
+  sum_near : (s t : Bool) → Sum (sum binary64 s a t b (2 ^ 1074)) (plus_s (signed s a) (signed t b)) (a + b)
   sum_near true true = like true true refl (omega arith)
   sum_near false false = like false false refl (omega arith)
-  sum_near true false = differ true false (plusS (signed true a) (signed false b)) refl (λ l. omega arith) (λ l. omega arith) (λ l. omega arith)
-  sum_near false true = differ false true (plusS (signed false a) (signed true b)) refl (λ l. omega arith) (λ l. omega arith) (λ l. omega arith)
+  sum_near true false = differ true false (plus_s (signed true a) (signed false b)) refl (λ l. omega arith) (λ l. omega arith) (λ l. omega arith)
+  sum_near false true = differ false true (plus_s (signed false a) (signed true b)) refl (λ l. omega arith) (λ l. omega arith) (λ l. omega arith)
 
   module _ (x y : Float) (s t : Bool) (v : Units x s a) (w : Units y t b) where
-    pub add-near : Sum (add binary64 x y) (plusS (signed s a) (signed t b)) (a + b)
-    add-near = subst (λ (r : Float). Sum r (plusS (signed s a) (signed t b)) (a + b)) (sym (add_rounds binary64 x y s t a b (2 ^ 1074) (pow_pos 1074) v w)) (sum_near s t)
+    pub add-near : Sum (add binary64 x y) (plus_s (signed s a) (signed t b)) (a + b)
+    add-near = subst (λ (r : Float). Sum r (plus_s (signed s a) (signed t b)) (a + b)) (sym (add_rounds binary64 x y s t a b (2 ^ 1074) (pow_pos 1074) v w)) (sum_near s t)
 
-    pub sub-near : Sum (sub binary64 x y) (plusS (signed s a) (signed (not t) b)) (a + b)
-    sub-near = subst (λ (r : Float). Sum r (plusS (signed s a) (signed (not t) b)) (a + b)) (sym (sub-rounds binary64 x y s t a b (2 ^ 1074) (pow_pos 1074) v w)) (sum_near s (not t))
+    pub sub-near : Sum (sub binary64 x y) (plus_s (signed s a) (signed (not t) b)) (a + b)
+    sub-near = subst (λ (r : Float). Sum r (plus_s (signed s a) (signed (not t) b)) (a + b)) (sym (sub-rounds binary64 x y s t a b (2 ^ 1074) (pow_pos 1074) v w)) (sum_near s (not t))
 
 -- ---- a product: r has the sign s, and its size in units is near n / 2 ^ 1074
 pub record Times (r : Float) (s : Bool) (n : ℕ) : Type 0 where

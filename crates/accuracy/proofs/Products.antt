@@ -8,7 +8,7 @@ use lib.Dec.{lit≤}
 use lib.Pow.{pow_pos}
 use lib.Ieee.{Float}
 use Rattle.exact.specs.Value.{Units}
-use Rattle.exact.specs.Signed.{Signed, Apart, signed, times, plusS}
+use Rattle.exact.specs.Signed.{Signed, Apart, signed, times, plus_s}
 use Rattle.exact.proofs.Signed.{apart-via, apart-times, apart-sum, apart_more}
 use Rattle.accuracy.proofs.Operations.{Sum, Times}
 
@@ -24,8 +24,8 @@ scaled : (s : Bool) (v n d e : ℕ) → v * d * 2 ^ 53 ≤ n * 2 ^ 53 + e → n 
 scaled true v n d e h k = record { over = omega arith; under = omega arith }
 scaled false v n d e h k = record { over = omega arith; under = omega arith }
 
-spread : (d e : ℕ) (x y z w : Signed) → Apart (plusS (times d (times (2 ^ 53) x)) (times d (times (2 ^ 53) y))) (plusS (times (2 ^ 53) z) (times (2 ^ 53) w)) e
-    → Apart (times d (times (2 ^ 53) (plusS x y))) (times (2 ^ 53) (plusS z w)) e
+spread : (d e : ℕ) (x y z w : Signed) → Apart (plus_s (times d (times (2 ^ 53) x)) (times d (times (2 ^ 53) y))) (plus_s (times (2 ^ 53) z) (times (2 ^ 53) w)) e
+    → Apart (times d (times (2 ^ 53) (plus_s x y))) (times (2 ^ 53) (plus_s z w)) e
 spread d e x y z w h = by x.plus x.less y.plus y.less z.plus z.less w.plus w.less h.over h.under
   where
     by : (a b f g p q u v : ℕ) → d * (2 ^ 53 * a) + d * (2 ^ 53 * f) + (2 ^ 53 * q + 2 ^ 53 * v) ≤ 2 ^ 53 * p + 2 ^ 53 * u + (d * (2 ^ 53 * b) + d * (2 ^ 53 * g)) + e
@@ -56,17 +56,17 @@ module _ (s t : Bool) (n m : ℕ) (x y : Float) (h : Times x s n) (k : Times y t
   cost d v w a b = omega arith
 
   -- u: the second product's sign in the sum, which a difference turns
-  pub joined : (r : Float) (u : Bool) → Sum r (plusS (signed s h.size) (signed u k.size)) (h.size + k.size) → Part r (plusS (signed s n) (signed u m)) (3 * (n + m) + 2 ^ 1074 * 2 ^ 54)
+  pub joined : (r : Float) (u : Bool) → Sum r (plus_s (signed s h.size) (signed u k.size)) (h.size + k.size) → Part r (plus_s (signed s n) (signed u m)) (3 * (n + m) + 2 ^ 1074 * 2 ^ 54)
   joined r u j =
       let d = 2 ^ 1074 in
       let v = signed s h.size in
       let w = signed u k.size in
-      let x = plusS (signed s n) (signed u m) in
+      let x = plus_s (signed s n) (signed u m) in
       let e = n + d * 2 ^ 52 in
       let f = m + d * 2 ^ 52 in
       let z = times d (times (2 ^ 53) (signed j.sign j.size)) in
-      let both = times d (times (2 ^ 53) (plusS v w)) in
-      let last : Apart z both (d * (h.size + k.size)) = apart-times d (times (2 ^ 53) (signed j.sign j.size)) (times (2 ^ 53) (plusS v w)) (h.size + k.size) j.apart in
+      let both = times d (times (2 ^ 53) (plus_s v w)) in
+      let last : Apart z both (d * (h.size + k.size)) = apart-times d (times (2 ^ 53) (signed j.sign j.size)) (times (2 ^ 53) (plus_s v w)) (h.size + k.size) j.apart in
       let first : Apart both (times (2 ^ 53) x) (e + f) =
       spread d (e + f) v w (signed s n) (signed u m)
       (apart-sum (times d (times (2 ^ 53) v)) (times (2 ^ 53) (signed s n)) (times d (times (2 ^ 53) w)) (times (2 ^ 53) (signed u m)) e f

@@ -6,7 +6,7 @@ use Prim.Native.Nat.{ℕ, ◌+◌, ◌-◌, ◌*◌, ◌≤◌, ◌<◌}
 use native.Mathlib.Nat.{add_comm}
 use native.Mathlib.Omega.{arith}
 use lib.Dec.{T, leb, leb→le, nleb→lt}
-use Rattle.exact.specs.Signed.{Signed, signed, plusS, lessS, timesS, dist, mag}
+use Rattle.exact.specs.Signed.{Signed, signed, plus_s, less_s, times_s, dist, mag}
 use Rattle.exact.proofs.Sizes.{signed_is, same-product, same-less, same-plus}
 use Rattle.accuracy.proofs.Sizes.{sq, sq-same}
 
@@ -41,7 +41,7 @@ sum-difference : (e f c s x y : ℕ) → x ≡ e * c + f * s → y ≡ dist (e *
 sum-difference e f c s x y hx hy = add_comm (x * x) (y * y) ∙ difference-sum e f s c y x hy hx ∙ ap (λ (z : ℕ). (e * e + f * f) * z) (add_comm (s * s) (c * c))
 
 -- ---- with signs
-norm-signed : (a b c d : Bool) (e f g h : ℕ) → sq (lessS (timesS (signed a e) (signed c g)) (timesS (signed b f) (signed d h))) + sq (plusS (timesS (signed a e) (signed d h)) (timesS (signed b f) (signed c g))) ≡ (e * e + f * f) * (g * g + h * h)
+norm-signed : (a b c d : Bool) (e f g h : ℕ) → sq (less_s (times_s (signed a e) (signed c g)) (times_s (signed b f) (signed d h))) + sq (plus_s (times_s (signed a e) (signed d h)) (times_s (signed b f) (signed c g))) ≡ (e * e + f * f) * (g * g + h * h)
 norm-signed true true true true e f g h = difference-sum e f g h _ _ (omega arith) (omega arith)
 norm-signed true true true false e f g h = sum-difference e f g h _ _ (omega arith) (omega arith)
 norm-signed true true false true e f g h = sum-difference e f g h _ _ (omega arith) (omega arith)
@@ -59,7 +59,7 @@ norm-signed false false true false e f g h = sum-difference e f g h _ _ (omega a
 norm-signed false false false true e f g h = sum-difference e f g h _ _ (omega arith) (omega arith)
 norm-signed false false false false e f g h = difference-sum e f g h _ _ (omega arith) (omega arith)
 
-pub norm-mul : (x y c s : Signed) → sq (lessS (timesS x c) (timesS y s)) + sq (plusS (timesS x s) (timesS y c)) ≡ (sq x + sq y) * (sq c + sq s)
+pub norm-mul : (x y c s : Signed) → sq (less_s (times_s x c) (times_s y s)) + sq (plus_s (times_s x s) (times_s y c)) ≡ (sq x + sq y) * (sq c + sq s)
 norm-mul x y c s =
     let a = signed_is x in
     let b = signed_is y in
@@ -69,8 +69,8 @@ norm-mul x y c s =
     let Y = signed b.0 (mag y) in
     let C = signed g.0 (mag c) in
     let S = signed h.0 (mag s) in
-    let re = same-less (timesS x c) (timesS y s) (timesS X C) (timesS Y S) (same-product x c X C a.1 g.1) (same-product y s Y S b.1 h.1) in
-    let im = same-plus (timesS x s) (timesS y c) (timesS X S) (timesS Y C) (same-product x s X S a.1 h.1) (same-product y c Y C b.1 g.1) in
-    let re-is = sq-same (lessS (timesS x c) (timesS y s)) (lessS (timesS X C) (timesS Y S)) re in
-    let im-is = sq-same (plusS (timesS x s) (timesS y c)) (plusS (timesS X S) (timesS Y C)) im in
+    let re = same-less (times_s x c) (times_s y s) (times_s X C) (times_s Y S) (same-product x c X C a.1 g.1) (same-product y s Y S b.1 h.1) in
+    let im = same-plus (times_s x s) (times_s y c) (times_s X S) (times_s Y C) (same-product x s X S a.1 h.1) (same-product y c Y C b.1 g.1) in
+    let re-is = sq-same (less_s (times_s x c) (times_s y s)) (less_s (times_s X C) (times_s Y S)) re in
+    let im-is = sq-same (plus_s (times_s x s) (times_s y c)) (plus_s (times_s X S) (times_s Y C)) im in
     (λ i. re-is i + im-is i) ∙ norm-signed a.0 b.0 g.0 h.0 (mag x) (mag y) (mag c) (mag s)

@@ -4,7 +4,7 @@ use mathlib.Core.Path.{◌≡◌}
 use Prim.Native.Nat.{ℕ, suc, ◌+◌, ◌*◌, ◌≤◌}
 use native.Mathlib.Nat.{le_trans, le_of_eq, add-le-add, mul-le-mul, mul-le-mul_left, le_of_mul-le-mul_left, zero-lt-suc}
 use native.Mathlib.Omega.{arith}
-use Rattle.exact.specs.Signed.{Signed, plusS, dist, mag}
+use Rattle.exact.specs.Signed.{Signed, plus_s, dist, mag}
 use Rattle.exact.proofs.Sizes.{mag-add}
 use Rattle.accuracy.proofs.Sizes.{sq}
 use Rattle.accuracy.proofs.Squares.{dist-square}
@@ -19,14 +19,14 @@ pub young : (j x y : ℕ) → j * ((x + y) * (x + y)) ≤ suc j * (x * x) + j * 
 young j x y = let h = two_products x (j * y) in omega arith
 
 -- one part: x with one more error u
-one-part : (j : ℕ) (x u : Signed) → j * sq (plusS x u) ≤ suc j * sq x + j * suc j * sq u
+one-part : (j : ℕ) (x u : Signed) → j * sq (plus_s x u) ≤ suc j * sq x + j * suc j * sq u
 one-part j x u = le_trans (mul-le-mul_left j (mul-le-mul (mag-add x u) (mag-add x u))) (young j (mag x) (mag u))
 
-pub grow : (i B : ℕ) (x y u v : Signed) → sq x + sq y ≤ suc i * suc i * B → sq u + sq v ≤ B → sq (plusS x u) + sq (plusS y v) ≤ suc (suc i) * suc (suc i) * B
+pub grow : (i B : ℕ) (x y u v : Signed) → sq x + sq y ≤ suc i * suc i * B → sq u + sq v ≤ B → sq (plus_s x u) + sq (plus_s y v) ≤ suc (suc i) * suc (suc i) * B
 grow i B x y u v h k =
     let j = suc i in
-    le_of_mul-le-mul_left {m = sq (plusS x u) + sq (plusS y v)} {n = suc j * suc j * B} {k = j}
-    (le_trans (both j (sq (plusS x u)) (sq (plusS y v)) (sq x) (sq y) (sq u) (sq v) (one-part j x u) (one-part j y v))
+    le_of_mul-le-mul_left {m = sq (plus_s x u) + sq (plus_s y v)} {n = suc j * suc j * B} {k = j}
+    (le_trans (both j (sq (plus_s x u)) (sq (plus_s y v)) (sq x) (sq y) (sq u) (sq v) (one-part j x u) (one-part j y v))
     (le_trans (add-le-add (mul-le-mul_left (suc j) h) (mul-le-mul_left (j * suc j) k)) (le_of_eq (total j B))))
     (zero-lt-suc i)
   where

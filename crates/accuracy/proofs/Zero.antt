@@ -9,7 +9,7 @@ use lib.Pow.{pow_pos}
 use lib.Ieee.{Float, binary64, fits, round, sum, add, eq}
 use lib.Ieee.Scale.{finite}
 use Rattle.exact.specs.Doubles.{nought}
-use Rattle.exact.specs.Value.{Units, sign_of, unitsOf, value_of}
+use Rattle.exact.specs.Value.{Units, sign_of, units_of, value_of}
 use Rattle.exact.specs.Signed.{signed}
 use Rattle.exact.proofs.Sum.{sum_like, sum-second, sum-none}
 use Rattle.exact.proofs.Operation.{add_rounds}
@@ -63,7 +63,7 @@ pub record Unchanged (z x : Float) : Type 0 where
 pub zero-plus : (z x : Float) → eq z nought ≡ true → T (fits binary64 x) → T (finite x) → Unchanged z x
 zero-plus z x h f t =
     let s = sign_of x in
-    let n = unitsOf x in
+    let n = units_of x in
     let e = add_rounds binary64 z x (sign_of z) s 0 n (2 ^ 1074) (pow_pos 1074) (none z h) (own x f t) in
     let k = plus-units (sign_of z) s n (few-of x f t) (units-below x f t) in
     let v : Units (add binary64 z x) k.sign n = subst (λ (y : Float). Units y k.sign n) (sym e) k.value in

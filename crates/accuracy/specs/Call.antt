@@ -7,7 +7,7 @@ use Rattle.quant.specs.declared.aligned.Placed.TheVariants.{Start}
 use Rattle.quant.specs.declared.complex.Complex.{Complex}
 use Rattle.quant.specs.declared.settings.Fitting.TheVariants.{Fit}
 use Rattle.quant.specs.declared.settings.Settings.{Settings}
-use Rattle.quant.specs.Settings.{fittingOf}
+use Rattle.quant.specs.Settings.{fitting_of}
 use Rattle.pulse.specs.declared.bin.Bin.{Bin}
 use Rattle.pulse.specs.declared.envelope.Shape.TheVariants.{Plain}
 use Rattle.pulse.specs.declared.list.Pulse.{Pulse}
@@ -16,12 +16,12 @@ use Rattle.tables.specs.declared.Tables.{Tables}
 use Rattle.merge.specs.Taking.{parts_in}
 use Rattle.crosstalk.specs.declared.names.Crosstalk.{Crosstalk}
 use Rattle.crosstalk.specs.Crosstalk.{planned}
-use Rattle.placing.specs.Phases.{startPair, rotationPair}
+use Rattle.placing.specs.Phases.{start_pair, rotation_pair}
 use Rattle.placing.specs.Judged.{placed_at, count_of}
-use Rattle.mixdown.specs.Bins.{binsBy, mergedOf}
+use Rattle.mixdown.specs.Bins.{bins_by, merged_of}
 use Rattle.mixdown.specs.Sampled.{Rowed}
 use Rattle.sampler.specs.declared.Request.{Request}
-use Rattle.accuracy.specs.Exact.{Gauss, Near, carrierExactly, absolute, squares}
+use Rattle.accuracy.specs.Exact.{Gauss, Near, carrier_exactly, absolute, squares}
 
 -- "Let m be the sum of the absolute parts of its amplitude as sampled, after merging and crosstalk, between 2^-200 and 2^200, and let the squares
 -- of the start pair and of the rotation pair each sum to at most 1 + 2^-44."
@@ -51,32 +51,32 @@ pub record AsSampled : Type 0 where
 
 module _ (x : AsSampled) where
   -- its amplitude, its start pair and its rotation pair
-  abbrev pub ampOf : Complex
-  ampOf = x.pulse.amp
+  abbrev pub amp_of : Complex
+  amp_of = x.pulse.amp
 
   abbrev pub start_of : Complex
-  start_of = startPair x.settings x.bin x.start x.offset
+  start_of = start_pair x.settings x.bin x.start x.offset
 
-  abbrev pub rotationOf : Complex
-  rotationOf = rotationPair x.settings x.bin
+  abbrev pub rotation_of : Complex
+  rotation_of = rotation_pair x.settings x.bin
 
   -- its length, in samples
   abbrev pub length_of : ℕ
   length_of = count_of x.settings x.bin
 
   -- "amplitude times start times rotation to the power k"
-  abbrev pub exactOf : ℕ → Gauss
-  exactOf k = carrierExactly ampOf start_of rotationOf k
+  abbrev pub exact_of : ℕ → Gauss
+  exact_of k = carrier_exactly amp_of start_of rotation_of k
 
 -- x is the one pulse that a call added: its bin stands among the bins by first appearance, and after merging and crosstalk has no other pulse
 pub record Only (t : Tables) (r : Request) (c : Crosstalk) (factors : List Float) (bins : List (List Float)) (pulses : List Pulse) (x : AsSampled) : Type 0 where
-  pub fit : fittingOf r.rate r.delay r.level ≡ Fit x.settings
+  pub fit : fitting_of r.rate r.delay r.level ≡ Fit x.settings
   pub row : List Float
   pub place : ℕ
-  pub within : place < length (binsBy t bins (parts_in (planned t r.channel c factors).taking))
-  pub there : get_or (binsBy t bins (parts_in (planned t r.channel c factors).taking)) place [] ≡ row
+  pub within : place < length (bins_by t bins (parts_in (planned t r.channel c factors).taking))
+  pub there : get_or (bins_by t bins (parts_in (planned t r.channel c factors).taking)) place [] ≡ row
   pub its-bin : x.bin ≡ bin_of row
-  pub only : mergedOf t bins pulses (parts_in (planned t r.channel c factors).taking) row ≡ x.pulse ∷ []
+  pub only : merged_of t bins pulses (parts_in (planned t r.channel c factors).taking) row ≡ x.pulse ∷ []
   pub placed : placed_at x.settings x.pulse ≡ Start x.start x.offset
 
 -- "Then each sample k of the pulse, counted from its start and below its length, lies within (k+1)·2^-49·m of the exact product: amplitude times
@@ -84,8 +84,8 @@ pub record Only (t : Tables) (r : Request) (c : Crosstalk) (factors : List Float
 -- and behind the pulse stay, bit for bit, what they were: zeros of either sign.
 pub record PlateauNear (x : AsSampled) (rows len : ℕ) (st after : Rowed) : Type 0 where
   pub inside : x.start + length_of x ≤ len
-  pub in-i : (k : ℕ) → k < length_of x → Near (get_or after.i (x.start + k) nan) (exactOf x k).re k (absolute (ampOf x))
-  pub in-q : rows ≡ 2 → (k : ℕ) → k < length_of x → Near (get_or after.q (x.start + k) nan) (exactOf x k).im k (absolute (ampOf x))
+  pub in_i : (k : ℕ) → k < length_of x → Near (get_or after.i (x.start + k) nan) (exact_of x k).re k (absolute (amp_of x))
+  pub in_q : rows ≡ 2 → (k : ℕ) → k < length_of x → Near (get_or after.q (x.start + k) nan) (exact_of x k).im k (absolute (amp_of x))
   pub before-i : (k : ℕ) → k < x.start → get_or after.i k nan ≡ get_or st.i k nan
   pub behind-i : (k : ℕ) → x.start + length_of x ≤ k → get_or after.i k nan ≡ get_or st.i k nan
   pub before-q : rows ≡ 2 → (k : ℕ) → k < x.start → get_or after.q k nan ≡ get_or st.q k nan
@@ -96,4 +96,4 @@ pub record OneNear (t : Tables) (r : Request) (c : Crosstalk) (factors : List Fl
   pub one : AsSampled
   pub only : Only t r c factors bins pulses one
   pub alone : (x : AsSampled) → Only t r c factors bins pulses x → x ≡ one
-  pub near : one.bin.envelope.shape ≡ Plain → Bounded (ampOf one) (start_of one) (rotationOf one) → PlateauNear one r.rows len st after
+  pub near : one.bin.envelope.shape ≡ Plain → Bounded (amp_of one) (start_of one) (rotation_of one) → PlateauNear one r.rows len st after

@@ -4,11 +4,11 @@ use Rattle.std.specs.Prelude.{ℕ, zero, suc, ◌+◌, ◌*◌, ◌^◌, ◌≤�
 use Rattle.std.specs.Float.{binary64}
 use Rattle.std.specs.Float.Ieee.{fits}
 use Rattle.std.specs.Float.Ieee.Scale.{finite}
-use Rattle.exact.specs.Signed.{Signed, Apart, times, plusS, lessS, timesS}
-use Rattle.exact.specs.Value.{unitsOf, value_of}
+use Rattle.exact.specs.Signed.{Signed, Apart, times, plus_s, less_s, times_s}
+use Rattle.exact.specs.Value.{units_of, value_of}
 use Rattle.quant.specs.declared.complex.Complex.{Complex}
-use Rattle.quant.specs.Complex.{timesC}
-use Rattle.mix.specs.Plateau.{carrierAfter}
+use Rattle.quant.specs.Complex.{times_c}
+use Rattle.mix.specs.Plateau.{carrier_after}
 
 -- ---- complex whole numbers
 
@@ -19,12 +19,12 @@ pub record Gauss : Type 0 where
 abbrev pub one_g : Gauss
 one_g = record { re = record { plus = 1; less = 0 }; im = record { plus = 0; less = 0 } }
 
-abbrev pub timesG : Gauss → Gauss → Gauss
-timesG x y = record { re = lessS (timesS x.re y.re) (timesS x.im y.im); im = plusS (timesS x.re y.im) (timesS x.im y.re) }
+abbrev pub times_g : Gauss → Gauss → Gauss
+times_g x y = record { re = less_s (times_s x.re y.re) (times_s x.im y.im); im = plus_s (times_s x.re y.im) (times_s x.im y.re) }
 
-unfoldable pub powerG : Gauss → ℕ → Gauss
-powerG x zero = one_g
-powerG x (suc k) = timesG (powerG x k) x
+unfoldable pub power_g : Gauss → ℕ → Gauss
+power_g x zero = one_g
+power_g x (suc k) = times_g (power_g x k) x
 
 -- ---- doubles read exactly
 
@@ -32,16 +32,16 @@ abbrev pub exactly : Complex → Gauss
 exactly z = record { re = value_of z.re; im = value_of z.im }
 
 -- times 2 ^ 1074 to the power k + 2
-abbrev pub carrierExactly : Complex → Complex → Complex → ℕ → Gauss
-carrierExactly amp start rotation k = timesG (timesG (exactly amp) (exactly start)) (powerG (exactly rotation) k)
+abbrev pub carrier_exactly : Complex → Complex → Complex → ℕ → Gauss
+carrier_exactly amp start rotation k = times_g (times_g (exactly amp) (exactly start)) (power_g (exactly rotation) k)
 
 -- the sum of the absolute parts, times 2 ^ 1074
 abbrev pub absolute : Complex → ℕ
-absolute z = unitsOf z.re + unitsOf z.im
+absolute z = units_of z.re + units_of z.im
 
 -- the sum of the squares of the parts, times 2 ^ 2148
 abbrev pub squares : Complex → ℕ
-squares z = unitsOf z.re * unitsOf z.re + unitsOf z.im * unitsOf z.im
+squares z = units_of z.re * units_of z.re + units_of z.im * units_of z.im
 
 -- ---- the words of the theorem
 
@@ -69,5 +69,5 @@ pub record Near (x : Float) (w : Signed) (k m : ℕ) : Type 0 where
 
 -- "lies within (k+1)·2^-49·m of the exact product", of the carrier after k steps: both its parts
 pub record CarrierNear (amp start rotation : Complex) (k : ℕ) : Type 0 where
-  pub re : Near (carrierAfter k (timesC start amp) rotation).re (carrierExactly amp start rotation k).re k (absolute amp)
-  pub im : Near (carrierAfter k (timesC start amp) rotation).im (carrierExactly amp start rotation k).im k (absolute amp)
+  pub re : Near (carrier_after k (times_c start amp) rotation).re (carrier_exactly amp start rotation k).re k (absolute amp)
+  pub im : Near (carrier_after k (times_c start amp) rotation).im (carrier_exactly amp start rotation k).im k (absolute amp)

@@ -8,8 +8,8 @@ use Rattle.job_sheet.specs.Inset.{fewer, Took, Within}
 use Rattle.bench.specs.declared.state.State.{State}
 use Rattle.bench.specs.declared.steps.Told.{Told}
 
-abbrev pub withCrosstalk : State → Crosstalk → State
-withCrosstalk s c = record { tables = s.tables; rows = s.rows; length = s.length; gathered = s.gathered; crosstalk = c }
+abbrev pub with_crosstalk : State → Crosstalk → State
+with_crosstalk s c = record { tables = s.tables; rows = s.rows; length = s.length; gathered = s.gathered; crosstalk = c }
 
 -- the line is no line of a sheet
 abbrev pub NoSheet : Line → Type 0

@@ -1,6 +1,6 @@
 // What the bench knows between two lines, but for the arrays: tables, the rows' sizes, how many commands are gathered, crosstalk's names.
 ghost use Rattle.std.specs.Prelude.{◌≡◌, ◌≤◌, min, length};
-ghost use Rattle.bench.specs.Sheet.{withCrosstalk};
+ghost use Rattle.bench.specs.Sheet.{with_crosstalk};
 
 use super::show::{Reply, show_states};
 use commands::command::Arranged;
@@ -179,7 +179,7 @@ fn with_names(s: State, n: u64, line: &[u8]) -> State {
 }
 
 pub(crate) fn with_crosstalk(s: State, c: Crosstalk) -> State
-    ensures { result ≡ withCrosstalk s c }
+    ensures { result ≡ with_crosstalk s c }
 {
     let mut u = s;
     u.crosstalk = c;

@@ -6,17 +6,17 @@ use Rattle.quant.specs.declared.refusal.Answer.TheVariants.{Done}
 use Rattle.quant.specs.Refusal.{number_of, code_of}
 use Rattle.shape.specs.declared.envelope.Enveloped.{Enveloped}
 use Rattle.shape.specs.declared.envelope.Enveloped.TheVariants as enveloped
-use Rattle.shape.specs.Parts.{partedOf}
-use Rattle.shape.specs.Envelope.{envelopedOf}
+use Rattle.shape.specs.Parts.{parted_of}
+use Rattle.shape.specs.Envelope.{enveloped_of}
 use Rattle.pulse.specs.declared.bin.Bin.{Bin}
 use Rattle.pulse.specs.declared.envelope.Shape.TheVariants.{Plain, Hann}
 use Rattle.pulse.specs.declared.list.Pulse.{Pulse}
-use Rattle.pulse.specs.Bin.{noNumbers}
+use Rattle.pulse.specs.Bin.{no_numbers}
 use Rattle.placing.specs.declared.Judged.{Judged}
 use Rattle.placing.specs.declared.Judged.TheVariants.{Plateau, Shaped, Refused}
-use Rattle.placing.specs.Judged.{placed_at, flatOf, judged}
+use Rattle.placing.specs.Judged.{placed_at, flat_of, judged}
 use Rattle.bench_table.specs.Numbers.{whole}
-use Rattle.bench_table.specs.Call.{clock, binWith, pulseAt, sampledOn}
+use Rattle.bench_table.specs.Call.{clock, bin_with, pulse_at, sampled_on}
 
 -- "start 3, offset 0"; "accepted"; "refusal 9"
 pub data Says : Type 0 where
@@ -27,33 +27,33 @@ pub data Says : Type 0 where
 -- ---- the number of a refusal, and 0 where there is none
 
 -- by the line, by `judge`, by `measure`
-abbrev pub numberSaid : Says → ℕ
-numberSaid (start begin offset) = 0
-numberSaid accepted = 0
-numberSaid (refusal n) = n
+abbrev pub number_said : Says → ℕ
+number_said (start begin offset) = 0
+number_said accepted = 0
+number_said (refusal n) = n
 
-abbrev pub numberJudged : Judged → ℕ
-numberJudged (Plateau f) = 0
-numberJudged (Shaped c) = 0
-numberJudged (Refused r) = number_of r
+abbrev pub number_judged : Judged → ℕ
+number_judged (Plateau f) = 0
+number_judged (Shaped c) = 0
+number_judged (Refused r) = number_of r
 
-abbrev pub numberMeasured : Enveloped → ℕ
-numberMeasured (enveloped.Points n) = 0
-numberMeasured (enveloped.Refused r) = number_of r
+abbrev pub number_measured : Enveloped → ℕ
+number_measured (enveloped.Points n) = 0
+number_measured (enveloped.Refused r) = number_of r
 
 -- ---- of a pulse p of the bin b at a level, on a row of `length` samples
 
 -- accepted (0), or refused with a number, by `judge` and by `sample`
 pub record Numbered (b : Bin) (p : Pulse) (level : ℤ) (length number : ℕ) : Type 0 where
-  pub judge : numberJudged (judged (clock level) b noNumbers p length) ≡ number
-  pub sample : code_of (sampledOn (whole 0) b (p ∷ []) level length).answer ≡ number
+  pub judge : number_judged (judged (clock level) b no_numbers p length) ≡ number
+  pub sample : code_of (sampled_on (whole 0) b (p ∷ []) level length).answer ≡ number
 
 -- A pulse of one sample is accepted, and begins there with this offset; `sample` adds one pulse, and its row then holds 1 there and 0 elsewhere.
 pub record Starts (b : Bin) (p : Pulse) (level : ℤ) (length begin : ℕ) (offset : Float) : Type 0 where
   pub place : placed_at (clock level) p ≡ Start begin offset
-  pub judge : judged (clock level) b noNumbers p length ≡ Plateau (flatOf (clock level) b p begin offset)
-  pub sample : (sampledOn (whole 0) b (p ∷ []) level length).answer ≡ Done 1
-  pub row : (sampledOn (whole 0) b (p ∷ []) level length).rows.i ≡ set (replicate length (whole 0)) begin (whole 1)
+  pub judge : judged (clock level) b no_numbers p length ≡ Plateau (flat_of (clock level) b p begin offset)
+  pub sample : (sampled_on (whole 0) b (p ∷ []) level length).answer ≡ Done 1
+  pub row : (sampled_on (whole 0) b (p ∷ []) level length).rows.i ≡ set (replicate length (whole 0)) begin (whole 1)
 
 -- ---- B1 to B4: no shape
 
@@ -72,7 +72,7 @@ PlacedAs b p level length (refusal n) = Numbered b p level length n
 
 -- what a row claims
 abbrev pub Places : Placing → Type 0
-Places l = PlacedAs (binWith Plain (whole 0) l.plateau) (pulseAt l.time) l.level l.length l.says
+Places l = PlacedAs (bin_with Plain (whole 0) l.plateau) (pulse_at l.time) l.level l.length l.says
 
 -- ---- B6: Hann, at a time and a level that give the offset
 
@@ -88,6 +88,6 @@ pub record Shaping : Type 0 where
 -- the offset that `place` gives; what `measure` answers of the envelope there; the whole pulse
 pub record Shapes (l : Shaping) : Type 0 where
   pub begin : ℕ
-  pub place : placed_at (clock l.level) (pulseAt l.time) ≡ Start begin l.offset
-  pub measure : numberMeasured (envelopedOf Hann noNumbers (partedOf l.width l.plateau l.offset (whole 1) (whole 1) l.length)) ≡ numberSaid l.says
-  pub pulse : Numbered (binWith Hann l.width l.plateau) (pulseAt l.time) l.level l.length (numberSaid l.says)
+  pub place : placed_at (clock l.level) (pulse_at l.time) ≡ Start begin l.offset
+  pub measure : number_measured (enveloped_of Hann no_numbers (parted_of l.width l.plateau l.offset (whole 1) (whole 1) l.length)) ≡ number_said l.says
+  pub pulse : Numbered (bin_with Hann l.width l.plateau) (pulse_at l.time) l.level l.length (number_said l.says)

@@ -8,18 +8,18 @@ use Rattle.quant.specs.declared.refusal.Answer.TheVariants.{Done}
 use Rattle.iir.specs.Iir.{Iir}
 use Rattle.pulse.specs.declared.envelope.Shape.TheVariants.{Plain}
 use Rattle.pulse.specs.declared.list.Pulse.{Pulse}
-use Rattle.pulse.specs.Bin.{noNumbers}
-use Rattle.merge.specs.Sum.{plusP, summed}
+use Rattle.pulse.specs.Bin.{no_numbers}
+use Rattle.merge.specs.Sum.{plus_p, summed}
 use Rattle.executor.specs.declared.osc.OscState.{OscState}
 use Rattle.executor.specs.declared.osc.Moved.{Moved}
-use Rattle.executor.specs.Osc.{setFreqTo, setPhaseTo, shiftedFreq}
+use Rattle.executor.specs.Osc.{set_freq_to, set_phase_to, shifted_freq}
 use Rattle.tables.specs.declared.Tables.{Tables}
 use Rattle.commands.specs.declared.command.Command.{Command}
 use Rattle.commands.specs.declared.command.Command.TheVariants as C
 use Rattle.commands.specs.declared.command.Arranged.{Arranged}
-use Rattle.commands.specs.Run.{doneAt, executed}
+use Rattle.commands.specs.Run.{done_at, executed}
 use Rattle.bench_table.specs.Numbers.{whole}
-use Rattle.bench_table.specs.Call.{binWith, pulseAt, channel, tablesWith, binsLent, pulsesLent, sampledOn}
+use Rattle.bench_table.specs.Call.{bin_with, pulse_at, channel, tables_with, bins_lent, pulses_lent, sampled_on}
 
 -- one claim and another
 infixr 50 ◌and◌
@@ -61,19 +61,19 @@ module _ (bin : ℕ) (amp drag : Float → Complex) where
   abbrev pub weighted : Float → Pulse
   weighted time = record { bin = bin; time = record { 0 = time }; amp = amp time; drag = drag time }
 
-  abbrev pub joinedTo : Pulse → List Float → Pulse
-  joinedTo k [] = k
-  joinedTo k (time ∷ times) = joinedTo (plusP k (weighted time)) times
+  abbrev pub joined_to : Pulse → List Float → Pulse
+  joined_to k [] = k
+  joined_to k (time ∷ times) = joined_to (plus_p k (weighted time)) times
 
   abbrev pub joined : List (List Float) → List Pulse
   joined [] = []
   joined ([] ∷ groups) = joined groups
-  joined ((time ∷ times) ∷ groups) = joinedTo (weighted time) times ∷ joined groups
+  joined ((time ∷ times) ∷ groups) = joined_to (weighted time) times ∷ joined groups
 
 -- what a channel's list is summed to; and `sample` adds as many pulses as are kept
 pub record Merges (l : Merging) : Type 0 where
   pub sum : (bin : ℕ) (amp drag : Float → Complex) → summed l.tolerance (map (weighted bin amp drag) l.times) ≡ joined bin amp drag l.kept
-  pub sample : (sampledOn l.tolerance (binWith Plain (whole 0) (whole 1)) (map pulseAt l.times) (pos 0) 16).answer ≡ Done (length l.kept)
+  pub sample : (sampled_on l.tolerance (bin_with Plain (whole 0) (whole 1)) (map pulse_at l.times) (pos 0) 16).answer ≡ Done (length l.kept)
 
 -- ---- B9: commands one after another, each at its time, and the phase after each
 
@@ -93,29 +93,29 @@ pub record Turning : Type 0 where
 
 -- what `set_freq`, `set_phase` and `shift_freq` answer
 abbrev pub turned : OscState → Turn → Float → Moved
-turned s (SetFreq f) t = setFreqTo s f t
-turned s (SetPhase p) t = setPhaseTo s p t
-turned s (ShiftFreq f) t = shiftedFreq s f t
+turned s (SetFreq f) t = set_freq_to s f t
+turned s (SetPhase p) t = set_phase_to s p t
+turned s (ShiftFreq f) t = shifted_freq s f t
 
 -- the same as a command of the list that `execute` takes
-abbrev pub commandOf : Turn → Command
-commandOf (SetFreq f) = C.SetFreq channel (record { 0 = f })
-commandOf (SetPhase p) = C.SetPhase channel (record { 0 = p })
-commandOf (ShiftFreq f) = C.ShiftFreq channel (record { 0 = f })
+abbrev pub command_of : Turn → Command
+command_of (SetFreq f) = C.SetFreq channel (record { 0 = f })
+command_of (SetPhase p) = C.SetPhase channel (record { 0 = p })
+command_of (ShiftFreq f) = C.ShiftFreq channel (record { 0 = f })
 
 -- at its time, with span 0
 abbrev pub arranged : Turned → Arranged
-arranged l = record { command = commandOf l.turn; start = record { 0 = l.at }; span = record { 0 = whole 0 } }
+arranged l = record { command = command_of l.turn; start = record { 0 = l.at }; span = record { 0 = whole 0 } }
 
 -- tables whose one channel has this oscillator
-abbrev pub withOsc : OscState → Tables
-withOsc s = tablesWith (whole 0) s 0
+abbrev pub with_osc : OscState → Tables
+with_osc s = tables_with (whole 0) s 0
 
 -- accepted, and the phase; `execute` runs it, one command, and leaves the channel with this oscillator
 pub record Phased (s : OscState) (l : Turned) : Type 0 where
   pub accepted : (turned s l.turn l.at).refused ≡ false
   pub phase-is : (turned s l.turn l.at).osc.phase.0 ≡ l.phase
-  pub execute : (executed (withOsc s) (replicate 8 noNumbers) (arranged l ∷ []) (binsLent (binWith Plain (whole 0) (whole 0))) (pulsesLent [])).result ≡ doneAt (withOsc (turned s l.turn l.at).osc) 1
+  pub execute : (executed (with_osc s) (replicate 8 no_numbers) (arranged l ∷ []) (bins_lent (bin_with Plain (whole 0) (whole 0))) (pulses_lent [])).result ≡ done_at (with_osc (turned s l.turn l.at).osc) 1
 
 -- each from where the one before it left the oscillator
 abbrev pub Follow : OscState → List Turned → Type 0

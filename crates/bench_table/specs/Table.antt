@@ -1,6 +1,6 @@
 -- Document 01, "Bench examples": the lines B1 to B9 in its order and its numbers, at rate 1 and delay 0; `whole 5` is 5, `over 225 100` is 2.25. Above
 -- each row stands the document's text. Where that names no plateau the pulse has one sample, and where it names no length the row has 16. That every
--- row holds is `bench-table` (proofs/Table.antt). Definitions only.
+-- row holds is `bench_table` (proofs/Table.antt). Definitions only.
 use Rattle.std.specs.Prelude.{◌+◌, ◌-◌, ◌^◌, List, [], ◌∷◌, pos, neg_ℤ}
 use Rattle.std.specs.Float.Ieee.{neg}
 use Rattle.bench_table.specs.Numbers.{over, whole, wholes}

@@ -12,9 +12,9 @@ use lib.Ieee.Scale.{finite}
 use lib.ListN.{length, take, length-take}
 use Rattle.exact.proofs.Truth.{both}
 use Rattle.naming.specs.declared.Name.{Name}
-use Rattle.naming.specs.Name.{isName}
-use Rattle.rows.specs.Rows.{allFinite}
-use Rattle.sheet.specs.Sheet.{SoFar, doubles, under, rowsFor, Sheet, goodNames, finiteBits}
+use Rattle.naming.specs.Name.{is_name}
+use Rattle.rows.specs.Rows.{all_finite}
+use Rattle.sheet.specs.Sheet.{SoFar, doubles, under, rows_for, Sheet, good_names, finite_bits}
 use Rattle.sheet.proofs.Filling.{doubles-long}
 use Rattle.sheet_laws.specs.Words.{In, here, there, contents}
 use Rattle.sheet_laws.proofs.Arranged.{fine}
@@ -22,7 +22,7 @@ use Rattle.sheet_laws.proofs.Factors.{rows_long, wide}
 use Rattle.tables.specs.declared.Tables.{Tables}
 use Rattle.crosstalk.specs.declared.names.Crosstalk.{Crosstalk}
 use Rattle.crosstalk.specs.declared.parts.Plan.{Plan}
-use Rattle.crosstalk.specs.Crosstalk.{allNames}
+use Rattle.crosstalk.specs.Crosstalk.{all_names}
 use Rattle.crosstalk.proofs.Laws.{Passes, passed-all, accepted-is}
 use Rattle.by_name.specs.Words.{Given, Planned, AllKnown}
 use Rattle.by_name.proofs.Finding.{all_one, one-all}
@@ -30,25 +30,25 @@ use Rattle.by_name.proofs.Row.{most, count-is, names-are, numbers-are}
 
 -- ---- names
 
-all-good : (ns : List Name) → goodNames ns ≡ true → allNames ns ≡ true
-unfolding goodNames allNames
+all-good : (ns : List Name) → good_names ns ≡ true → all_names ns ≡ true
+unfolding good_names all_names
 all-good [] e = refl
-all-good (n ∷ ns) e = let two = both (isName n) (goodNames ns) e in rw (two.0, all-good ns two.1)
+all-good (n ∷ ns) e = let two = both (is_name n) (good_names ns) e in rw (two.0, all-good ns two.1)
 
 -- ---- numbers
 
-all-finite : (fs more : List ℕ) → finiteBits fs ≡ true → allFinite (doubles more) ≡ true → allFinite (doubles (fs ++ more)) ≡ true
-unfolding finiteBits doubles allFinite
+all-finite : (fs more : List ℕ) → finite_bits fs ≡ true → all_finite (doubles more) ≡ true → all_finite (doubles (fs ++ more)) ≡ true
+unfolding finite_bits doubles all_finite
 all-finite [] more e rest = rest
 all-finite (f ∷ fs) more e rest =
-    let outer = both (ltb f (2 ^ 64) && finite (of_bits binary64 f)) (finiteBits fs) e in
+    let outer = both (ltb f (2 ^ 64) && finite (of_bits binary64 f)) (finite_bits fs) e in
     let inner = both (ltb f (2 ^ 64)) (finite (of_bits binary64 f)) outer.0 in
     simp (inner.1, all-finite fs more outer.1 rest)
 
-rows-finite : (t : SoFar) (ns : List Name) → ((n : Name) → In n ns → finiteBits (under t n) ≡ true) → allFinite (doubles (rowsFor t ns)) ≡ true
-unfolding rowsFor doubles allFinite
+rows-finite : (t : SoFar) (ns : List Name) → ((n : Name) → In n ns → finite_bits (under t n) ≡ true) → all_finite (doubles (rows_for t ns)) ≡ true
+unfolding rows_for doubles all_finite
 rows-finite t [] each = refl
-rows-finite t (n ∷ ns) each = all-finite (under t n) (rowsFor t ns) (each n here) (rows-finite t ns (λ m h. each m (there h)))
+rows-finite t (n ∷ ns) each = all-finite (under t n) (rows_for t ns) (each n here) (rows-finite t ns (λ m h. each m (there h)))
 
 -- ---- the plan
 
@@ -58,7 +58,7 @@ module _ (text : List ℕ) (before : List Float) (s : Sheet) (c : Crosstalk) (fa
 
   enough : N * N ≤ length factors
   enough =
-      let rows = rowsFor (contents s) s.columns in
+      let rows = rows_for (contents s) s.columns in
       let long : length (doubles rows) ≡ N * N = doubles-long rows ∙ rows_long (contents s) N s.columns (wide s g.reads.formed) in
       let cut = rw (length-take (N * N) factors) at (ap length (numbers-are text before s c factors g)) in
       omega (arith, cut, long)
@@ -74,7 +74,7 @@ module _ (text : List ℕ) (before : List Float) (s : Sheet) (c : Crosstalk) (fa
         fine =
             rw (names, count, k.good, all-good s.columns w.names, numbers-are text before s c factors g)
             (rows-finite (contents s) s.columns (fine s w));
-        clear = rw names (one-all t [] s.columns w.singleColumns k.columns);
+        clear = rw names (one-all t [] s.columns w.single_columns k.columns);
         known = k.channel;
       }
 
@@ -86,7 +86,7 @@ module _ (text : List ℕ) (before : List Float) (s : Sheet) (c : Crosstalk) (fa
       let p = passed-all t r c factors e in
       let names = names-are text before s c factors g in
       record {
-        good = (both (isName r) _ (both _ (allFinite (take (c.count * c.count) factors)) p.fine).0).0;
+        good = (both (is_name r) _ (both _ (all_finite (take (c.count * c.count) factors)) p.fine).0).0;
         channel = p.known;
         columns = all_one t [] s.columns 0 (rw names at p.clear);
       }

@@ -11,7 +11,7 @@ use Rattle.tables.specs.declared.Tables.{Tables}
 use Rattle.tables.specs.Tables.{found}
 use Rattle.merge.specs.Taking.{Part}
 use Rattle.crosstalk.specs.Crosstalk.{part_of}
-use Rattle.by_name.specs.Words.{counted, placed, pairsOf}
+use Rattle.by_name.specs.Words.{counted, placed, pairs_of}
 
 -- ---- those that count
 
@@ -59,8 +59,8 @@ module _ (t : Tables) where
 
 -- ---- their pairs
 
-pub pairs-of-order : (t : Tables) {ps qs : List Part} → Permuted ps qs → Permuted (pairsOf t ps) (pairsOf t qs)
-unfolding pairsOf
+pub pairs-of-order : (t : Tables) {ps qs : List Part} → Permuted ps qs → Permuted (pairs_of t ps) (pairs_of t qs)
+unfolding pairs_of
 pairs-of-order t nil = nil
 pairs-of-order t (keep p) = keep (pairs-of-order t p)
 pairs-of-order t swap = swap

@@ -9,25 +9,25 @@ use lib.Ieee.{binary64, of_bits, to_bits, eq}
 use lib.Ieee.Bits.{to_bits-of_bits}
 use lib.Ieee.Scale.{finite}
 use Rattle.exact.specs.Doubles.{nought}
-use Rattle.exact.proofs.Truth.{both, number-if-finite}
+use Rattle.exact.proofs.Truth.{both, number_if_finite}
 use Rattle.naming.specs.declared.Name.{Name}
-use Rattle.sheet.specs.Sheet.{doubles, single, finiteBits}
+use Rattle.sheet.specs.Sheet.{doubles, single, finite_bits}
 use Rattle.sheet_laws.specs.Words.{In, here, there, AtColumn, first, later, Entry, entries}
-use Rattle.sheet_laws.proofs.Factors.{column-in, entry_at}
+use Rattle.sheet_laws.proofs.Factors.{column_in, entry_at}
 use Rattle.sheet_laws.proofs.Names.{single-first, single-rest}
 use Rattle.tables.specs.declared.Found.{Found}
 use Rattle.tables.specs.declared.Found.TheVariants.{At, Nowhere}
 use Rattle.tables.specs.declared.Tables.{Tables}
 use Rattle.tables.specs.Tables.{found}
 use Rattle.merge.specs.Taking.{Part, part}
-use Rattle.crosstalk.specs.Crosstalk.{isKnown, part_of, rowParts}
-use Rattle.by_name.specs.Words.{Counts, OnceAt, counted, placed, pairsOf, pairsFrom}
+use Rattle.crosstalk.specs.Crosstalk.{is_known, part_of, row_parts}
+use Rattle.by_name.specs.Words.{Counts, OnceAt, counted, placed, pairs_of, pairs_from}
 use Rattle.by_name.proofs.Finding.{found_name, one_name, known_at}
 
 -- ---- a row as entries
 
-pub row-placed : (t : Tables) (cs : List Name) (fs : List ℕ) → rowParts t cs (doubles fs) ≡ placed t (counted (entries cs fs))
-unfolding rowParts doubles placed counted entries
+pub row-placed : (t : Tables) (cs : List Name) (fs : List ℕ) → row_parts t cs (doubles fs) ≡ placed t (counted (entries cs fs))
+unfolding row_parts doubles placed counted entries
 row-placed t [] fs = refl
 row-placed t (c ∷ cs) [] = refl
 row-placed t (c ∷ cs) (f ∷ fs) = go (eq (of_bits binary64 f) nought) (row-placed t cs fs)
@@ -38,28 +38,28 @@ row-placed t (c ∷ cs) (f ∷ fs) = go (eq (of_bits binary64 f) nought) (row-pl
     e : Entry
     e = record { column = c; bits = f }
 
-    go : (b : Bool) → rowParts t cs (doubles fs) ≡ placed t es
-        → cond b (rowParts t cs (doubles fs)) (part_of (found t c) (of_bits binary64 f) (rowParts t cs (doubles fs))) ≡ placed t (cond b es (e ∷ es))
+    go : (b : Bool) → row_parts t cs (doubles fs) ≡ placed t es
+        → cond b (row_parts t cs (doubles fs)) (part_of (found t c) (of_bits binary64 f) (row_parts t cs (doubles fs))) ≡ placed t (cond b es (e ∷ es))
     go true h = h
     go false h = ap (part_of (found t c) (of_bits binary64 f)) h
 
 pub entry-column : (e : Entry) (cs : List Name) (fs : List ℕ) → In e (entries cs fs) → In e.column cs
-entry-column e cs fs h = column-in e.column e.bits cs fs (entry_at e cs fs h)
+entry-column e cs fs h = column_in e.column e.bits cs fs (entry_at e cs fs h)
 
 -- a factor's bits come back
-pub bits_back : (c : Name) (bits : ℕ) (cs : List Name) (fs : List ℕ) → finiteBits fs ≡ true → AtColumn c bits cs fs → to_bits binary64 (of_bits binary64 bits) ≡ bits
-unfolding finiteBits
+pub bits_back : (c : Name) (bits : ℕ) (cs : List Name) (fs : List ℕ) → finite_bits fs ≡ true → AtColumn c bits cs fs → to_bits binary64 (of_bits binary64 bits) ≡ bits
+unfolding finite_bits
 bits_back c bits (d ∷ cs) (f ∷ fs) e first =
-    let outer = both (ltb f (2 ^ 64) && finite (of_bits binary64 f)) (finiteBits fs) e in
+    let outer = both (ltb f (2 ^ 64) && finite (of_bits binary64 f)) (finite_bits fs) e in
     let inner = both (ltb f (2 ^ 64)) (finite (of_bits binary64 f)) outer.0 in
-    to_bits-of_bits binary64 f (ltb-true f (2 ^ 64) inner.0) (number-if-finite (of_bits binary64 f) inner.1)
-bits_back c bits (d ∷ cs) (f ∷ fs) e (later h) = bits_back c bits cs fs (both (ltb f (2 ^ 64) && finite (of_bits binary64 f)) (finiteBits fs) e).1 h
+    to_bits-of_bits binary64 f (ltb-true f (2 ^ 64) inner.0) (number_if_finite (of_bits binary64 f) inner.1)
+bits_back c bits (d ∷ cs) (f ∷ fs) e (later h) = bits_back c bits cs fs (both (ltb f (2 ^ 64) && finite (of_bits binary64 f)) (finite_bits fs) e).1 h
 
 -- ---- those that count
 
-pub counted-in : (e : Entry) (es : List Entry) → In e (counted es) → In e es × Counts e.bits
+pub counted_in : (e : Entry) (es : List Entry) → In e (counted es) → In e es × Counts e.bits
 unfolding counted
-counted-in e (d ∷ es) h = go (eq (of_bits binary64 d.bits) nought) refl e h (counted-in e es)
+counted_in e (d ∷ es) h = go (eq (of_bits binary64 d.bits) nought) refl e h (counted_in e es)
   where
     go : (b : Bool) → eq (of_bits binary64 d.bits) nought ≡ b → (x : Entry) → In x (cond b (counted es) (d ∷ counted es))
         → (In x (counted es) → In x es × Counts x.bits) → In x (d ∷ es) × Counts x.bits
@@ -67,10 +67,10 @@ counted-in e (d ∷ es) h = go (eq (of_bits binary64 d.bits) nought) refl e h (c
     go false z x here rest = (here, z)
     go false z x (there h) rest = let r = rest h in (there r.0, r.1)
 
-pub in-counted : (e : Entry) (es : List Entry) → In e es → Counts e.bits → In e (counted es)
+pub in_counted : (e : Entry) (es : List Entry) → In e es → Counts e.bits → In e (counted es)
 unfolding counted
-in-counted e (d ∷ es) here z = rw z here
-in-counted e (d ∷ es) (there h) z = go (eq (of_bits binary64 d.bits) nought) (in-counted e es h z)
+in_counted e (d ∷ es) here z = rw z here
+in_counted e (d ∷ es) (there h) z = go (eq (of_bits binary64 d.bits) nought) (in_counted e es h z)
   where
     go : (b : Bool) → In e (counted es) → In e (cond b (counted es) (d ∷ counted es))
     go true k = k
@@ -96,7 +96,7 @@ counted-apart (more {e = e} {es = es} out rest) = go (eq (of_bits binary64 e.bit
   where
     go : (b : Bool) → Apart (counted es) → Apart (cond b (counted es) (e ∷ counted es))
     go true k = k
-    go false k = more (λ x h. out x (counted-in x es h).0) k
+    go false k = more (λ x h. out x (counted_in x es h).0) k
 
 -- ---- their parts
 
@@ -150,8 +150,8 @@ module _ (t : Tables) where
 
   -- ---- their pairs
 
-  pub pairs-placed : (es : List Entry) → ((e : Entry) → In e es → isKnown (found t e.column) ≡ true) → pairsOf t (placed t es) ≡ pairsFrom es
-  unfolding placed part_of pairsOf pairsFrom
+  pub pairs-placed : (es : List Entry) → ((e : Entry) → In e es → is_known (found t e.column) ≡ true) → pairs_of t (placed t es) ≡ pairs_from es
+  unfolding placed part_of pairs_of pairs_from
   pairs-placed [] known = refl
   pairs-placed (e ∷ es) known =
       let k = known_at t e.column (known e here) in

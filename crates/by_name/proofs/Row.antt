@@ -12,14 +12,14 @@ use lib.Seq.{take_at, take-take}
 use Rattle.naming.specs.declared.Name.{Name}
 use Rattle.naming.specs.Name.{same_name}
 use Rattle.naming.proofs.Named.{same-exactly}
-use Rattle.sheet.specs.Sheet.{position, accepts, answer_of, blank, eight, names_of, doubles, under, rowsFor, matrixOf, Sheet, WellFormed}
+use Rattle.sheet.specs.Sheet.{position, accepts, answer_of, blank, eight, names_of, doubles, under, rows_for, matrix_of, Sheet, WellFormed}
 use Rattle.sheet.proofs.Each.{same_self}
 use Rattle.sheet.proofs.Filling.{doubles-long}
-use Rattle.sheet_laws.specs.Words.{In, here, there, contents, countIn}
+use Rattle.sheet_laws.specs.Words.{In, here, there, contents, count_in}
 use Rattle.sheet_laws.proofs.Factors.{place-below, eight_are, rows_long, under_at, wide}
 use Rattle.tables.specs.declared.Found.TheVariants.{At, Nowhere}
 use Rattle.crosstalk.specs.declared.names.Crosstalk.{Crosstalk}
-use Rattle.crosstalk.specs.Crosstalk.{namesIn, rowFrom, row_of, row_at}
+use Rattle.crosstalk.specs.Crosstalk.{names_in, row_from, row_of, row_at}
 use Rattle.crosstalk.proofs.Fitting.{row_within}
 use Rattle.by_name.specs.Words.{Given}
 
@@ -45,21 +45,21 @@ doubles-drop (suc n) (b ∷ l) = doubles-drop n l
 
 -- ---- a row's place
 
-row_from : (k : ℕ) (r : Name) (ns : List Name) → In r ns → rowFrom k r ns ≡ At (k + position r ns)
-unfolding rowFrom position
-row_from k r (m ∷ ms) here = rw (same_self r) (ap At (omega arith))
-row_from k r (m ∷ ms) (there h) = go (same_name m r) (row_from (suc k) r ms h)
+row_from_lem : (k : ℕ) (r : Name) (ns : List Name) → In r ns → row_from k r ns ≡ At (k + position r ns)
+unfolding row_from position
+row_from_lem k r (m ∷ ms) here = rw (same_self r) (ap At (omega arith))
+row_from_lem k r (m ∷ ms) (there h) = go (same_name m r) (row_from_lem (suc k) r ms h)
   where
-    go : (b : Bool) → rowFrom (suc k) r ms ≡ At (suc k + position r ms) → cond b (At k) (rowFrom (suc k) r ms) ≡ At (k + cond b 0 (suc (position r ms)))
+    go : (b : Bool) → row_from (suc k) r ms ≡ At (suc k + position r ms) → cond b (At k) (row_from (suc k) r ms) ≡ At (k + cond b 0 (suc (position r ms)))
     go true e = ap At (omega arith)
     go false e = e ∙ ap At (omega arith)
 
-row-nowhere : (k : ℕ) (r : Name) (ns : List Name) → (In r ns → ⊥) → rowFrom k r ns ≡ Nowhere
-unfolding rowFrom
+row-nowhere : (k : ℕ) (r : Name) (ns : List Name) → (In r ns → ⊥) → row_from k r ns ≡ Nowhere
+unfolding row_from
 row-nowhere k r [] out = refl
 row-nowhere k r (m ∷ ms) out = go (same_name m r) refl (row-nowhere (suc k) r ms (λ h. out (there h)))
   where
-    go : (b : Bool) → same_name m r ≡ b → rowFrom (suc k) r ms ≡ Nowhere → cond b (At k) (rowFrom (suc k) r ms) ≡ Nowhere
+    go : (b : Bool) → same_name m r ≡ b → row_from (suc k) r ms ≡ Nowhere → cond b (At k) (row_from (suc k) r ms) ≡ Nowhere
     go true s e = absurd (out (subst (λ (x : Name). In x (m ∷ ms)) ((same-exactly m r).0 s) here))
     go false s e = e
 
@@ -76,29 +76,29 @@ module _ (text : List ℕ) (before : List Float) (s : Sheet) (c : Crosstalk) (fa
   most = leb-true N 8 w.most
 
   pub count-is : c.count ≡ N
-  unfolding countIn answer_of contents
+  unfolding count_in answer_of contents
   count-is = g.handed.count ∙ rw g.reads.answered
 
-  pub names-are : namesIn c ≡ s.columns
+  pub names-are : names_in c ≡ s.columns
   unfolding names_of contents
   names-are =
       let eight-names : c.names ≡ eight s.columns = g.handed.names ∙ rw g.reads.answered in
       rw (count-is, eight-names, eight_are s.columns most) (take_at s.columns (take (8 - N) (replicate 8 blank)) N refl)
 
   abbrev rows : List ℕ
-  rows = rowsFor (contents s) s.columns
+  rows = rows_for (contents s) s.columns
 
   pub numbers-are : take (N * N) factors ≡ doubles rows
-  unfolding matrixOf contents
+  unfolding matrix_of contents
   numbers-are =
       let long : length (doubles rows) ≡ N * N = doubles-long rows ∙ rows_long (contents s) N s.columns (wide s w) in
-      let handed : take (N * N) factors ≡ take (N * N) (matrixOf (accepts (contents s)) before) = rw (count-is, g.reads.answered) at g.handed.numbers in
+      let handed : take (N * N) factors ≡ take (N * N) (matrix_of (accepts (contents s)) before) = rw (count-is, g.reads.answered) at g.handed.numbers in
       handed ∙ take_at (doubles rows) (drop (N * N) before) (N * N) long
 
-  pub row-place : (r : Name) → In r s.columns → row_of r (namesIn c) ≡ At (position r s.columns)
-  row-place r h = rw names-are (row_from 0 r s.columns h ∙ ap At (omega arith))
+  pub row-place : (r : Name) → In r s.columns → row_of r (names_in c) ≡ At (position r s.columns)
+  row-place r h = rw names-are (row_from_lem 0 r s.columns h ∙ ap At (omega arith))
 
-  pub no_row : (r : Name) → (In r s.columns → ⊥) → row_of r (namesIn c) ≡ Nowhere
+  pub no_row : (r : Name) → (In r s.columns → ⊥) → row_of r (names_in c) ≡ Nowhere
   no_row r out = rw names-are (row-nowhere 0 r s.columns out)
 
   pub row-numbers : (r : Name) → In r s.columns → row_at (position r s.columns) c.count factors ≡ doubles (under (contents s) r)

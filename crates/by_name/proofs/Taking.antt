@@ -8,7 +8,7 @@ use lib.Ieee.{Float, binary64, of_bits, to_bits, eq}
 use lib.ListN.{length}
 use Rattle.exact.specs.Doubles.{nought, one}
 use Rattle.naming.specs.declared.Name.{Name}
-use Rattle.sheet.specs.Sheet.{under, Block, Sheet, finiteBits}
+use Rattle.sheet.specs.Sheet.{under, Block, Sheet, finite_bits}
 use Rattle.sheet_laws.specs.Words.{In, contents, Stands, Entry, entries}
 use Rattle.sheet_laws.proofs.Arranged.{fine}
 use Rattle.sheet_laws.proofs.Factors.{at_entry, entry_at}
@@ -21,10 +21,10 @@ use Rattle.merge.specs.Taking.{Part}
 use Rattle.crosstalk.specs.declared.names.Crosstalk.{Crosstalk}
 use Rattle.crosstalk.specs.Crosstalk.{parts_at}
 use Rattle.crosstalk.proofs.Laws.{plan-parts, not_named, own-list}
-use Rattle.by_name.specs.Words.{Given, Planned, parts, Counts, FromColumn, HasPart, TakesRow, TakesOwn, counted, placed, pair, pairsOf, pairsFrom}
+use Rattle.by_name.specs.Words.{Given, Planned, parts, Counts, FromColumn, HasPart, TakesRow, TakesOwn, counted, placed, pair, pairs_of, pairs_from}
 use Rattle.by_name.proofs.Accepting.{accepted-knows}
 use Rattle.by_name.proofs.Finding.{found_name, one_name, known_at}
-use Rattle.by_name.proofs.Parts.{row-placed, entry-column, bits_back, counted-in, in-counted, entries-apart, counted-apart, of_entry, once, pairs-placed}
+use Rattle.by_name.proofs.Parts.{row-placed, entry-column, bits_back, counted_in, in_counted, entries-apart, counted-apart, of_entry, once, pairs-placed}
 use Rattle.by_name.proofs.Row.{names-are, row-place, no_row, row-numbers}
 
 module _ (text : List ℕ) (before : List Float) (s : Sheet) (c : Crosstalk) (factors : List Float) (g : Given text before s c factors) (t : Tables) (r : Name) (ok : Planned t r c factors) where
@@ -49,9 +49,9 @@ module _ (text : List ℕ) (before : List Float) (s : Sheet) (c : Crosstalk) (fa
       let b = block-for s w r h in
       let fs = b.block.factors in
       let e = of_entry t p (counted (entries s.columns fs)) (subst (In p) (block-parts h b.block b.listed b.named) listed) in
-      let k = counted-in e.entry (entries s.columns fs) e.listed in
+      let k = counted_in e.entry (entries s.columns fs) e.listed in
       let at = entry_at e.entry s.columns fs k.0 in
-      let fine-row : finiteBits fs ≡ true = ap finiteBits (sym (own_row b.block b.listed b.named)) ∙ fine s w r h in
+      let fine-row : finite_bits fs ≡ true = ap finite_bits (sym (own_row b.block b.listed b.named)) ∙ fine s w r h in
       record {
         column = e.entry.column;
         bits = e.entry.bits;
@@ -69,7 +69,7 @@ module _ (text : List ℕ) (before : List Float) (s : Sheet) (c : Crosstalk) (fa
       let e : Entry = record { column = d; bits = bits } in
       let listed = at_entry d bits s.columns fs st.at in
       let k = known_at t d ((accepted-knows text before s c factors g t r ok).columns d (entry-column e s.columns fs listed)) in
-      let only = once t (counted-apart (entries-apart s.columns fs w.singleColumns)) e (in-counted e (entries s.columns fs) listed counts) k.place k.is in
+      let only = once t (counted-apart (entries-apart s.columns fs w.single_columns)) e (in_counted e (entries s.columns fs) listed counts) k.place k.is in
       record { place = k.place; found_at = k.is; once = rw (block-parts h st.block st.listed st.named) only }
 
   zero-skips : In r s.columns → (d : Name) (bits : ℕ) → Stands s r d bits → eq (of_bits binary64 bits) nought ≡ true
@@ -86,16 +86,16 @@ module _ (text : List ℕ) (before : List Float) (s : Sheet) (c : Crosstalk) (fa
 
   -- by name
 
-  pub row-pairs : In r s.columns → pairsOf t (parts t r c factors) ≡ pairsFrom (counted (entries s.columns (under (contents s) r)))
+  pub row-pairs : In r s.columns → pairs_of t (parts t r c factors) ≡ pairs_from (counted (entries s.columns (under (contents s) r)))
   row-pairs h =
       let es = entries s.columns (under (contents s) r) in
       rw (row-parts h)
       (pairs-placed t (counted es)
-      (λ e k. (accepted-knows text before s c factors g t r ok).columns e.column (entry-column e s.columns (under (contents s) r) (counted-in e es k).0)))
+      (λ e k. (accepted-knows text before s c factors g t r ok).columns e.column (entry-column e s.columns (under (contents s) r) (counted_in e es k).0)))
 
   pub block-pairs : In r s.columns → (b : Block) → In b s.blocks → b.row ≡ r
-      → pairsOf t (parts t r c factors) ≡ pairsFrom (counted (entries s.columns b.factors))
-  block-pairs h b listed named = row-pairs h ∙ ap (λ (fs : List ℕ). pairsFrom (counted (entries s.columns fs))) (own_row b listed named)
+      → pairs_of t (parts t r c factors) ≡ pairs_from (counted (entries s.columns b.factors))
+  block-pairs h b listed named = row-pairs h ∙ ap (λ (fs : List ℕ). pairs_from (counted (entries s.columns fs))) (own_row b listed named)
 
   -- ---- a channel that it does not name
 
@@ -108,8 +108,8 @@ module _ (text : List ℕ) (before : List Float) (s : Sheet) (c : Crosstalk) (fa
         alone = (plan-parts t r c factors ok).parts ∙ not_named t r c factors (no_row text before s c factors g r out) ∙ own-list t r c factors k.place k.is;
       }
 
-  pub own-pairs : (In r s.columns → ⊥) → pairsOf t (parts t r c factors) ≡ pair r one ∷ []
-  unfolding pairsOf
+  pub own-pairs : (In r s.columns → ⊥) → pairs_of t (parts t r c factors) ≡ pair r one ∷ []
+  unfolding pairs_of
   own-pairs out =
       let o = takes-own out in
       rw (o.alone, found_name t r o.place o.found_at)

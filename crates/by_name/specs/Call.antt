@@ -4,15 +4,15 @@ use Rattle.sheet.specs.Sheet.{Sheet}
 use Rattle.sheet_laws.specs.Words.{In, Permuted, SameUpToOrder}
 use Rattle.pulse.specs.declared.list.Pulse.{Pulse}
 use Rattle.tables.specs.declared.Tables.{Tables}
-use Rattle.tables.specs.Tables.{channelsIn}
+use Rattle.tables.specs.Tables.{channels_in}
 use Rattle.merge.specs.Taking.{Part}
 use Rattle.crosstalk.specs.declared.names.Crosstalk.{Crosstalk}
-use Rattle.mixdown.specs.Bins.{binsBy, mergedOf}
-use Rattle.mixdown.specs.Sampled.{Rowed, out, ranBins}
+use Rattle.mixdown.specs.Bins.{bins_by, merged_of}
+use Rattle.mixdown.specs.Sampled.{Rowed, out, ran_bins}
 use Rattle.sampler.specs.declared.Request.{Request}
-use Rattle.sampler.specs.Prepared.{settingsOf, Passes}
+use Rattle.sampler.specs.Prepared.{settings_of, Passes}
 use Rattle.sampler.specs.Sampler.{sampled}
-use Rattle.by_name.specs.Words.{Given, Planned, parts, TakesRow, TakesOwn, pairsOf}
+use Rattle.by_name.specs.Words.{Given, Planned, parts, TakesRow, TakesOwn, pairs_of}
 
 module _ (s : Sheet) (t : Tables) (r : Request) (c : Crosstalk) (factors : List Float) (bins : List (List Float)) (pulses : List Pulse) (st : Rowed) (work : List (List Float)) (marks : List ℕ) where
   -- the lists that take part
@@ -28,7 +28,7 @@ module _ (s : Sheet) (t : Tables) (r : Request) (c : Crosstalk) (factors : List 
   -- other tables hold the same channels in other places: the plan passes too, and the same names have the same factors
   pub record InAnyPlaces (u : Tables) : Type 0 where
     pub passes : Planned u r.channel c factors
-    pub by_name : pairsOf t taken ≡ pairsOf u (parts u r.channel c factors)
+    pub by_name : pairs_of t taken ≡ pairs_of u (parts u r.channel c factors)
 
   pub record ByName : Type 0 where
     -- a channel that the sheet names: the lists of the columns whose factor under its row is not zero, each with the factor that stands there
@@ -37,8 +37,8 @@ module _ (s : Sheet) (t : Tables) (r : Request) (c : Crosstalk) (factors : List 
     pub own : (In r.channel s.columns → ⊥) → TakesOwn t r.channel taken
     -- the answer and the rows are those of exactly these lists, merged
     pub rows : out (sampled t r c factors bins pulses st work marks).answer (sampled t r c factors bins pulses st work marks).rows
-        ≡ ranBins (settingsOf r) r.rows (mergedOf t bins pulses taken) (binsBy t bins taken) 0 st
+        ≡ ran_bins (settings_of r) r.rows (merged_of t bins pulses taken) (bins_by t bins taken) 0 st
     -- whatever the order of rows and columns in the sheet, and of channels in the tables
     pub any_order : (text : List ℕ) (before : List Float) (other : Sheet) (e : Crosstalk) (others : List Float) → Given text before other e others → SameUpToOrder s other
         → InAnyOrder e others
-    pub any-places : (u : Tables) → Permuted (channelsIn t) (channelsIn u) → InAnyPlaces u
+    pub any-places : (u : Tables) → Permuted (channels_in t) (channels_in u) → InAnyPlaces u

@@ -5,23 +5,23 @@ use Rattle.std.specs.Float.{binary64}
 use Rattle.std.specs.Float.Ieee.{of_bits, to_bits, eq}
 use Rattle.exact.specs.Doubles.{nought, one}
 use Rattle.naming.specs.declared.Name.{Name}
-use Rattle.naming.specs.Name.{isName}
-use Rattle.sheet.specs.Sheet.{outcome, answer_of, names_of, matrixOf, Sheet}
-use Rattle.sheet_laws.specs.Words.{In, Reads, Stands, countIn, Entry}
+use Rattle.naming.specs.Name.{is_name}
+use Rattle.sheet.specs.Sheet.{outcome, answer_of, names_of, matrix_of, Sheet}
+use Rattle.sheet_laws.specs.Words.{In, Reads, Stands, count_in, Entry}
 use Rattle.tables.specs.declared.Found.TheVariants.{At}
 use Rattle.tables.specs.declared.Tables.{Tables}
-use Rattle.tables.specs.Tables.{found, channelAt}
+use Rattle.tables.specs.Tables.{found, channel_at}
 use Rattle.merge.specs.Taking.{Part, part, parts_in}
 use Rattle.crosstalk.specs.declared.names.Crosstalk.{Crosstalk}
-use Rattle.crosstalk.specs.Crosstalk.{isKnown, part_of, planned}
+use Rattle.crosstalk.specs.Crosstalk.{is_known, part_of, planned}
 
 -- ---- from the reader to the sampling call
 
 -- the sampling call gets what was read: the count N, the names, and the first N*N numbers; more may be lent
 pub record Handed (text : List ℕ) (before : List Float) (c : Crosstalk) (factors : List Float) : Type 0 where
-  pub count : c.count ≡ countIn (answer_of (outcome text (length before)))
+  pub count : c.count ≡ count_in (answer_of (outcome text (length before)))
   pub names : c.names ≡ names_of (outcome text (length before))
-  pub numbers : take (c.count * c.count) factors ≡ take (c.count * c.count) (matrixOf (outcome text (length before)) before)
+  pub numbers : take (c.count * c.count) factors ≡ take (c.count * c.count) (matrix_of (outcome text (length before)) before)
 
 -- a text is read, holds the sheet s, and is handed over
 pub record Given (text : List ℕ) (before : List Float) (s : Sheet) (c : Crosstalk) (factors : List Float) : Type 0 where
@@ -38,9 +38,9 @@ parts t r c factors = parts_in (planned t r c factors).taking
 
 -- the channel's name is a good one, and the tables have it and every column of the sheet
 pub record AllKnown (s : Sheet) (t : Tables) (r : Name) : Type 0 where
-  pub good : isName r ≡ true
-  pub channel : isKnown (found t r) ≡ true
-  pub columns : (c : Name) → In c s.columns → isKnown (found t c) ≡ true
+  pub good : is_name r ≡ true
+  pub channel : is_known (found t r) ≡ true
+  pub columns : (c : Name) → In c s.columns → is_known (found t c) ≡ true
 
 -- ---- a channel that the sheet names
 
@@ -55,7 +55,7 @@ pub record FromColumn (s : Sheet) (t : Tables) (r : Name) (p : Part) : Type 0 wh
   pub bits : ℕ
   pub stands : Stands s r column bits
   pub place : found t column ≡ At p.place
-  pub named : (channelAt t p.place).name ≡ column
+  pub named : (channel_at t p.place).name ≡ column
   pub factor : to_bits binary64 p.factor ≡ bits
   pub counts : Counts bits
 
@@ -107,11 +107,11 @@ abbrev pub pair : Name → Float → Pair
 pair n x = record { name = n; factor = x }
 
 -- the name that the tables have at each part's place, with the part's factor
-unfoldable pub pairsOf : Tables → List Part → List Pair
-pairsOf t [] = []
-pairsOf t (p ∷ ps) = pair (channelAt t p.place).name p.factor ∷ pairsOf t ps
+unfoldable pub pairs_of : Tables → List Part → List Pair
+pairs_of t [] = []
+pairs_of t (p ∷ ps) = pair (channel_at t p.place).name p.factor ∷ pairs_of t ps
 
 -- each column with its double
-unfoldable pub pairsFrom : List Entry → List Pair
-pairsFrom [] = []
-pairsFrom (e ∷ es) = pair e.column (of_bits binary64 e.bits) ∷ pairsFrom es
+unfoldable pub pairs_from : List Entry → List Pair
+pairs_from [] = []
+pairs_from (e ∷ es) = pair e.column (of_bits binary64 e.bits) ∷ pairs_from es

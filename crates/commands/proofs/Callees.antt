@@ -35,7 +35,7 @@ use Rattle.quant.specs.contracts.refusal.Refusal as Y
 use Rattle.quant.proofs.refusal.Refusal.TheLaws as Y'
 use Rattle.pulse.specs.declared.list.Pulse.{Pulse}
 use Rattle.pulse.proofs.Lent.{BinRow, Numbers, Own}
-use Rattle.pulse.proofs.Records.{slice, spell, IsRecord, has-record, has_word}
+use Rattle.pulse.proofs.Records.{slice, spell, IsRecord, has_record, has_word}
 use Rattle.pulse.specs.contracts.list.Pulse as P
 use Rattle.pulse.specs.contracts.list.store as store
 use Rattle.tables.specs.declared.Tables.{Tables}
@@ -44,10 +44,10 @@ use Rattle.tables.specs.contracts.Tables as U
 use Rattle.tables.proofs.Tables.TheLaws as U'
 use Rattle.tables.specs.contracts.Tabled as X
 use Rattle.tables.proofs.Tabled.TheLaws as X'
-use Rattle.tables.proofs.Walked.{valU, IsTables, has-tables}
+use Rattle.tables.proofs.Walked.{val_u, IsTables, has-tables}
 use Rattle.commands.specs.declared.command.Arranged.{Arranged}
 use Rattle.commands.specs.declared.step.Step.{Step as Stepped}
-use Rattle.commands.specs.Run.{doneAt, refusedAt, sizesFit}
+use Rattle.commands.specs.Run.{done_at, refused_at, sizes_fit}
 use Rattle.commands.specs.contracts.command.Arranged as N
 use Rattle.commands.proofs.command.Arranged.TheLaws as N'
 use Rattle.commands.specs.contracts.step.Step as S
@@ -64,47 +64,47 @@ use Rattle.commands.specs.contracts.execute.done as ended
 abbrev pub bytes : ℕ
 bytes = (memory N.the_row).size
 
-abbrev pub sliceF : Ty
-sliceF = slice_ty (ty_ref (named 0) imm (pointee Numbers.written))
+abbrev pub slice_f : Ty
+slice_f = slice_ty (ty_ref (named 0) imm (pointee Numbers.written))
 
-abbrev pub sliceC : Ty
-sliceC = slice_ty (ty_ref (named 1) imm (pointee (N.the_row).written))
+abbrev pub slice_c : Ty
+slice_c = slice_ty (ty_ref (named 1) imm (pointee (N.the_row).written))
 
-abbrev pub refB : Ty
-refB = ty_ref erased mut (pointee BinRow.written)
+abbrev pub ref_b : Ty
+ref_b = ty_ref erased mut (pointee BinRow.written)
 
-abbrev pub sliceB : Ty
-sliceB = slice_ty (ty_ref (named 2) mut (pointee BinRow.written))
+abbrev pub slice_b : Ty
+slice_b = slice_ty (ty_ref (named 2) mut (pointee BinRow.written))
 
-abbrev pub refP : Ty
-refP = ty_ref erased mut (pointee (P.the_row).written)
+abbrev pub ref_p : Ty
+ref_p = ty_ref erased mut (pointee (P.the_row).written)
 
-abbrev pub sliceP : Ty
-sliceP = slice (named 3)
+abbrev pub slice_p : Ty
+slice_p = slice (named 3)
 
-abbrev pub valN : Arranged → Val
-valN = LL.val N.the_type N'.the_laws
+abbrev pub val_n : Arranged → Val
+val_n = LL.val N.the_type N'.the_laws
 
 abbrev pub val_s : Stepped → Val
 val_s = LL.val S.the_type S'.the_laws
 
-abbrev pub valX : Tabled → Val
-valX = LL.val X.the_type X'.the_laws
+abbrev pub val_x : Tabled → Val
+val_x = LL.val X.the_type X'.the_laws
 
-abbrev pub valY : Refusal → Val
-valY = EL.val Y.the_type Y'.the_laws
+abbrev pub val_y : Refusal → Val
+val_y = EL.val Y.the_type Y'.the_laws
 
 abbrev pub IsCommand : Arranged → Type 0
-IsCommand c = Is N.the_row c (valN c ∷ [])
+IsCommand c = Is N.the_row c (val_n c ∷ [])
 
 abbrev pub IsStep : Stepped → Type 0
 IsStep s = Is S.the_row s (val_s s ∷ [])
 
 abbrev pub IsTabled : Tabled → Type 0
-IsTabled r = Is X.the_row r (valX r ∷ [])
+IsTabled r = Is X.the_row r (val_x r ∷ [])
 
 abbrev pub IsRefusal : Refusal → Type 0
-IsRefusal w = Is Y.the_row w (valY w ∷ [])
+IsRefusal w = Is Y.the_row w (val_y w ∷ [])
 
 -- of a step, what is passed on
 pub record Parts (s : Stepped) : Type 0 where
@@ -126,21 +126,21 @@ parts s g =
     }
 
 module _ {M : Type 1} {𝓤 : Ura M} (𝓛 : Logic 𝓤) where
-  pub typedN : (c : Arranged) → IsCommand c → T (has_ty N'.mir (valN c)) × WT (valN c)
-  typedN c g = ((LL.lawful N.the_type N'.the_laws 𝓛).typed c (valN c ∷ []) g).0
+  pub typed_n : (c : Arranged) → IsCommand c → T (has_ty N'.mir (val_n c)) × WT (val_n c)
+  typed_n c g = ((LL.lawful N.the_type N'.the_laws 𝓛).typed c (val_n c ∷ []) g).0
 
-  pub typedX : (r : Tabled) → IsTabled r → T (has_ty X'.mir (valX r)) × WT (valX r)
-  typedX r g = ((LL.lawful X.the_type X'.the_laws 𝓛).typed r (valX r ∷ []) g).0
+  pub typed_x : (r : Tabled) → IsTabled r → T (has_ty X'.mir (val_x r)) × WT (val_x r)
+  typed_x r g = ((LL.lawful X.the_type X'.the_laws 𝓛).typed r (val_x r ∷ []) g).0
 
 module _ {M : Type 1} {𝓤 : Ura M} {𝓛 : Logic 𝓤} {K : Type 0} {Γ : List (Item 𝓤)} {G : Goal 𝓤 𝓛.H} where
-  has-command : K → (c : Arranged) → IsCommand c → Step K 𝓛 (‵ ((N.the_row).own_val c (valN c ∷ [])) ∷ Γ) G Γ G
-  has-command t c g = owned t N.the_row (Is N.the_row) (LL.makes N.the_type N'.the_plain 𝓛) c (valN c ∷ []) g
+  has-command : K → (c : Arranged) → IsCommand c → Step K 𝓛 (‵ ((N.the_row).own_val c (val_n c ∷ [])) ∷ Γ) G Γ G
+  has-command t c g = owned t N.the_row (Is N.the_row) (LL.makes N.the_type N'.the_plain 𝓛) c (val_n c ∷ []) g
 
-  pub has-tabled : K → (r : Tabled) → IsTabled r → Step K 𝓛 (‵ ((X.the_row).own_val r (valX r ∷ [])) ∷ Γ) G Γ G
-  has-tabled t r g = owned t X.the_row (Is X.the_row) (LL.makes X.the_type X'.the_plain 𝓛) r (valX r ∷ []) g
+  pub has-tabled : K → (r : Tabled) → IsTabled r → Step K 𝓛 (‵ ((X.the_row).own_val r (val_x r ∷ [])) ∷ Γ) G Γ G
+  has-tabled t r g = owned t X.the_row (Is X.the_row) (LL.makes X.the_type X'.the_plain 𝓛) r (val_x r ∷ []) g
 
-  has-refusal : K → (w : Refusal) → IsRefusal w → Step K 𝓛 (‵ ((Y.the_row).own_val w (valY w ∷ [])) ∷ Γ) G Γ G
-  has-refusal t w g = owned t Y.the_row (Is Y.the_row) (EL.makes Y.the_type Y'.the_plain 𝓛) w (valY w ∷ []) g
+  has-refusal : K → (w : Refusal) → IsRefusal w → Step K 𝓛 (‵ ((Y.the_row).own_val w (val_y w ∷ [])) ∷ Γ) G Γ G
+  has-refusal t w g = owned t Y.the_row (Is Y.the_row) (EL.makes Y.the_type Y'.the_plain 𝓛) w (val_y w ∷ []) g
 
 -- ---- contracts, what each binds, and what it asks
 
@@ -166,17 +166,17 @@ module _ {M : Type 1} {𝓤 : Ura M} (𝓛 : Logic 𝓤) (mem : Memory → SProp
   Ends = triple_of 𝓛 ended.signature (ended.spec 𝓛 mem run)
 
   -- what the calls of plain values answer
-  pub fits-of : (i m j k : ℕ) (r : Bool) → ent 𝓤 (ensured 𝓛 sizes-fit.ended (sizes-fit.clauses 𝓛 mem run) tt (i, (m, (j, (k, tt)))) tt r) (fact 𝓤 (r ≡ sizesFit i m j k))
-  fits-of i m j k r = ex_e 𝓤 _ (λ ws. snd∗ 𝓤 (sem 𝓛 (lasts sizes-fit.ended tt (i, (m, (j, (k, tt)))) ws)) (fact 𝓤 (r ≡ sizesFit i m j k)))
+  pub fits-of : (i m j k : ℕ) (r : Bool) → ent 𝓤 (ensured 𝓛 sizes-fit.ended (sizes-fit.clauses 𝓛 mem run) tt (i, (m, (j, (k, tt)))) tt r) (fact 𝓤 (r ≡ sizes_fit i m j k))
+  fits-of i m j k r = ex_e 𝓤 _ (λ ws. snd∗ 𝓤 (sem 𝓛 (lasts sizes-fit.ended tt (i, (m, (j, (k, tt)))) ws)) (fact 𝓤 (r ≡ sizes_fit i m j k)))
 
-  pub misfit-of : (u : Tables) (r : Tabled) → ent 𝓤 (ensured 𝓛 misfit.ended (misfit.clauses 𝓛 mem run) tt (u, tt) tt r) (fact 𝓤 (r ≡ refusedAt u WrongSize 0))
-  misfit-of u r = ex_e 𝓤 _ (λ ws. snd∗ 𝓤 (sem 𝓛 (lasts misfit.ended tt (u, tt) ws)) (fact 𝓤 (r ≡ refusedAt u WrongSize 0)))
+  pub misfit_of : (u : Tables) (r : Tabled) → ent 𝓤 (ensured 𝓛 misfit.ended (misfit.clauses 𝓛 mem run) tt (u, tt) tt r) (fact 𝓤 (r ≡ refused_at u WrongSize 0))
+  misfit_of u r = ex_e 𝓤 _ (λ ws. snd∗ 𝓤 (sem 𝓛 (lasts misfit.ended tt (u, tt) ws)) (fact 𝓤 (r ≡ refused_at u WrongSize 0)))
 
-  pub refused-of : (u : Tables) (w : Refusal) (k : ℕ) (r : Tabled) → ent 𝓤 (ensured 𝓛 refused.ended (refused.clauses 𝓛 mem run) tt (u, (w, (k, tt))) tt r) (fact 𝓤 (r ≡ refusedAt u w k))
-  refused-of u w k r = ex_e 𝓤 _ (λ ws. snd∗ 𝓤 (sem 𝓛 (lasts refused.ended tt (u, (w, (k, tt))) ws)) (fact 𝓤 (r ≡ refusedAt u w k)))
+  pub refused-of : (u : Tables) (w : Refusal) (k : ℕ) (r : Tabled) → ent 𝓤 (ensured 𝓛 refused.ended (refused.clauses 𝓛 mem run) tt (u, (w, (k, tt))) tt r) (fact 𝓤 (r ≡ refused_at u w k))
+  refused-of u w k r = ex_e 𝓤 _ (λ ws. snd∗ 𝓤 (sem 𝓛 (lasts refused.ended tt (u, (w, (k, tt))) ws)) (fact 𝓤 (r ≡ refused_at u w k)))
 
-  pub done-of : (u : Tables) (k : ℕ) (r : Tabled) → ent 𝓤 (ensured 𝓛 ended.ended (ended.clauses 𝓛 mem run) tt (u, (k, tt)) tt r) (fact 𝓤 (r ≡ doneAt u k))
-  done-of u k r = ex_e 𝓤 _ (λ ws. snd∗ 𝓤 (sem 𝓛 (lasts ended.ended tt (u, (k, tt)) ws)) (fact 𝓤 (r ≡ doneAt u k)))
+  pub done-of : (u : Tables) (k : ℕ) (r : Tabled) → ent 𝓤 (ensured 𝓛 ended.ended (ended.clauses 𝓛 mem run) tt (u, (k, tt)) tt r) (fact 𝓤 (r ≡ done_at u k))
+  done-of u k r = ex_e 𝓤 _ (λ ws. snd∗ 𝓤 (sem 𝓛 (lasts ended.ended tt (u, (k, tt)) ws)) (fact 𝓤 (r ≡ done_at u k)))
 
   module _ where
     abbrev pub to-fits : ℕ → ℕ → ℕ → ℕ → Fits.Ghost
@@ -186,20 +186,20 @@ module _ {M : Type 1} {𝓤 : Ura M} (𝓛 : Logic 𝓤) (mem : Memory → SProp
     goes-fits i m j k gi gm gj gk =
         qed 𝓛 [] ∵ nothing ! $ has_word ! k gk $ fjoin ! $ has_word ! j gj $ fjoin ! $ has_word ! m gm $ fjoin ! $ has_word ! i gi $ fjoin ! $ nothing ! $ join ! $ frame ! $ done !
 
-    abbrev pub to-misfit : Tables → Misfits.Ghost
-    to-misfit u = ((tt, tt, tt, (u, tt), (valU u ∷ [], tt)), tt)
+    abbrev pub to_misfit : Tables → Misfits.Ghost
+    to_misfit u = ((tt, tt, tt, (u, tt), (val_u u ∷ [], tt)), tt)
 
-    pub goes-misfit : (u : Tables) → IsTables u → ent 𝓤 (emp 𝓤) (Misfits.pre (to-misfit u))
-    goes-misfit u g = qed 𝓛 [] ∵ nothing ! $ has-tables ! u g $ fjoin ! $ nothing ! $ join ! $ frame ! $ done !
+    pub goes_misfit : (u : Tables) → IsTables u → ent 𝓤 (emp 𝓤) (Misfits.pre (to_misfit u))
+    goes_misfit u g = qed 𝓛 [] ∵ nothing ! $ has-tables ! u g $ fjoin ! $ nothing ! $ join ! $ frame ! $ done !
 
     abbrev pub to-refused : Tables → Refusal → ℕ → Refuses.Ghost
-    to-refused u w k = ((tt, tt, tt, (u, (w, (k, tt))), (valU u ∷ [], (valY w ∷ [], (vint w64 k ∷ [], tt)))), tt)
+    to-refused u w k = ((tt, tt, tt, (u, (w, (k, tt))), (val_u u ∷ [], (val_y w ∷ [], (vint w64 k ∷ [], tt)))), tt)
 
     pub goes-refused : (u : Tables) (w : Refusal) (k : ℕ) → IsTables u → IsRefusal w → k < 2 ^ 64 → ent 𝓤 (emp 𝓤) (Refuses.pre (to-refused u w k))
     goes-refused u w k gu gw gk = qed 𝓛 [] ∵ nothing ! $ has_word ! k gk $ fjoin ! $ has-refusal ! w gw $ fjoin ! $ has-tables ! u gu $ fjoin ! $ nothing ! $ join ! $ frame ! $ done !
 
     abbrev pub to-done : Tables → ℕ → Ends.Ghost
-    to-done u k = ((tt, tt, tt, (u, (k, tt)), (valU u ∷ [], (vint w64 k ∷ [], tt))), tt)
+    to-done u k = ((tt, tt, tt, (u, (k, tt)), (val_u u ∷ [], (vint w64 k ∷ [], tt))), tt)
 
     pub goes-done : (u : Tables) (k : ℕ) → IsTables u → k < 2 ^ 64 → ent 𝓤 (emp 𝓤) (Ends.pre (to-done u k))
     goes-done u k gu gk = qed 𝓛 [] ∵ nothing ! $ has_word ! k gk $ fjoin ! $ has-tables ! u gu $ fjoin ! $ nothing ! $ join ! $ frame ! $ done !
@@ -208,11 +208,11 @@ module _ {M : Type 1} {𝓤 : Ura M} (𝓛 : Logic 𝓤) (mem : Memory → SProp
     module _ (b o n ν : ℕ) (δ : GName) where
       -- with the shapes' rows at (b₃, o₃) too, shared for κ under the name γ
       module _ (b₃ o₃ : ℕ) (κ : Lft) (q : Share) (γ : GName) (fs : List (List Float)) where
-        abbrev refF : Bor (List (List Float))
-        refF = record { ref_ptr = (b₃, o₃); now = fs }
+        abbrev ref_f : Bor (List (List Float))
+        ref_f = record { ref_ptr = (b₃, o₃); now = fs }
 
         abbrev own_f : Fml
-        own_f = (ShrSlice (named 0) κ Numbers).own_val refF (slice_val (b₃, o₃) (length fs) ∷ [])
+        own_f = (ShrSlice (named 0) κ Numbers).own_val ref_f (slice_val (b₃, o₃) (length fs) ∷ [])
 
         abbrev pub to-act : Tables → List (List Float) → Arranged → Acts.Ghost
         to-act u l c = (
@@ -220,8 +220,8 @@ module _ {M : Type 1} {𝓤 : Ura M} (𝓛 : Logic 𝓤) (mem : Memory → SProp
             (κ, (ν ∷ [], tt)),
             (q, (full_share, tt)),
             tt,
-            (u, (refF, (record { ref_ptr = (b, o); now = l }, (c, tt)))),
-            (valU u ∷ [], (slice_val (b₃, o₃) (length fs) ∷ [], (slice_val (b, o) n ∷ [], (valN c ∷ [], tt)))),
+            (u, (ref_f, (record { ref_ptr = (b, o); now = l }, (c, tt)))),
+            (val_u u ∷ [], (slice_val (b₃, o₃) (length fs) ∷ [], (slice_val (b, o) n ∷ [], (val_n c ∷ [], tt)))),
           ),
           tt,
         )
@@ -241,4 +241,4 @@ module _ {M : Type 1} {𝓤 : Ura M} (𝓛 : Logic 𝓤) (mem : Memory → SProp
           → ent 𝓤 (sep 𝓤 (A.lft (ν ∷ []) full_share) (sem 𝓛 (Own P.the_row b o n (ν ∷ []) δ l))) (Stores.pre (to-store l i k p))
       goes-store l i k p gi gk gp =
           qed 𝓛 (‵ (flft (ν ∷ []) full_share) ∷ ‵ (Own P.the_row b o n (ν ∷ []) δ l) ∷ []) ∵ nothing ! $ move ! (1 ∷ 0 ∷ []) $ join ! $ move ! (1 ∷ []) $
-          nothing ! $ has-record ! p gp $ fjoin ! $ has_word ! k gk $ fjoin ! $ has_word ! i gi $ fjoin ! $ move ! (1 ∷ 0 ∷ []) $ fjoin ! $ move ! (1 ∷ 0 ∷ []) $ join ! $ frame ! $ done !
+          nothing ! $ has_record ! p gp $ fjoin ! $ has_word ! k gk $ fjoin ! $ has_word ! i gi $ fjoin ! $ move ! (1 ∷ 0 ∷ []) $ fjoin ! $ move ! (1 ∷ 0 ∷ []) $ join ! $ frame ! $ done !

@@ -17,29 +17,29 @@ use Rattle.quant.specs.declared.refusal.Refusal.TheVariants.{Malformed, Full, Ov
 use Rattle.executor.specs.declared.osc.OscState.{OscState}
 use Rattle.executor.specs.declared.osc.Moved.{Moved}
 use Rattle.executor.specs.declared.osc.Swapped.{Swapped}
-use Rattle.executor.specs.Osc.{swappedPhases}
+use Rattle.executor.specs.Osc.{swapped_phases}
 use Rattle.pulse.specs.declared.envelope.Shape.{Shape}
 use Rattle.pulse.specs.declared.envelope.Shape.TheVariants.{Plain}
 use Rattle.pulse.specs.declared.list.Pulse.{Pulse}
 use Rattle.pulse.specs.declared.weight.Weight.{Weight}
 use Rattle.pulse.specs.declared.weight.Weighed.{Weighed}
 use Rattle.pulse.specs.declared.weight.Weighed.TheVariants.{Fine, Overflow}
-use Rattle.pulse.specs.Bin.{headOf, kind_of, place_of}
-use Rattle.pulse.specs.Weight.{negligible, weighedOf}
+use Rattle.pulse.specs.Bin.{head_of, kind_of, place_of}
+use Rattle.pulse.specs.Weight.{negligible, weighed_of}
 use Rattle.pulse.proofs.Place.{place-first}
 use Rattle.tables.specs.declared.Tables.{Tables}
 use Rattle.tables.specs.declared.Found.{Found}
 use Rattle.tables.specs.declared.Found.TheVariants.{At, Nowhere}
-use Rattle.tables.specs.Tables.{found, shapeFound, channelAt}
+use Rattle.tables.specs.Tables.{found, shape_found, channel_at}
 use Rattle.tables.proofs.Finding.{found-eight}
 use Rattle.commands.specs.declared.command.Play.{Play}
 use Rattle.commands.specs.declared.command.Command.{Command}
 use Rattle.commands.specs.declared.command.Command.TheVariants as C
 use Rattle.commands.specs.declared.command.Arranged.{Arranged}
 use Rattle.commands.specs.declared.step.Step.{Step}
-use Rattle.commands.specs.Command.{good, wellFormed, tooLong, named, isSwap}
-use Rattle.commands.specs.Step.{noSpline, numbersAt, stops, goesOn, binsAfter, pulsesAfter, withOsc, turned, movedBy, turnedAt, swappedTo, swappedAt, swappedBetween}
-use Rattle.commands.specs.Play.{rows_of, isNew, isFull, stores, stored_at, storedWith, plateauOf, binFor, splineFor, pushed, playedAt, playedAs, playedBy, played}
+use Rattle.commands.specs.Command.{good, well_formed, too_long, named, is_swap}
+use Rattle.commands.specs.Step.{no_spline, numbers_at, stops, goes_on, bins_after, pulses_after, with_osc, turned, moved_by, turned_at, swapped_to, swapped_at, swapped_between}
+use Rattle.commands.specs.Play.{rows_of, is_new, is_full, stores, stored_at, stored_with, plateau_of, bin_for, spline_for, pushed, played_at, played_as, played_by, played}
 use Rattle.commands.specs.Run.{acted, step_of}
 use Rattle.commands.proofs.Rows.{not_full}
 
@@ -47,12 +47,12 @@ use Rattle.commands.proofs.Rows.{not_full}
 -- next, where both have room.
 pub data Kind (t : Tables) (bins : List (List Float)) (c : Command) : Step → Type 0 where
   refuses : (r : Refusal) → Kind t bins c (stops t r)
-  goes : Kind t bins c (goesOn t)
-  turns : (i : ℕ) (o : OscState) → found t (named c) ≡ At i → Kind t bins c (goesOn (withOsc t i o))
-  swaps : (i j : ℕ) (o q : OscState) → isSwap c ≡ true → Kind t bins c (goesOn (withOsc (withOsc t i o) j q))
+  goes : Kind t bins c (goes_on t)
+  turns : (i : ℕ) (o : OscState) → found t (named c) ≡ At i → Kind t bins c (goes_on (with_osc t i o))
+  swaps : (i j : ℕ) (o q : OscState) → is_swap c ≡ true → Kind t bins c (goes_on (with_osc (with_osc t i o) j q))
   puts : (i place : ℕ) (new : Bool) (start : Float) (w : Weight) (head : List Float) (spline : ℕ) → found t (named c) ≡ At i → finite start ≡ true
-      → place ≤ (channelAt t i).bins → (new ≡ false → place < (channelAt t i).bins) → (new ≡ true → (channelAt t i).bins < 64)
-      → (new ≡ true → length (rows_of t bins i) ≤ place) → (channelAt t i).pulses < 1024 → Kind t bins c (stores t i place new start w head spline)
+      → place ≤ (channel_at t i).bins → (new ≡ false → place < (channel_at t i).bins) → (new ≡ true → (channel_at t i).bins < 64)
+      → (new ≡ true → length (rows_of t bins i) ≤ place) → (channel_at t i).pulses < 1024 → Kind t bins c (stores t i place new start w head spline)
 
 -- ---- the cases of a step
 
@@ -63,95 +63,95 @@ module _ (t : Tables) (bins : List (List Float)) (c : Command) where
 
   turned-kind : (i : ℕ) (m : Moved) → found t (named c) ≡ At i → Kind t bins c (turned t i m)
   turned-kind i m there =
-      one_of m.refused (stops t NotFinite) (goesOn (withOsc t i m.osc)) (λ _. refuses NotFinite) (λ _. turns i m.osc there)
+      one_of m.refused (stops t NotFinite) (goes_on (with_osc t i m.osc)) (λ _. refuses NotFinite) (λ _. turns i m.osc there)
 
-  turned-at-kind : (f : Found) → found t (named c) ≡ f → (time : Float) → Kind t bins c (turnedAt t f c time)
-  unfolding turnedAt
+  turned-at-kind : (f : Found) → found t (named c) ≡ f → (time : Float) → Kind t bins c (turned_at t f c time)
+  unfolding turned_at
   turned-at-kind Nowhere e time = refuses UnknownChannel
-  turned-at-kind (At i) e time = turned-kind i (movedBy c time (channelAt t i).osc) e
+  turned-at-kind (At i) e time = turned-kind i (moved_by c time (channel_at t i).osc) e
 
-  module _ (swap : isSwap c ≡ true) where
-    swapped-to-kind : (i j : ℕ) (s : Swapped) → Kind t bins c (swappedTo t i j s)
+  module _ (swap : is_swap c ≡ true) where
+    swapped-to-kind : (i j : ℕ) (s : Swapped) → Kind t bins c (swapped_to t i j s)
     swapped-to-kind i j s =
-        one_of s.refused (stops t NotFinite) (goesOn (withOsc (withOsc t i s.one) j s.two)) (λ _. refuses NotFinite) (λ _. swaps i j s.one s.two swap)
+        one_of s.refused (stops t NotFinite) (goes_on (with_osc (with_osc t i s.one) j s.two)) (λ _. refuses NotFinite) (λ _. swaps i j s.one s.two swap)
 
-    swapped-at-kind : (f g : Found) (time : Float) → Kind t bins c (swappedAt t f g time)
-    unfolding swappedAt
+    swapped-at-kind : (f g : Found) (time : Float) → Kind t bins c (swapped_at t f g time)
+    unfolding swapped_at
     swapped-at-kind Nowhere g time = refuses UnknownChannel
     swapped-at-kind (At i) Nowhere time = refuses UnknownChannel
-    swapped-at-kind (At i) (At j) time = swapped-to-kind i j (swappedPhases (channelAt t i).osc (channelAt t j).osc time)
+    swapped-at-kind (At i) (At j) time = swapped-to-kind i j (swapped_phases (channel_at t i).osc (channel_at t j).osc time)
 
-    swapped-kind : (n m : Name) (time : Float) → Kind t bins c (swappedBetween t n m time)
+    swapped-kind : (n m : Name) (time : Float) → Kind t bins c (swapped_between t n m time)
     swapped-kind n m time =
-        let s = swappedAt t (found t n) (found t m) time in
-        one_of (same_name n m) (goesOn t) s (λ _. goes) (λ _. swapped-at-kind (found t n) (found t m) time)
+        let s = swapped_at t (found t n) (found t m) time in
+        one_of (same_name n m) (goes_on t) s (λ _. goes) (λ _. swapped-at-kind (found t n) (found t m) time)
 
   module _ (splines : List (List Float)) (start : Float) (known : finite start ≡ true) where
     module _ (i : ℕ) (there : found t (named c) ≡ At i) (head : List Float) (spline : ℕ) where
       abbrev row : List Float
-      row = head ++ numbersAt splines spline
+      row = head ++ numbers_at splines spline
 
       abbrev place : ℕ
       place = place_of row (rows_of t bins i)
 
-      few-rows : length (rows_of t bins i) ≤ (channelAt t i).bins
-      few-rows = rw (length-take (channelAt t i).bins (take 64 (drop (64 * i) bins))) (omega arith)
+      few-rows : length (rows_of t bins i) ≤ (channel_at t i).bins
+      few-rows = rw (length-take (channel_at t i).bins (take 64 (drop (64 * i) bins))) (omega arith)
 
       stored-kind : (w : Weight) → Kind t bins c (stored_at t splines bins i start w head spline)
       stored-kind w =
-          let new = isNew t bins i place in
-          one_of (isFull t bins i place) (stops t Full) (stores t i place new start w head spline)
+          let new = is_new t bins i place in
+          one_of (is_full t bins i place) (stops t Full) (stores t i place new start w head spline)
           (λ _. refuses Full)
           (λ e.
-          let room = not_full new (channelAt t i).bins (channelAt t i).pulses e in
+          let room = not_full new (channel_at t i).bins (channel_at t i).pulses e in
           let within = (place-first row (rows_of t bins i)).within in
           let few = few-rows in
           puts i place new start w head spline there known (omega arith) (λ old. let under = leb-false (length (rows_of t bins i)) place old in omega arith) room.0 (leb-true (length (rows_of t bins i)) place) room.1)
 
-      stored-with-kind : (w : Weighed) → Kind t bins c (storedWith t splines bins i start w head spline)
-      unfolding storedWith
+      stored-with-kind : (w : Weighed) → Kind t bins c (stored_with t splines bins i start w head spline)
+      unfolding stored_with
       stored-with-kind Overflow = refuses NotFinite
       stored-with-kind (Fine w) = stored-kind w
 
     module _ (span : Float) (p : Play) (is : named c ≡ p.channel) where
-      pushed-kind : (kind : Shape) (k i : ℕ) → found t p.channel ≡ At i → Kind t bins c (pushed t splines bins i start p (binFor t i kind p span) k)
+      pushed-kind : (kind : Shape) (k i : ℕ) → found t p.channel ≡ At i → Kind t bins c (pushed t splines bins i start p (bin_for t i kind p span) k)
       pushed-kind kind k i there =
-          let b = binFor t i kind p span in
-          let w = weighedOf p.amplitude.0 p.phase.0 p.drag in
-          let spline = splineFor b.envelope.shape k in
-          let storing = storedWith t splines bins i start w (headOf b) spline in
+          let b = bin_for t i kind p span in
+          let w = weighed_of p.amplitude.0 p.phase.0 p.drag in
+          let spline = spline_for b.envelope.shape k in
+          let storing = stored_with t splines bins i start w (head_of b) spline in
           let quiet = negligible p.amplitude.0 t.amp.0 in
-          one_of (finite b.global.0 && finite b.envelope.plateau.0) (cond quiet (goesOn t) storing) (stops t NotFinite)
-          (λ _. one_of quiet (goesOn t) storing (λ _. goes) (λ _. stored-with-kind i (ap (found t) is ∙ there) (headOf b) spline w))
+          one_of (finite b.global.0 && finite b.envelope.plateau.0) (cond quiet (goes_on t) storing) (stops t NotFinite)
+          (λ _. one_of quiet (goes_on t) storing (λ _. goes) (λ _. stored-with-kind i (ap (found t) is ∙ there) (head_of b) spline w))
           (λ _. refuses NotFinite)
 
-      played-at-kind : (kind : Shape) (k : ℕ) (f : Found) → found t p.channel ≡ f → Kind t bins c (playedAt t splines bins f start span p kind k)
-      unfolding playedAt
+      played-at-kind : (kind : Shape) (k : ℕ) (f : Found) → found t p.channel ≡ f → Kind t bins c (played_at t splines bins f start span p kind k)
+      unfolding played_at
       played-at-kind kind k Nowhere e = refuses UnknownChannel
       played-at-kind kind k (At i) e = pushed-kind kind k i e
 
-      played-as-kind : (kind : Shape) (k : ℕ) → Kind t bins c (playedAs t splines bins start span p kind k)
-      played-as-kind kind k =
+      played_as_kind : (kind : Shape) (k : ℕ) → Kind t bins c (played_as t splines bins start span p kind k)
+      played_as_kind kind k =
           let f = found t p.channel in
-          one_of (lt (plateauOf p span) nought) (stops t NegativePlateau) (playedAt t splines bins f start span p kind k)
+          one_of (lt (plateau_of p span) nought) (stops t NegativePlateau) (played_at t splines bins f start span p kind k)
           (λ _. refuses NegativePlateau)
           (λ _. played-at-kind kind k f refl)
 
-      played-by-kind : (f : Found) → Kind t bins c (playedBy t splines bins f start span p)
-      unfolding playedBy
+      played-by-kind : (f : Found) → Kind t bins c (played_by t splines bins f start span p)
+      unfolding played_by
       played-by-kind Nowhere = refuses UnknownShape
-      played-by-kind (At k) = played-as-kind (kind_of (numbersAt splines k)) k
+      played-by-kind (At k) = played_as_kind (kind_of (numbers_at splines k)) k
 
       played-kind : Kind t bins c (played t splines bins start span p)
       played-kind =
-          let f = shapeFound t p.shape in
-          one_of p.shaped (playedBy t splines bins f start span p) (playedAs t splines bins start span p Plain noSpline)
+          let f = shape_found t p.shape in
+          one_of p.shaped (played_by t splines bins f start span p) (played_as t splines bins start span p Plain no_spline)
           (λ _. played-by-kind f)
-          (λ _. played-as-kind Plain noSpline)
+          (λ _. played_as_kind Plain no_spline)
 
 module _ (t : Tables) (splines bins : List (List Float)) where
   acted-kind : (start : Float) → finite start ≡ true → (span : Float) (c : Command) → Kind t bins c (acted t splines bins start span c)
-  unfolding acted isSwap
+  unfolding acted is_swap
   acted-kind start known span (C.Play p) = played-kind t bins (C.Play p) splines start known span p refl
   acted-kind start known span (C.ShiftPhase n x) = turned-at-kind t bins (C.ShiftPhase n x) (found t n) refl start
   acted-kind start known span (C.SetPhase n x) = turned-at-kind t bins (C.SetPhase n x) (found t n) refl start
@@ -165,14 +165,14 @@ module _ (t : Tables) (splines bins : List (List Float)) where
   and_left false y e = e
 
   -- a well-formed command has a finite start
-  start-known : (a : Arranged) → wellFormed a ≡ true → finite a.start.0 ≡ true
+  start-known : (a : Arranged) → well_formed a ≡ true → finite a.start.0 ≡ true
   start-known a e = and_left (finite a.start.0) (finite a.span.0) (and_left (finite a.start.0 && finite a.span.0) (good a.command) e)
 
   pub step-kind : (a : Arranged) → Kind t bins a.command (step_of t splines bins a)
   step-kind a =
       let s = acted t splines bins a.start.0 a.span.0 a.command in
-      one_of t bins a.command (wellFormed a) (cond (tooLong t a) (stops t Oversize) s) (stops t Malformed)
-      (λ e. one_of t bins a.command (tooLong t a) (stops t Oversize) s (λ _. refuses Oversize) (λ _. acted-kind a.start.0 (start-known a e) a.span.0 a.command))
+      one_of t bins a.command (well_formed a) (cond (too_long t a) (stops t Oversize) s) (stops t Malformed)
+      (λ e. one_of t bins a.command (too_long t a) (stops t Oversize) s (λ _. refuses Oversize) (λ _. acted-kind a.start.0 (start-known a e) a.span.0 a.command))
       (λ _. refuses Malformed)
 
 -- ---- what follows
@@ -180,8 +180,8 @@ module _ (t : Tables) (splines bins : List (List Float)) where
 -- a refused step leaves all as it came
 pub record Leaves (t : Tables) (s : Step) : Type 0 where
   pub tables : s.tables ≡ t
-  pub bins : (splines bins : List (List Float)) → binsAfter s splines bins ≡ bins
-  pub pulses : (pulses : List Pulse) → pulsesAfter s pulses ≡ pulses
+  pub bins : (splines bins : List (List Float)) → bins_after s splines bins ≡ bins
+  pub pulses : (pulses : List Pulse) → pulses_after s pulses ≡ pulses
 
 leaves : (t : Tables) (bins : List (List Float)) (c : Command) (s : Step) → Kind t bins c s → s.stop ≡ true → Leaves t s
 leaves t bins c _ (refuses r) e = record { tables = refl; bins = λ _ _. refl; pulses = λ _. refl }

@@ -11,12 +11,12 @@ use lib.ListN.{length, get_or, take, drop, length-take, length-drop}
 use lib.Seq.{take_all, take-take}
 use Rattle.exact.proofs.Truth.{neither}
 use Rattle.tables.specs.declared.Tables.{Tables}
-use Rattle.tables.specs.Tables.{channelAt}
+use Rattle.tables.specs.Tables.{channel_at}
 use Rattle.quant.specs.declared.refusal.Refusal.TheVariants.{Full}
 use Rattle.pulse.specs.declared.weight.Weight.{Weight}
 use Rattle.pulse.specs.Bin.{place_of}
 use Rattle.pulse.proofs.Place.{place-first}
-use Rattle.commands.specs.Step.{numbersAt, stops}
+use Rattle.commands.specs.Step.{numbers_at, stops}
 use Rattle.commands.specs.Play.{rows_of, stores, stored_at}
 
 -- within a list it does not matter what would stand past its end
@@ -50,30 +50,30 @@ not_full true bins pulses e =
     (λ _. leb-false 64 bins p.0, leb-false 1024 pulses p.1)
 not_full false bins pulses e = (λ f. absurd (true≢false (sym f)), leb-false 1024 pulses e)
 
-module _ (t : Tables) (bins : List (List Float)) (i many : ℕ) (is : many ≡ cond (ltb (channelAt t i).bins 64) (channelAt t i).bins 64) where
+module _ (t : Tables) (bins : List (List Float)) (i many : ℕ) (is : many ≡ cond (ltb (channel_at t i).bins 64) (channel_at t i).bins 64) where
   pub part-is : take many (drop (64 * i) bins) ≡ rows_of t bins i
-  part-is = rw is (take-most (channelAt t i).bins (drop (64 * i) bins))
+  part-is = rw is (take-most (channel_at t i).bins (drop (64 * i) bins))
 
   pub part_length : i < 8 → length bins ≡ 512 → length (rows_of t bins i) ≡ many
   part_length h whole =
-      let under = most (channelAt t i).bins in
+      let under = most (channel_at t i).bins in
       let fits : many ≤ 64 = rw is under in
       sym (ap length part-is) ∙ (rw (length-take many (drop (64 * i) bins), length-drop (64 * i) bins) (omega (arith, fits, whole)))
 
   -- the place found in that part, and what is stored there
   module _ (h : i < 8) (whole : length bins ≡ 512) (splines : List (List Float)) (head : List Float) (spline at : ℕ)
-      (found : at ≡ place_of (head ++ numbersAt splines spline) (take many (drop (64 * i) bins))) where
-    place_is : place_of (head ++ numbersAt splines spline) (rows_of t bins i) ≡ at
-    place_is = sym (found ∙ ap (place_of (head ++ numbersAt splines spline)) part-is)
+      (found : at ≡ place_of (head ++ numbers_at splines spline) (take many (drop (64 * i) bins))) where
+    place_is : place_of (head ++ numbers_at splines spline) (rows_of t bins i) ≡ at
+    place_is = sym (found ∙ ap (place_of (head ++ numbers_at splines spline)) part-is)
 
     pub place-most : at ≤ 64
     place-most =
-        let within = (place-first (head ++ numbersAt splines spline) (rows_of t bins i)).within in
-        let fits = most (channelAt t i).bins in
+        let within = (place-first (head ++ numbers_at splines spline) (rows_of t bins i)).within in
+        let fits = most (channel_at t i).bins in
         let long = part_length h whole in
         rw (sym place_is) (omega (arith, within, fits, long, is))
 
     pub stored_is : (start : Float) (w : Weight)
         → stored_at t splines bins i start w head spline
-        ≡ cond ((leb many at && leb 64 (channelAt t i).bins) || leb 1024 (channelAt t i).pulses) (stops t Full) (stores t i at (leb many at) start w head spline)
+        ≡ cond ((leb many at && leb 64 (channel_at t i).bins) || leb 1024 (channel_at t i).pulses) (stops t Full) (stores t i at (leb many at) start w head spline)
     stored_is start w = rw (place_is, part_length h whole)

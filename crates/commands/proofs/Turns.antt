@@ -18,8 +18,8 @@ use Rattle.tables.proofs.Walked.{IsTables}
 use Rattle.commands.specs.declared.command.Command.TheVariants as C
 use Rattle.commands.specs.declared.command.Arranged.{Arranged}
 use Rattle.commands.specs.declared.step.Step.{Step}
-use Rattle.commands.specs.Step.{binsAfter, pulsesAfter}
-use Rattle.commands.specs.Run.{Ran, ranTo, doneAt, refusedAt, step_of, ran, sizesFit, executed}
+use Rattle.commands.specs.Step.{bins_after, pulses_after}
+use Rattle.commands.specs.Run.{Ran, ran_to, done_at, refused_at, step_of, ran, sizes_fit, executed}
 use Rattle.commands.proofs.Cases.{refused-leaves}
 
 -- what is read past the end of a list
@@ -30,7 +30,7 @@ module _ (cs : List Arranged) (k : ℕ) (u : Tables) (splines bins : List (List 
   abbrev pub still : Ran
   still = ran k u splines (drop k cs) bins pulses
 
-  pub at-end : length cs ≤ k → ranTo (doneAt u k) bins pulses ≡ still
+  pub at-end : length cs ≤ k → ran_to (done_at u k) bins pulses ≡ still
   unfolding ran
   at-end h = rw (drop_of_length-le cs h)
 
@@ -38,19 +38,19 @@ module _ (cs : List Arranged) (k : ℕ) (u : Tables) (splines bins : List (List 
     abbrev pub here : Step
     here = step_of u splines bins (get_or cs k none)
 
-    one_more : still ≡ cond here.stop (ranTo (refusedAt u here.why k) bins pulses) (ran (k + 1) here.tables splines (drop (k + 1) cs) (binsAfter here splines bins) (pulsesAfter here pulses))
+    one_more : still ≡ cond here.stop (ran_to (refused_at u here.why k) bins pulses) (ran (k + 1) here.tables splines (drop (k + 1) cs) (bins_after here splines bins) (pulses_after here pulses))
     unfolding ran
     one_more = rw (drop-cons cs k none more, add-one k)
 
-    module _ (s : Step) (rows : List (List Float)) (es : s ≡ here) (er : rows ≡ binsAfter here splines bins) where
-      pub stopped : s.stop ≡ true → ranTo (refusedAt u s.why k) rows pulses ≡ still
+    module _ (s : Step) (rows : List (List Float)) (es : s ≡ here) (er : rows ≡ bins_after here splines bins) where
+      pub stopped : s.stop ≡ true → ran_to (refused_at u s.why k) rows pulses ≡ still
       stopped y = rw (er, es, (refused-leaves u splines bins (get_or cs k none) (rw es at y)).bins splines bins) (sym (rw (rw es at y) at one_more))
 
-      pub turned : s.stop ≡ false → ran (k + 1) s.tables splines (drop (k + 1) cs) rows (pulsesAfter s pulses) ≡ still
+      pub turned : s.stop ≡ false → ran (k + 1) s.tables splines (drop (k + 1) cs) rows (pulses_after s pulses) ≡ still
       turned y = rw (er, es) (sym (rw (rw es at y) at one_more))
 
 -- eight rows of the shapes' numbers, and 512 of bins
-pub rows_fit : (i m j k : ℕ) → sizesFit i m j k ≡ true → (m ≡ 8) × (j ≡ 512)
+pub rows_fit : (i m j k : ℕ) → sizes_fit i m j k ≡ true → (m ≡ 8) × (j ≡ 512)
 rows_fit i m j k e =
     let a = both (leb i 1024 && eqb m 8 && eqb j 512) (eqb k 8192) e in
     let b = both (leb i 1024 && eqb m 8) (eqb j 512) a.0 in
@@ -68,7 +68,7 @@ pub record Upto (t₀ : Tables) (fs : List (List Float)) (cs : List Arranged) (b
   pub long-p : length ps ≡ length ps₀
   pub left : still cs k u fs bs ps ≡ executed t₀ fs cs bs₀ ps₀
 
-unfoldable pub begun : (t₀ : Tables) (fs : List (List Float)) (cs : List Arranged) (bs₀ : List (List Float)) (ps₀ : List Pulse) → IsTables t₀ → sizesFit (length cs) (length fs) (length bs₀) (length ps₀) ≡ true → Upto t₀ fs cs bs₀ ps₀
+unfoldable pub begun : (t₀ : Tables) (fs : List (List Float)) (cs : List Arranged) (bs₀ : List (List Float)) (ps₀ : List Pulse) → IsTables t₀ → sizes_fit (length cs) (length fs) (length bs₀) (length ps₀) ≡ true → Upto t₀ fs cs bs₀ ps₀
 begun t₀ fs cs bs₀ ps₀ g fit = record { k = 0; u = t₀; bs = bs₀; ps = ps₀; good = g; within = zero-le; long-b = refl; long-p = refl; left = rw fit }
 
 module _ (t₀ : Tables) (fs : List (List Float)) (cs : List Arranged) (bs₀ : List (List Float)) (ps₀ : List Pulse) (t : Upto t₀ fs cs bs₀ ps₀) where
@@ -78,7 +78,7 @@ module _ (t₀ : Tables) (fs : List (List Float)) (cs : List Arranged) (bs₀ : 
   abbrev pub step : Step
   step = step_of t.u fs t.bs command
 
-  unfoldable pub next : t.k < length cs → (s : Step) (zs : List (List Float)) (us : List Pulse) → s ≡ step → zs ≡ binsAfter step fs t.bs → us ≡ pulsesAfter s t.ps → s.stop ≡ false
+  unfoldable pub next : t.k < length cs → (s : Step) (zs : List (List Float)) (us : List Pulse) → s ≡ step → zs ≡ bins_after step fs t.bs → us ≡ pulses_after s t.ps → s.stop ≡ false
       → length zs ≡ length t.bs → length us ≡ length t.ps → IsTables s.tables → Upto t₀ fs cs bs₀ ps₀
   next more s zs us es ez eu goes_on lz lu g =
       record {

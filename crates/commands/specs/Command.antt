@@ -6,21 +6,21 @@ use Rattle.std.specs.Float.Ieee.{add, lt}
 use Rattle.std.specs.Float.Ieee.Scale.{finite}
 use Rattle.exact.specs.Doubles.{nought}
 use Rattle.naming.specs.declared.Name.{Name}
-use Rattle.naming.specs.Name.{isName}
+use Rattle.naming.specs.Name.{is_name}
 use Rattle.tables.specs.declared.Tables.{Tables}
-use Rattle.tables.specs.Tables.{noName}
+use Rattle.tables.specs.Tables.{no_name}
 use Rattle.commands.specs.declared.command.Play.{Play}
 use Rattle.commands.specs.declared.command.Command.{Command}
 use Rattle.commands.specs.declared.command.Command.TheVariants as C
 use Rattle.commands.specs.declared.command.Arranged.{Arranged}
 
 -- the names of a play; where it has no shape, the shape's name is not read
-abbrev pub goodNames : Play → Bool
-goodNames p = isName p.channel && (not p.shaped || isName p.shape)
+abbrev pub good_names : Play → Bool
+good_names p = is_name p.channel && (not p.shaped || is_name p.shape)
 
 -- the numbers of a play, the plateau of a flexible one too
-abbrev pub goodNumbers : Play → Bool
-goodNumbers p =
+abbrev pub good_numbers : Play → Bool
+good_numbers p =
     finite p.amplitude.0
     && finite p.width.0
     && finite p.plateau.0
@@ -30,17 +30,17 @@ goodNumbers p =
     && not (lt p.width.0 nought)
 
 unfoldable pub good : Command → Bool
-good (C.Play p) = goodNames p && goodNumbers p
-good (C.ShiftPhase n x) = isName n && finite x.0
-good (C.SetPhase n x) = isName n && finite x.0
-good (C.ShiftFreq n x) = isName n && finite x.0
-good (C.SetFreq n x) = isName n && finite x.0
-good (C.SwapPhase n m) = isName n && isName m
+good (C.Play p) = good_names p && good_numbers p
+good (C.ShiftPhase n x) = is_name n && finite x.0
+good (C.SetPhase n x) = is_name n && finite x.0
+good (C.ShiftFreq n x) = is_name n && finite x.0
+good (C.SetFreq n x) = is_name n && finite x.0
+good (C.SwapPhase n m) = is_name n && is_name m
 good C.Barrier = true
 
 -- whether a command meets no 2; every command carries a start and a span
-abbrev pub wellFormed : Arranged → Bool
-wellFormed a = finite a.start.0 && finite a.span.0 && good a.command
+abbrev pub well_formed : Arranged → Bool
+well_formed a = finite a.start.0 && finite a.span.0 && good a.command
 
 -- how long a command takes at least
 unfoldable pub required : Command → Float
@@ -53,8 +53,8 @@ required (C.SwapPhase n m) = nought
 required C.Barrier = nought
 
 -- "4: required duration > span + time tolerance, oversize not allowed"; both sums are rounded and may be infinite
-abbrev pub tooLong : Tables → Arranged → Bool
-tooLong t a = not t.oversize && lt (add binary64 a.span.0 t.time.0) (required a.command)
+abbrev pub too_long : Tables → Arranged → Bool
+too_long t a = not t.oversize && lt (add binary64 a.span.0 t.time.0) (required a.command)
 
 -- the channel that a command names; of a swap the first, of a barrier none
 abbrev pub named : Command → Name
@@ -64,14 +64,14 @@ named (C.SetPhase n x) = n
 named (C.ShiftFreq n x) = n
 named (C.SetFreq n x) = n
 named (C.SwapPhase n m) = n
-named C.Barrier = noName
+named C.Barrier = no_name
 
 -- whether it is for two channels
-unfoldable pub isSwap : Command → Bool
-isSwap (C.Play p) = false
-isSwap (C.ShiftPhase m x) = false
-isSwap (C.SetPhase m x) = false
-isSwap (C.ShiftFreq m x) = false
-isSwap (C.SetFreq m x) = false
-isSwap (C.SwapPhase a b) = true
-isSwap C.Barrier = false
+unfoldable pub is_swap : Command → Bool
+is_swap (C.Play p) = false
+is_swap (C.ShiftPhase m x) = false
+is_swap (C.SetPhase m x) = false
+is_swap (C.ShiftFreq m x) = false
+is_swap (C.SetFreq m x) = false
+is_swap (C.SwapPhase a b) = true
+is_swap C.Barrier = false

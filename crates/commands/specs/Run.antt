@@ -12,24 +12,24 @@ use Rattle.commands.specs.declared.command.Command.{Command}
 use Rattle.commands.specs.declared.command.Command.TheVariants as C
 use Rattle.commands.specs.declared.command.Arranged.{Arranged}
 use Rattle.commands.specs.declared.step.Step.{Step}
-use Rattle.commands.specs.Command.{wellFormed, tooLong}
-use Rattle.commands.specs.Step.{stops, goesOn, binsAfter, pulsesAfter, turnedAt, swappedBetween}
+use Rattle.commands.specs.Command.{well_formed, too_long}
+use Rattle.commands.specs.Step.{stops, goes_on, bins_after, pulses_after, turned_at, swapped_between}
 use Rattle.commands.specs.Play.{played}
 
 -- a command that meets neither 2 nor 4
 unfoldable pub acted : Tables → List (List Float) → List (List Float) → Float → Float → Command → Step
 acted t splines bins start span (C.Play p) = played t splines bins start span p
-acted t splines bins start span (C.ShiftPhase n x) = turnedAt t (found t n) (C.ShiftPhase n x) start
-acted t splines bins start span (C.SetPhase n x) = turnedAt t (found t n) (C.SetPhase n x) start
-acted t splines bins start span (C.ShiftFreq n x) = turnedAt t (found t n) (C.ShiftFreq n x) start
-acted t splines bins start span (C.SetFreq n x) = turnedAt t (found t n) (C.SetFreq n x) start
-acted t splines bins start span (C.SwapPhase n m) = swappedBetween t n m start
-acted t splines bins start span C.Barrier = goesOn t
+acted t splines bins start span (C.ShiftPhase n x) = turned_at t (found t n) (C.ShiftPhase n x) start
+acted t splines bins start span (C.SetPhase n x) = turned_at t (found t n) (C.SetPhase n x) start
+acted t splines bins start span (C.ShiftFreq n x) = turned_at t (found t n) (C.ShiftFreq n x) start
+acted t splines bins start span (C.SetFreq n x) = turned_at t (found t n) (C.SetFreq n x) start
+acted t splines bins start span (C.SwapPhase n m) = swapped_between t n m start
+acted t splines bins start span C.Barrier = goes_on t
 
 -- one command
 abbrev pub step_of : Tables → List (List Float) → List (List Float) → Arranged → Step
 step_of t splines bins a =
-    cond (wellFormed a) (cond (tooLong t a) (stops t Oversize) (acted t splines bins a.start.0 a.span.0 a.command)) (stops t Malformed)
+    cond (well_formed a) (cond (too_long t a) (stops t Oversize) (acted t splines bins a.start.0 a.span.0 a.command)) (stops t Malformed)
 
 -- ---- a list of commands
 
@@ -39,28 +39,28 @@ pub record Ran : Type 0 where
   pub bins : List (List Float)
   pub pulses : List Pulse
 
-abbrev pub ranTo : Tabled → List (List Float) → List Pulse → Ran
-ranTo r bins pulses = record { result = r; bins = bins; pulses = pulses }
+abbrev pub ran_to : Tabled → List (List Float) → List Pulse → Ran
+ran_to r bins pulses = record { result = r; bins = bins; pulses = pulses }
 
-abbrev pub doneAt : Tables → ℕ → Tabled
-doneAt t k = record { answer = Done k; tables = t }
+abbrev pub done_at : Tables → ℕ → Tabled
+done_at t k = record { answer = Done k; tables = t }
 
-abbrev pub refusedAt : Tables → Refusal → ℕ → Tabled
-refusedAt t r k = record { answer = Refused r k; tables = t }
+abbrev pub refused_at : Tables → Refusal → ℕ → Tabled
+refused_at t r k = record { answer = Refused r k; tables = t }
 
 -- commands in turn, of which k have run, up to the first that is refused
 unfoldable pub ran : ℕ → Tables → List (List Float) → List Arranged → List (List Float) → List Pulse → Ran
-ran k t splines [] bins pulses = ranTo (doneAt t k) bins pulses
+ran k t splines [] bins pulses = ran_to (done_at t k) bins pulses
 ran k t splines (a ∷ more) bins pulses =
     let s = step_of t splines bins a in
-    cond s.stop (ranTo (refusedAt t s.why k) bins pulses) (ran (suc k) s.tables splines more (binsAfter s splines bins) (pulsesAfter s pulses))
+    cond s.stop (ran_to (refused_at t s.why k) bins pulses) (ran (suc k) s.tables splines more (bins_after s splines bins) (pulses_after s pulses))
 
 -- 64 bins and 1,024 pulses for each of 8 channels, and a row for each of 8 shapes
-abbrev pub sizesFit : ℕ → ℕ → ℕ → ℕ → Bool
-sizesFit commands splines bins pulses = leb commands 1024 && eqb splines 8 && eqb bins 512 && eqb pulses 8192
+abbrev pub sizes_fit : ℕ → ℕ → ℕ → ℕ → Bool
+sizes_fit commands splines bins pulses = leb commands 1024 && eqb splines 8 && eqb bins 512 && eqb pulses 8192
 
 abbrev pub executed : Tables → List (List Float) → List Arranged → List (List Float) → List Pulse → Ran
 executed t splines commands bins pulses =
-    cond (sizesFit (length commands) (length splines) (length bins) (length pulses))
+    cond (sizes_fit (length commands) (length splines) (length bins) (length pulses))
     (ran 0 t splines commands bins pulses)
-    (ranTo (refusedAt t WrongSize 0) bins pulses)
+    (ran_to (refused_at t WrongSize 0) bins pulses)

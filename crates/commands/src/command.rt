@@ -1,6 +1,6 @@
 // Commands by value. The Rust's `ElementVariant` and its cases in src/schedule; `Arranged` has the start and the span beside it.
 ghost use Rattle.std.specs.Prelude.{◌≡◌};
-ghost use Rattle.commands.specs.Command.{goodNames, goodNumbers, good, wellFormed, required, tooLong};
+ghost use Rattle.commands.specs.Command.{good_names, good_numbers, good, well_formed, required, too_long};
 
 use ieee::finite::is_finite;
 use naming::{Name, is_name};
@@ -43,7 +43,7 @@ pub struct Arranged {
 
 // Whether a command meets no refusal 2.
 pub(crate) fn well_formed(a: Arranged) -> bool
-    ensures { result ≡ wellFormed a }
+    ensures { result ≡ well_formed a }
 {
     let command = a.command;
     let times = both(is_finite(a.start.0), is_finite(a.span.0));
@@ -65,7 +65,7 @@ fn is_good(c: Command) -> bool
 }
 
 fn has_good_names(p: Play) -> bool
-    ensures { result ≡ goodNames p }
+    ensures { result ≡ good_names p }
 {
     let channel = p.channel;
     let shape = p.shape;
@@ -76,7 +76,7 @@ fn has_good_names(p: Play) -> bool
 }
 
 fn has_good_numbers(p: Play) -> bool
-    ensures { result ≡ goodNumbers p }
+    ensures { result ≡ good_numbers p }
 {
     let sizes = both(
         both(is_finite(p.amplitude.0), is_finite(p.width.0)),
@@ -91,7 +91,7 @@ fn has_good_numbers(p: Play) -> bool
 
 // Whether a command takes longer than its span and the tolerance.
 pub(crate) fn is_too_long(t: Tables, a: Arranged) -> bool
-    ensures { result ≡ tooLong t a }
+    ensures { result ≡ too_long t a }
 {
     if t.oversize {
         return false;

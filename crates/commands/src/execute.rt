@@ -2,7 +2,7 @@
 // `execute` takes slices of structs and is proved by hand; all else is covered.
 ghost use Rattle.std.specs.Prelude.{◌≡◌};
 ghost use Rattle.quant.specs.declared.refusal.Refusal.TheVariants.{WrongSize};
-ghost use Rattle.commands.specs.Run.{ranTo, executed, sizesFit, doneAt, refusedAt};
+ghost use Rattle.commands.specs.Run.{ran_to, executed, sizes_fit, done_at, refused_at};
 
 use super::command::Arranged;
 use super::run::act;
@@ -20,7 +20,7 @@ pub fn execute(
     bins: &mut [[f64; 77]],
     pulses: &mut [Pulse],
 ) -> Tabled
-    ensures { ranTo result bins.new pulses.new ≡ executed t splines.now commands.now bins.old pulses.old }
+    ensures { ran_to result bins.new pulses.new ≡ executed t splines.now commands.now bins.old pulses.old }
 {
     if !sizes_fit(commands.len(), splines.len(), bins.len(), pulses.len()) {
         return misfit(t);
@@ -43,7 +43,7 @@ pub fn execute(
 }
 
 pub(crate) fn sizes_fit(commands: usize, splines: usize, bins: usize, pulses: usize) -> bool
-    ensures { result ≡ sizesFit commands splines bins pulses }
+    ensures { result ≡ sizes_fit commands splines bins pulses }
 {
     let tables = both(both(commands <= 1024, splines == 8), bins == 512);
     both(tables, pulses == 8192)
@@ -51,7 +51,7 @@ pub(crate) fn sizes_fit(commands: usize, splines: usize, bins: usize, pulses: us
 
 // The three ways to end.
 pub(crate) fn done(t: Tables, run: usize) -> Tabled
-    ensures { result ≡ doneAt t run }
+    ensures { result ≡ done_at t run }
 {
     Tabled {
         answer: Answer::Done(run),
@@ -60,7 +60,7 @@ pub(crate) fn done(t: Tables, run: usize) -> Tabled
 }
 
 pub(crate) fn refused(t: Tables, why: Refusal, run: usize) -> Tabled
-    ensures { result ≡ refusedAt t why run }
+    ensures { result ≡ refused_at t why run }
 {
     Tabled {
         answer: Answer::Refused(why, run),
@@ -69,7 +69,7 @@ pub(crate) fn refused(t: Tables, why: Refusal, run: usize) -> Tabled
 }
 
 pub(crate) fn misfit(t: Tables) -> Tabled
-    ensures { result ≡ refusedAt t WrongSize 0 }
+    ensures { result ≡ refused_at t WrongSize 0 }
 {
     refused(t, Refusal::WrongSize, 0)
 }

@@ -1,8 +1,8 @@
 // A play, and the pulse that it stores. The Rust's `execute_play`, `add_pulse` and `ListBuilder::push`.
 ghost use Rattle.std.specs.Prelude.{◌≡◌, ◌+◌, ◌*◌, ◌<◌, ◌≤◌, true, ◌&&◌, ◌||◌, cond, ◌++◌, leb, ltb, length};
-ghost use Rattle.tables.specs.Tables.{channelAt};
-ghost use Rattle.commands.specs.Play.{grown, stores, stored_at, plateauOf, envelopeFor, binWith, splineFor, pushed, playedAs, played};
-ghost use Rattle.commands.specs.Step.{numbersAt};
+ghost use Rattle.tables.specs.Tables.{channel_at};
+ghost use Rattle.commands.specs.Play.{grown, stores, stored_at, plateau_of, envelope_for, bin_with, spline_for, pushed, played_as, played};
+ghost use Rattle.commands.specs.Step.{numbers_at};
 ghost use Rattle.pulse.specs.Bin.{kind_of, place_of};
 
 use super::command::Play;
@@ -43,7 +43,7 @@ pub(crate) fn play(
 // What the name at a place stands for.
 fn kind_at(splines: &[[f64; 72]], k: usize) -> Shape
     requires { k < length splines.now }
-    ensures { result ≡ kind_of (numbersAt splines.now k) }
+    ensures { result ≡ kind_of (numbers_at splines.now k) }
 {
     kind_of(splines[k])
 }
@@ -60,7 +60,7 @@ fn play_as(
     k: usize,
 ) -> Step
     requires { (length splines.now ≡ 8) × (length bins.now ≡ 512) }
-    ensures { result ≡ playedAs t splines.now bins.now start.0 span.0 p kind k }
+    ensures { result ≡ played_as t splines.now bins.now start.0 span.0 p kind k }
 {
     if plateau_of(p, span).0 < 0.0 {
         return stops(t, Refusal::NegativePlateau);
@@ -89,8 +89,8 @@ fn push(
     k: usize,
 ) -> Step
     requires i_bound { (i < 8) × (length splines.now ≡ 8) × (length bins.now ≡ 512) }
-    requires c_value { c ≡ channelAt t i }
-    ensures { result ≡ pushed t splines.now bins.now i start.0 p (binWith c.osc kind p span.0) k }
+    requires c_value { c ≡ channel_at t i }
+    ensures { result ≡ pushed t splines.now bins.now i start.0 p (bin_with c.osc kind p span.0) k }
 {
     let osc = c.osc;
     let b = bin_with(osc, kind, p, span);
@@ -120,7 +120,7 @@ fn push(
 
 // The place of the numbers that go along with a bin: those of a spline.
 fn spline_for(shape: Shape, k: usize) -> usize
-    ensures { result ≡ splineFor shape k }
+    ensures { result ≡ spline_for shape k }
 {
     match shape {
         Shape::Plain => 8,
@@ -141,7 +141,7 @@ fn store_at(
     spline: usize,
 ) -> Step
     requires i_bound { (i < 8) × (length splines.now ≡ 8) × (length bins.now ≡ 512) }
-    requires c_value { c ≡ channelAt t i }
+    requires c_value { c ≡ channel_at t i }
     ensures { result ≡ stored_at t splines.now bins.now i start.0 w head spline }
 {
     let many = at_most_64(c.bins);
@@ -157,7 +157,7 @@ fn store_at(
 // Where a bin stands among some rows. Only behind a spline's head the numbers are read, so that no others are copied.
 fn place_with(splines: &[[f64; 72]], spline: usize, head: [f64; 5], rows: &[[f64; 77]]) -> usize
     requires { length splines.now ≡ 8 }
-    ensures { result ≡ place_of (head ++ numbersAt splines.now spline) rows.now }
+    ensures { result ≡ place_of (head ++ numbers_at splines.now spline) rows.now }
 {
     if head[0] == 2.0 {
         let numbers = numbers_at(splines, spline);
@@ -169,7 +169,7 @@ fn place_with(splines: &[[f64; 72]], spline: usize, head: [f64; 5], rows: &[[f64
 // The numbers at a place of the shapes' rows, and zeros behind the last.
 pub(crate) fn numbers_at(splines: &[[f64; 72]], k: usize) -> [f64; 72]
     requires { length splines.now ≡ 8 }
-    ensures { result ≡ numbersAt splines.now k }
+    ensures { result ≡ numbers_at splines.now k }
 {
     if k < 8 {
         return splines[k];
@@ -208,7 +208,7 @@ fn stores(
     spline: usize,
 ) -> Step
     requires i_bound { (i < 8) × (at ≤ 64) }
-    requires c_value { c ≡ channelAt t i }
+    requires c_value { c ≡ channel_at t i }
     requires bins_bound { (new ≡ true → c.bins < 64) × (c.pulses < 1024) }
     ensures { result ≡ stores t i at new start.0 w head spline }
 {
@@ -251,7 +251,7 @@ fn grown(c: Channel, new: bool) -> Channel
 }
 
 fn bin_with(osc: OscState, kind: Shape, p: Play, span: Time) -> Bin
-    ensures { result ≡ binWith osc kind p span.0 }
+    ensures { result ≡ bin_with osc kind p span.0 }
 {
     let envelope = envelope_for(kind, p, span);
     let global = osc.total_freq();
@@ -264,7 +264,7 @@ fn bin_with(osc: OscState, kind: Shape, p: Play, span: Time) -> Bin
 }
 
 fn envelope_for(kind: Shape, p: Play, span: Time) -> Envelope
-    ensures { result ≡ envelopeFor kind p span.0 }
+    ensures { result ≡ envelope_for kind p span.0 }
 {
     let width = p.width;
     let plateau = plateau_of(p, span);
@@ -272,7 +272,7 @@ fn envelope_for(kind: Shape, p: Play, span: Time) -> Envelope
 }
 
 fn plateau_of(p: Play, span: Time) -> Time
-    ensures { result.0 ≡ plateauOf p span.0 }
+    ensures { result.0 ≡ plateau_of p span.0 }
 {
     if p.flexible {
         return span.sub(p.width);

@@ -1,6 +1,6 @@
 // One command, with what it writes into the bins.
 ghost use Rattle.std.specs.Prelude.{◌≡◌, length};
-ghost use Rattle.commands.specs.Step.{binsAfter};
+ghost use Rattle.commands.specs.Step.{bins_after};
 ghost use Rattle.commands.specs.Run.{acted, step_of};
 
 use super::command::{Arranged, Command, is_too_long, well_formed};
@@ -15,7 +15,7 @@ use tables::Tables;
 pub(crate) fn act(t: Tables, splines: &[[f64; 72]], bins: &mut [[f64; 77]], a: Arranged) -> Step
     requires { (length splines.now ≡ 8) × (length bins.old ≡ 512) }
     ensures value { result ≡ step_of t splines.now bins.old a }
-    ensures bins_after { bins.new ≡ binsAfter (step_of t splines.now bins.old a) splines.now bins.old }
+    ensures bins_after { bins.new ≡ bins_after (step_of t splines.now bins.old a) splines.now bins.old }
 {
     let s = step(t, splines, bins, a);
     if s.opens {

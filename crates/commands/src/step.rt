@@ -1,7 +1,7 @@
 // One command's step: what it comes to, decided before anything is written.
 ghost use Rattle.std.specs.Prelude.{◌≡◌, ◌<◌};
-ghost use Rattle.tables.specs.Tables.{found, channelAt};
-ghost use Rattle.commands.specs.Step.{noPulse, stops, goesOn, unlessRefused, withOsc, turned, unmoved, movedBy, turnedAt, swappedTo, swappedBetween};
+ghost use Rattle.tables.specs.Tables.{found, channel_at};
+ghost use Rattle.commands.specs.Step.{no_pulse, stops, goes_on, unless_refused, with_osc, turned, unmoved, moved_by, turned_at, swapped_to, swapped_between};
 
 use super::command::Command;
 use executor::osc::{Moved, OscState, Swapped, swap_phase};
@@ -50,7 +50,7 @@ pub(crate) fn stops(t: Tables, why: Refusal) -> Step
 }
 
 pub(crate) fn goes_on(t: Tables) -> Step
-    ensures { result ≡ goesOn t }
+    ensures { result ≡ goes_on t }
 {
     let pulse = no_pulse();
     let head = [0.0; 5];
@@ -71,7 +71,7 @@ pub(crate) fn goes_on(t: Tables) -> Step
 
 // A command to one channel's oscillator.
 pub(crate) fn turn(t: Tables, name: Name, c: Command, time: Time) -> Step
-    ensures { result ≡ turnedAt t (found t name) c time.0 }
+    ensures { result ≡ turned_at t (found t name) c time.0 }
 {
     match find(t, name) {
         Found::At(i) => {
@@ -83,7 +83,7 @@ pub(crate) fn turn(t: Tables, name: Name, c: Command, time: Time) -> Step
 }
 
 pub(crate) fn swap(t: Tables, n: Name, m: Name, time: Time) -> Step
-    ensures { result ≡ swappedBetween t n m time.0 }
+    ensures { result ≡ swapped_between t n m time.0 }
 {
     if same(n, m) {
         return goes_on(t);
@@ -98,8 +98,8 @@ pub(crate) fn swap(t: Tables, n: Name, m: Name, time: Time) -> Step
 }
 
 fn turn_at(t: Tables, i: usize, channel: Channel, c: Command, time: Time) -> Step
-    requires { channel ≡ channelAt t i }
-    ensures { result ≡ turned t i (movedBy c time.0 channel.osc) }
+    requires { channel ≡ channel_at t i }
+    ensures { result ≡ turned t i (moved_by c time.0 channel.osc) }
 {
     let was = channel.osc;
     let m = moved_by(c, time, was);
@@ -114,7 +114,7 @@ fn turn_at(t: Tables, i: usize, channel: Channel, c: Command, time: Time) -> Ste
 
 fn swap_to(t: Tables, i: usize, j: usize, s: Swapped) -> Step
     requires { (i < 8) × (j < 8) }
-    ensures { result ≡ swappedTo t i j s }
+    ensures { result ≡ swapped_to t i j s }
 {
     let one = s.one;
     let two = s.two;
@@ -123,7 +123,7 @@ fn swap_to(t: Tables, i: usize, j: usize, s: Swapped) -> Step
 
 // The tables afterwards, or the tables that came and refusal 8.
 fn unless_refused(refused: bool, t: Tables, after: Tables) -> Step
-    ensures { result ≡ unlessRefused refused t after }
+    ensures { result ≡ unless_refused refused t after }
 {
     if refused {
         return stops(t, Refusal::NotFinite);
@@ -133,7 +133,7 @@ fn unless_refused(refused: bool, t: Tables, after: Tables) -> Step
 
 // What a command does to an oscillator at a time. Those that are no command to one oscillator leave it.
 fn moved_by(c: Command, time: Time, osc: OscState) -> Moved
-    ensures { result ≡ movedBy c time.0 osc }
+    ensures { result ≡ moved_by c time.0 osc }
 {
     match c {
         Command::ShiftPhase(_, x) => osc.shift_phase(x),
@@ -158,7 +158,7 @@ fn unmoved(osc: OscState) -> Moved
 // The oscillator of the channel at a place.
 fn osc_at(t: Tables, i: usize) -> OscState
     requires { i < 8 }
-    ensures { result ≡ (channelAt t i).osc }
+    ensures { result ≡ (channel_at t i).osc }
 {
     let c = t.channels[i];
     c.osc
@@ -166,7 +166,7 @@ fn osc_at(t: Tables, i: usize) -> OscState
 
 fn with_osc(t: Tables, i: usize, osc: OscState) -> Tables
     requires { i < 8 }
-    ensures { result ≡ withOsc t i osc }
+    ensures { result ≡ with_osc t i osc }
 {
     let mut c = t.channels[i];
     c.osc = osc;
@@ -174,7 +174,7 @@ fn with_osc(t: Tables, i: usize, osc: OscState) -> Tables
 }
 
 fn no_pulse() -> Pulse
-    ensures { result ≡ noPulse }
+    ensures { result ≡ no_pulse }
 {
     let nought = Complex { re: 0.0, im: 0.0 };
     Pulse {

@@ -12,7 +12,7 @@ use lib.ListN.{length, take, drop, set, length-take, length-drop}
 use lib.Seq.{get_or-set_same, take-suc-set, take-set-lt, drop-set-add}
 use Rattle.exact.proofs.Truth.{both}
 use Rattle.naming.specs.declared.Name.{Name}
-use Rattle.naming.specs.Name.{isName, same_name}
+use Rattle.naming.specs.Name.{is_name, same_name}
 use Rattle.naming.proofs.Named.{same-exactly}
 use Rattle.executor.specs.declared.osc.OscState.{OscState}
 use Rattle.pulse.specs.declared.list.Pulse.{Pulse}
@@ -22,18 +22,18 @@ use Rattle.pulse.proofs.Stored.{stored-list}
 use Rattle.tables.specs.declared.Channel.{Channel}
 use Rattle.tables.specs.declared.Tables.{Tables}
 use Rattle.tables.specs.declared.Found.TheVariants.{At}
-use Rattle.tables.specs.Tables.{found, noName, noChannel, channelAt, withChannel}
+use Rattle.tables.specs.Tables.{found, no_name, no_channel, channel_at, with_channel}
 use Rattle.tables.proofs.Finding.{found-eight}
 use Rattle.commands.specs.declared.command.Command.{Command}
 use Rattle.commands.specs.declared.command.Command.TheVariants as C
 use Rattle.commands.specs.declared.command.Arranged.{Arranged}
 use Rattle.commands.specs.declared.step.Step.{Step}
-use Rattle.commands.specs.Step.{numbersAt, binsAfter, pulsesAfter, withOsc}
-use Rattle.commands.specs.Play.{rows_of, grown, pulseAt, stores}
-use Rattle.commands.specs.Run.{Ran, ranTo, refusedAt, step_of, ran, executed}
+use Rattle.commands.specs.Step.{numbers_at, bins_after, pulses_after, with_osc}
+use Rattle.commands.specs.Play.{rows_of, grown, pulse_at, stores}
+use Rattle.commands.specs.Run.{Ran, ran_to, refused_at, step_of, ran, executed}
 use Rattle.commands_laws.specs.Sound.{list_of, Sound}
-use Rattle.commands.specs.Command.{named, isSwap}
-use Rattle.commands_laws.specs.Apart.{isFor, onlyFor, noSwaps, isDone, SameTo}
+use Rattle.commands.specs.Command.{named, is_swap}
+use Rattle.commands_laws.specs.Apart.{is_for, only_for, no_swaps, is_done, SameTo}
 use Rattle.commands.proofs.Cases as Cases
 use Rattle.commands.proofs.Cases.{Kind, step-kind}
 use Rattle.commands_laws.proofs.Own.{View, view_of, Own, refuses, same, turns, puts, realize, own, own-step}
@@ -44,10 +44,10 @@ use Rattle.commands_laws.proofs.Sound.{step-sound}
 -- ---- what holds of a pulse that is stored
 
 record PutFacts (t : Tables) (bins : List (List Float)) (i : ℕ) (s : Step) : Type 0 where
-  most : s.pulse.bin ≤ (channelAt t i).bins
-  room : s.opens ≡ true → (channelAt t i).bins < 64
+  most : s.pulse.bin ≤ (channel_at t i).bins
+  room : s.opens ≡ true → (channel_at t i).bins < 64
   last : s.opens ≡ true → length (rows_of t bins i) ≤ s.pulse.bin
-  few : (channelAt t i).pulses < 1024
+  few : (channel_at t i).pulses < 1024
 
 at-inj : {i j : ℕ} → At i ≡ At j → i ≡ j
 at-inj e = cc
@@ -67,8 +67,8 @@ module _ (n : Name) (i : ℕ) (t : Tables) (bins : List (List Float)) (pulses : 
   under : i < 8
   under = found-eight t n i h.eight here
 
-  set_here : (c : Channel) → channelAt (withChannel t i c) i ≡ c
-  set_here c = get_or-set_same t.channels i c noChannel (omega (arith, under, h.eight))
+  set_here : (c : Channel) → channel_at (with_channel t i c) i ≡ c
+  set_here c = get_or-set_same t.channels i c no_channel (omega (arith, under, h.eight))
 
   abbrev zone : List (List Float)
   zone = take 64 (drop (64 * i) bins)
@@ -78,12 +78,12 @@ module _ (n : Name) (i : ℕ) (t : Tables) (bins : List (List Float)) (pulses : 
 
   module _ (splines : List (List Float)) (place : ℕ) (new : Bool) (time : Float) (w : Weight) (head : List Float) (spline : ℕ) (facts : PutFacts t bins i (stores t i place new time w head spline)) where
     abbrev row : List Float
-    row = head ++ numbersAt splines spline
+    row = head ++ numbers_at splines spline
 
     abbrev c : Channel
-    c = channelAt t i
+    c = channel_at t i
 
-    after : (b : Bool) → new ≡ b → rows_of (withChannel t i (grown c b)) (cond b (set bins (64 * i + place) row) bins) i ≡ cond b (rows_of t bins i ++ row ∷ []) (rows_of t bins i)
+    after : (b : Bool) → new ≡ b → rows_of (with_channel t i (grown c b)) (cond b (set bins (64 * i + place) row) bins) i ≡ cond b (rows_of t bins i ++ row ∷ []) (rows_of t bins i)
     after true e =
         let below = facts.room e in
         let most = facts.most in
@@ -94,11 +94,11 @@ module _ (n : Name) (i : ℕ) (t : Tables) (bins : List (List Float)) (pulses : 
         (take-suc-set zone c.bins row (omega (arith, zone-long)))
     after false e = let at = ap (λ (x : Channel). x.bins) (set_here (grown c false)) in rw at
 
-    list-after : list_of (withChannel t i (grown c new)) (stored (1024 * i) c.pulses (pulseAt place time w) pulses) i ≡ placed (pulseAt place time w) (list_of t pulses i)
+    list-after : list_of (with_channel t i (grown c new)) (stored (1024 * i) c.pulses (pulse_at place time w) pulses) i ≡ placed (pulse_at place time w) (list_of t pulses i)
     list-after =
         let few = facts.few in
         let at = ap (λ (x : Channel). x.pulses) (set_here (grown c new)) in
-        rw at (stored-list (1024 * i) c.pulses (pulseAt place time w) pulses (omega (arith, under, h.records)))
+        rw at (stored-list (1024 * i) c.pulses (pulse_at place time w) pulses (omega (arith, under, h.records)))
 
 -- ---- two channels that look the same, after the same step
 
@@ -107,9 +107,9 @@ module _ (n : Name) (i : ℕ) (t u : Tables) (splines bins rows : List (List Flo
   view-same = λ x. record { amp = s.amp x; time = s.time x; oversize = s.oversize x; shapes = s.shapes x; splines = splines; channel = s.channel x; rows = s.its-rows x }
 
   -- with the same new record in both
-  with-same : (c d : Channel) → c ≡ d → c.name ≡ (channelAt t i).name → d.name ≡ (channelAt u i).name → (a b : List (List Float)) (p q : List Pulse)
-      → rows_of (withChannel t i c) a i ≡ rows_of (withChannel u i d) b i → list_of (withChannel t i c) p i ≡ list_of (withChannel u i d) q i
-      → SameTo n i (withChannel t i c) (withChannel u i d) a b p q
+  with-same : (c d : Channel) → c ≡ d → c.name ≡ (channel_at t i).name → d.name ≡ (channel_at u i).name → (a b : List (List Float)) (p q : List Pulse)
+      → rows_of (with_channel t i c) a i ≡ rows_of (with_channel u i d) b i → list_of (with_channel t i c) p i ≡ list_of (with_channel u i d) q i
+      → SameTo n i (with_channel t i c) (with_channel u i d) a b p q
   with-same c d alike named-t named-u a b p q its-rows its-list =
       record {
         here = found-stays t i c named-t n ∙ s.here;
@@ -124,13 +124,13 @@ module _ (n : Name) (i : ℕ) (t u : Tables) (splines bins rows : List (List Flo
       }
 
   abbrev After : Step → Step → Type 0
-  After x y = SameTo n i x.tables y.tables (binsAfter x splines bins) (binsAfter y splines rows) (pulsesAfter x pulses) (pulsesAfter y records)
+  After x y = SameTo n i x.tables y.tables (bins_after x splines bins) (bins_after y splines rows) (pulses_after x pulses) (pulses_after y records)
 
-  turned : (o : OscState) → SameTo n i (withOsc t i o) (withOsc u i o) bins rows pulses records
+  turned : (o : OscState) → SameTo n i (with_osc t i o) (with_osc u i o) bins rows pulses records
   turned o =
       let turn : Channel → Channel = λ (x : Channel). record { name = x.name; osc = o; bins = x.bins; pulses = x.pulses } in
-      let c = turn (channelAt t i) in
-      let d = turn (channelAt u i) in
+      let c = turn (channel_at t i) in
+      let d = turn (channel_at u i) in
       let at = set_here n i t bins pulses h s.here c in
       let there = set_here n i u rows records k s.there d in
       with-same c d (ap turn s.channel) refl refl bins rows pulses records
@@ -141,13 +141,13 @@ module _ (n : Name) (i : ℕ) (t u : Tables) (splines bins rows : List (List Flo
       (g : PutFacts u rows i (stores u i place new time w head spline)) where
     put_same : After (stores t i place new time w head spline) (stores u i place new time w head spline)
     put_same =
-        let p = pulseAt place time w in
-        let row = head ++ numbersAt splines spline in
+        let p = pulse_at place time w in
+        let row = head ++ numbers_at splines spline in
         let its = after n i t bins pulses h s.here splines place new time w head spline f new refl in
         let theirs = after n i u rows records k s.there splines place new time w head spline g new refl in
-        with-same (grown (channelAt t i) new) (grown (channelAt u i) new) (ap (λ (x : Channel). grown x new) s.channel) refl refl
+        with-same (grown (channel_at t i) new) (grown (channel_at u i) new) (ap (λ (x : Channel). grown x new) s.channel) refl refl
         (cond new (set bins (64 * i + place) row) bins) (cond new (set rows (64 * i + place) row) rows)
-        (stored (1024 * i) (channelAt t i).pulses p pulses) (stored (1024 * i) (channelAt u i).pulses p records)
+        (stored (1024 * i) (channel_at t i).pulses p pulses) (stored (1024 * i) (channel_at u i).pulses p records)
         (its ∙ ap (λ (l : List (List Float)). cond new (l ++ row ∷ []) l) s.its-rows ∙ sym theirs)
         (list-after n i t bins pulses h s.here splines place new time w head spline f ∙ ap (placed p) s.its-list ∙ sym (list-after n i u rows records k s.there splines place new time w head spline g))
 
@@ -176,7 +176,7 @@ module _ (n : Name) (i : ℕ) (t u : Tables) (splines bins rows : List (List Flo
       let both : Alongside (realize t i x) (realize u i x) = record { stop = stops-alike x; goes_on = realized x at-t at-u } in
       subst (λ (z : Step). Alongside z q) (sym e) (subst (λ (z : Step). Alongside (realize t i x) z) (sym f) both)
 
-  own-alike : (a : Arranged) → isSwap a.command ≡ false → named a.command ≡ n → Alongside (step_of t splines bins a) (step_of u splines rows a)
+  own-alike : (a : Arranged) → is_swap a.command ≡ false → named a.command ≡ n → Alongside (step_of t splines bins a) (step_of u splines rows a)
   own-alike a single is =
       let at-t : found t (named a.command) ≡ At i = ap (found t) is ∙ s.here in
       let at-u : found u (named a.command) ≡ At i = ap (found u) is ∙ s.there in
@@ -189,26 +189,26 @@ module _ (n : Name) (i : ℕ) (t u : Tables) (splines bins rows : List (List Flo
 -- ---- a list of commands
 
 -- a good name is not the empty one, so a barrier is for no channel
-empty-not : isName noName ≡ false
-unfolding isName
+empty-not : is_name no_name ≡ false
+unfolding is_name
 empty-not = refl
 
-no-empty : (n : Name) → isName n ≡ true → (b : Bool) → same_name noName n ≡ b → b ≡ false
-no-empty n good true e = absurd (true≢false (sym good ∙ ap isName (sym ((same-exactly noName n).0 e)) ∙ empty-not))
+no-empty : (n : Name) → is_name n ≡ true → (b : Bool) → same_name no_name n ≡ b → b ≡ false
+no-empty n good true e = absurd (true≢false (sym good ∙ ap is_name (sym ((same-exactly no_name n).0 e)) ∙ empty-not))
 no-empty n good false e = refl
 
-not-for : (n : Name) → isName n ≡ true → (c : Command) → isSwap c ≡ false → isFor n c ≡ false → same_name (named c) n ≡ false
-unfolding isSwap isFor
+not-for : (n : Name) → is_name n ≡ true → (c : Command) → is_swap c ≡ false → is_for n c ≡ false → same_name (named c) n ≡ false
+unfolding is_swap is_for
 not-for n good (C.Play p) e f = f
 not-for n good (C.ShiftPhase m x) e f = f
 not-for n good (C.SetPhase m x) e f = f
 not-for n good (C.ShiftFreq m x) e f = f
 not-for n good (C.SetFreq m x) e f = f
 not-for n good (C.SwapPhase a b) e f = absurd (true≢false e)
-not-for n good C.Barrier e f = no-empty n good (same_name noName n) refl
+not-for n good C.Barrier e f = no-empty n good (same_name no_name n) refl
 
-is-for : (n : Name) (c : Command) → isSwap c ≡ false → isFor n c ≡ true → named c ≡ n
-unfolding isSwap isFor
+is-for : (n : Name) (c : Command) → is_swap c ≡ false → is_for n c ≡ true → named c ≡ n
+unfolding is_swap is_for
 is-for n (C.Play p) e f = (same-exactly p.channel n).0 f
 is-for n (C.ShiftPhase m x) e f = (same-exactly m n).0 f
 is-for n (C.SetPhase m x) e f = (same-exactly m n).0 f
@@ -219,20 +219,20 @@ is-for n C.Barrier e f = absurd (true≢false (sym f))
 
 -- two runs that end alike: both done, and the channel looks the same
 pub record EndAlike (n : Name) (i : ℕ) (r q : Ran) : Type 0 where
-  pub done : isDone q.result.answer ≡ true
+  pub done : is_done q.result.answer ≡ true
   pub same : SameTo n i r.result.tables q.result.tables r.bins q.bins r.pulses q.pulses
 
-module _ (n : Name) (good : isName n ≡ true) (i : ℕ) where
+module _ (n : Name) (good : is_name n ≡ true) (i : ℕ) where
   alone : (j k : ℕ) (t u : Tables) (splines : List (List Float)) (commands : List Arranged) (bins rows : List (List Float)) (pulses records : List Pulse)
-      → Sound t bins pulses → Sound u rows records → SameTo n i t u bins rows pulses records → noSwaps commands ≡ true
-      → isDone (ran j t splines commands bins pulses).result.answer ≡ true
-      → EndAlike n i (ran j t splines commands bins pulses) (ran k u splines (onlyFor n commands) rows records)
-  unfolding ran onlyFor noSwaps isDone
+      → Sound t bins pulses → Sound u rows records → SameTo n i t u bins rows pulses records → no_swaps commands ≡ true
+      → is_done (ran j t splines commands bins pulses).result.answer ≡ true
+      → EndAlike n i (ran j t splines commands bins pulses) (ran k u splines (only_for n commands) rows records)
+  unfolding ran only_for no_swaps is_done
   alone j k t u splines [] bins rows pulses records h g s free done = record { done = refl; same = s }
   alone j k t u splines (a ∷ more) bins rows pulses records h g s free done =
-      by_name (isFor n a.command) refl
-      (alone (suc j) k p.tables u splines more (binsAfter p splines bins) rows (pulsesAfter p pulses) records (step-sound t bins pulses h splines a) g)
-      (alone (suc j) (suc k) p.tables q.tables splines more (binsAfter p splines bins) (binsAfter q splines rows) (pulsesAfter p pulses) (pulsesAfter q records) (step-sound t bins pulses h splines a) (step-sound u rows records g splines a))
+      by_name (is_for n a.command) refl
+      (alone (suc j) k p.tables u splines more (bins_after p splines bins) rows (pulses_after p pulses) records (step-sound t bins pulses h splines a) g)
+      (alone (suc j) (suc k) p.tables q.tables splines more (bins_after p splines bins) (bins_after q splines rows) (pulses_after p pulses) (pulses_after q records) (step-sound t bins pulses h splines a) (step-sound u rows records g splines a))
     where
       p : Step
       p = step_of t splines bins a
@@ -241,37 +241,37 @@ module _ (n : Name) (good : isName n ≡ true) (i : ℕ) where
       q = step_of u splines rows a
 
       later : Ran
-      later = ran (suc j) p.tables splines more (binsAfter p splines bins) (pulsesAfter p pulses)
+      later = ran (suc j) p.tables splines more (bins_after p splines bins) (pulses_after p pulses)
 
       theirs : Ran
-      theirs = ran (suc k) q.tables splines (onlyFor n more) (binsAfter q splines rows) (pulsesAfter q records)
+      theirs = ran (suc k) q.tables splines (only_for n more) (bins_after q splines rows) (pulses_after q records)
 
-      parts : (not (isSwap a.command) ≡ true) × (noSwaps more ≡ true)
-      parts = both (not (isSwap a.command)) (noSwaps more) free
+      parts : (not (is_swap a.command) ≡ true) × (no_swaps more ≡ true)
+      parts = both (not (is_swap a.command)) (no_swaps more) free
 
-      single : isSwap a.command ≡ false
-      single = not-true (isSwap a.command) parts.0
+      single : is_swap a.command ≡ false
+      single = not-true (is_swap a.command) parts.0
 
       -- the step does not stop, since the run is done
-      no_stop : (b : Bool) → isDone (cond b (ranTo (refusedAt t p.why j) bins pulses) later).result.answer ≡ true → b ≡ false
+      no_stop : (b : Bool) → is_done (cond b (ran_to (refused_at t p.why j) bins pulses) later).result.answer ≡ true → b ≡ false
       no_stop true e = sym e
       no_stop false e = refl
 
       goes_on : p.stop ≡ false
       goes_on = no_stop p.stop done
 
-      done' : isDone later.result.answer ≡ true
+      done' : is_done later.result.answer ≡ true
       done' = rw goes_on at done
 
-      by_name : (b : Bool) → isFor n a.command ≡ b
-          → (SameTo n i p.tables u (binsAfter p splines bins) rows (pulsesAfter p pulses) records → noSwaps more ≡ true → isDone later.result.answer ≡ true
-          → EndAlike n i later (ran k u splines (onlyFor n more) rows records))
-          → (SameTo n i p.tables q.tables (binsAfter p splines bins) (binsAfter q splines rows) (pulsesAfter p pulses) (pulsesAfter q records) → noSwaps more ≡ true
-          → isDone later.result.answer ≡ true → EndAlike n i later theirs)
-          → EndAlike n i (cond p.stop (ranTo (refusedAt t p.why j) bins pulses) later) (ran k u splines (cond b (a ∷ onlyFor n more) (onlyFor n more)) rows records)
+      by_name : (b : Bool) → is_for n a.command ≡ b
+          → (SameTo n i p.tables u (bins_after p splines bins) rows (pulses_after p pulses) records → no_swaps more ≡ true → is_done later.result.answer ≡ true
+          → EndAlike n i later (ran k u splines (only_for n more) rows records))
+          → (SameTo n i p.tables q.tables (bins_after p splines bins) (bins_after q splines rows) (pulses_after p pulses) (pulses_after q records) → no_swaps more ≡ true
+          → is_done later.result.answer ≡ true → EndAlike n i later theirs)
+          → EndAlike n i (cond p.stop (ran_to (refused_at t p.why j) bins pulses) later) (ran k u splines (cond b (a ∷ only_for n more) (only_for n more)) rows records)
       by_name false e other own' =
           let left = unmoved n i t bins pulses h s.here splines a.command p single (not-for n good a.command single e) (step-kind t splines bins a) goes_on in
-          rw goes_on (other (same_then n i p.tables t u (binsAfter p splines bins) bins rows (pulsesAfter p pulses) pulses records left s) parts.1 done')
+          rw goes_on (other (same_then n i p.tables t u (bins_after p splines bins) bins rows (pulses_after p pulses) pulses records left s) parts.1 done')
       by_name true e other own' =
           let both = own-alike n i t u splines bins rows pulses records h g s a single (is-for n a.command single e) in
           let stop' : q.stop ≡ false = both.stop ∙ goes_on in
@@ -279,22 +279,22 @@ module _ (n : Name) (good : isName n ≡ true) (i : ℕ) where
 
 -- ---- the law
 
-few-for : (n : Name) (commands : List Arranged) → length (onlyFor n commands) ≤ length commands
-unfolding onlyFor
+few-for : (n : Name) (commands : List Arranged) → length (only_for n commands) ≤ length commands
+unfolding only_for
 few-for n [] = omega arith
-few-for n (a ∷ more) = go (isFor n a.command) (few-for n more)
+few-for n (a ∷ more) = go (is_for n a.command) (few-for n more)
   where
-    go : (b : Bool) → length (onlyFor n more) ≤ length more → length (cond b (a ∷ onlyFor n more) (onlyFor n more)) ≤ suc (length more)
+    go : (b : Bool) → length (only_for n more) ≤ length more → length (cond b (a ∷ only_for n more) (only_for n more)) ≤ suc (length more)
     go true h = omega arith
     go false h = omega arith
 
 -- Where a call without swaps is done, a call with only the commands for the channel n and the same shapes' rows is done too, and the channel's
 -- state and counts, its bins' rows and its records are the same after both.
-pub channels-apart : (n : Name) (i : ℕ) (t : Tables) (splines : List (List Float)) (commands : List Arranged) (bins : List (List Float)) (pulses : List Pulse) → isName n ≡ true
-    → found t n ≡ At i → Sound t bins pulses → length splines ≡ 8 → length commands ≤ 1024 → noSwaps commands ≡ true → isDone (executed t splines commands bins pulses).result.answer ≡ true
-    → EndAlike n i (executed t splines commands bins pulses) (executed t splines (onlyFor n commands) bins pulses)
-channels-apart n i t splines commands bins pulses good here h shapes few free done =
+pub channels_apart : (n : Name) (i : ℕ) (t : Tables) (splines : List (List Float)) (commands : List Arranged) (bins : List (List Float)) (pulses : List Pulse) → is_name n ≡ true
+    → found t n ≡ At i → Sound t bins pulses → length splines ≡ 8 → length commands ≤ 1024 → no_swaps commands ≡ true → is_done (executed t splines commands bins pulses).result.answer ≡ true
+    → EndAlike n i (executed t splines commands bins pulses) (executed t splines (only_for n commands) bins pulses)
+channels_apart n i t splines commands bins pulses good here h shapes few free done =
     let whole = fits splines commands bins pulses t few shapes h.rows h.records in
     let less = few-for n commands in
-    rw (whole, fits splines (onlyFor n commands) bins pulses t (omega arith) shapes h.rows h.records)
+    rw (whole, fits splines (only_for n commands) bins pulses t (omega arith) shapes h.rows h.records)
     (alone n good i 0 0 t t splines commands bins bins pulses pulses h h (same-to n i t bins pulses here) free (rw whole at done))

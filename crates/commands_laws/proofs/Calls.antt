@@ -18,20 +18,20 @@ use Rattle.pulse.proofs.Stored.{stored-length}
 use Rattle.tables.specs.declared.Tables.{Tables}
 use Rattle.commands.specs.declared.command.Arranged.{Arranged}
 use Rattle.commands.specs.declared.step.Step.{Step}
-use Rattle.commands.specs.Step.{numbersAt, binsAfter, pulsesAfter}
-use Rattle.commands.specs.Run.{Ran, ranTo, doneAt, refusedAt, step_of, ran, executed}
-use Rattle.commands_laws.specs.Words.{further, countedFrom, secondCall}
+use Rattle.commands.specs.Step.{numbers_at, bins_after, pulses_after}
+use Rattle.commands.specs.Run.{Ran, ran_to, done_at, refused_at, step_of, ran, executed}
+use Rattle.commands_laws.specs.Words.{further, counted_from, second_call}
 
 -- ---- sizes
 
-pub bins-size : (s : Step) (splines bins : List (List Float)) → length (binsAfter s splines bins) ≡ length bins
+pub bins-size : (s : Step) (splines bins : List (List Float)) → length (bins_after s splines bins) ≡ length bins
 bins-size s splines bins = go s.opens
   where
-    go : (b : Bool) → length (cond b (set bins s.at (s.head ++ numbersAt splines s.spline)) bins) ≡ length bins
-    go true = length-set bins s.at (s.head ++ numbersAt splines s.spline)
+    go : (b : Bool) → length (cond b (set bins s.at (s.head ++ numbers_at splines s.spline)) bins) ≡ length bins
+    go true = length-set bins s.at (s.head ++ numbers_at splines s.spline)
     go false = refl
 
-pub pulses-size : (s : Step) (pulses : List Pulse) → length (pulsesAfter s pulses) ≡ length pulses
+pub pulses-size : (s : Step) (pulses : List Pulse) → length (pulses_after s pulses) ≡ length pulses
 pulses-size s pulses = go s.put
   where
     go : (b : Bool) → length (cond b (stored s.from s.count s.pulse pulses) pulses) ≡ length pulses
@@ -46,34 +46,34 @@ pub ran-sizes : (k : ℕ) (t : Tables) (splines : List (List Float)) (commands :
     → Sizes (ran k t splines commands bins pulses) bins pulses
 unfolding ran
 ran-sizes k t splines [] bins pulses = record { rows = refl; records = refl }
-ran-sizes k t splines (a ∷ more) bins pulses = go s.stop (ran-sizes (suc k) s.tables splines more (binsAfter s splines bins) (pulsesAfter s pulses))
+ran-sizes k t splines (a ∷ more) bins pulses = go s.stop (ran-sizes (suc k) s.tables splines more (bins_after s splines bins) (pulses_after s pulses))
   where
     s : Step
     s = step_of t splines bins a
 
-    go : (b : Bool) → Sizes (ran (suc k) s.tables splines more (binsAfter s splines bins) (pulsesAfter s pulses)) (binsAfter s splines bins) (pulsesAfter s pulses)
-        → Sizes (cond b (ranTo (refusedAt t s.why k) bins pulses) (ran (suc k) s.tables splines more (binsAfter s splines bins) (pulsesAfter s pulses))) bins pulses
+    go : (b : Bool) → Sizes (ran (suc k) s.tables splines more (bins_after s splines bins) (pulses_after s pulses)) (bins_after s splines bins) (pulses_after s pulses)
+        → Sizes (cond b (ran_to (refused_at t s.why k) bins pulses) (ran (suc k) s.tables splines more (bins_after s splines bins) (pulses_after s pulses))) bins pulses
     go true h = record { rows = refl; records = refl }
     go false h = record { rows = h.rows ∙ bins-size s splines bins; records = h.records ∙ pulses-size s pulses }
 
 -- ---- the count
 
 pub ran-counted : (n k : ℕ) (t : Tables) (splines : List (List Float)) (commands : List Arranged) (bins : List (List Float)) (pulses : List Pulse)
-    → ran (n + k) t splines commands bins pulses ≡ countedFrom n (ran k t splines commands bins pulses)
+    → ran (n + k) t splines commands bins pulses ≡ counted_from n (ran k t splines commands bins pulses)
 unfolding ran
 ran-counted n k t splines [] bins pulses = refl
 ran-counted n k t splines (a ∷ more) bins pulses =
-    go s.stop (ran-counted n (suc k) s.tables splines more (binsAfter s splines bins) (pulsesAfter s pulses))
+    go s.stop (ran-counted n (suc k) s.tables splines more (bins_after s splines bins) (pulses_after s pulses))
   where
     s : Step
     s = step_of t splines bins a
 
     later : ℕ → Ran
-    later j = ran j s.tables splines more (binsAfter s splines bins) (pulsesAfter s pulses)
+    later j = ran j s.tables splines more (bins_after s splines bins) (pulses_after s pulses)
 
-    go : (b : Bool) → later (n + suc k) ≡ countedFrom n (later (suc k))
-        → cond b (ranTo (refusedAt t s.why (n + k)) bins pulses) (later (suc (n + k)))
-        ≡ countedFrom n (cond b (ranTo (refusedAt t s.why k) bins pulses) (later (suc k)))
+    go : (b : Bool) → later (n + suc k) ≡ counted_from n (later (suc k))
+        → cond b (ran_to (refused_at t s.why (n + k)) bins pulses) (later (suc (n + k)))
+        ≡ counted_from n (cond b (ran_to (refused_at t s.why k) bins pulses) (later (suc k)))
     go true h = refl
     go false h = ap later (sym (add-suc n k)) ∙ h
 
@@ -88,16 +88,16 @@ ran_on : (k : ℕ) (t : Tables) (splines : List (List Float)) (xs ys : List Arra
     → let first = ran k t splines xs bins pulses in ran k t splines (xs ++ ys) bins pulses ≡ on first.result.answer first splines ys
 unfolding ran
 ran_on k t splines [] ys bins pulses = refl
-ran_on k t splines (a ∷ xs) ys bins pulses = go s.stop (ran_on (suc k) s.tables splines xs ys (binsAfter s splines bins) (pulsesAfter s pulses))
+ran_on k t splines (a ∷ xs) ys bins pulses = go s.stop (ran_on (suc k) s.tables splines xs ys (bins_after s splines bins) (pulses_after s pulses))
   where
     s : Step
     s = step_of t splines bins a
 
     later : List Arranged → Ran
-    later l = ran (suc k) s.tables splines l (binsAfter s splines bins) (pulsesAfter s pulses)
+    later l = ran (suc k) s.tables splines l (bins_after s splines bins) (pulses_after s pulses)
 
     ended : Ran
-    ended = ranTo (refusedAt t s.why k) bins pulses
+    ended = ran_to (refused_at t s.why k) bins pulses
 
     go : (b : Bool) → later (xs ++ ys) ≡ on (later xs).result.answer (later xs) splines ys
         → cond b ended (later (xs ++ ys)) ≡ on (cond b ended (later xs)).result.answer (cond b ended (later xs)) splines ys
@@ -112,14 +112,14 @@ fits splines commands bins pulses t few shapes rows records = rw (le-leb (length
 
 module _ (t : Tables) (splines : List (List Float)) (xs ys : List Arranged) (bins : List (List Float)) (pulses : List Pulse) (few : length (xs ++ ys) ≤ 1024) (shapes : length splines ≡ 8) (rows : length bins ≡ 512) (records : length pulses ≡ 8192) where
   -- running a list in two calls, at any cut, is running it in one
-  pub in-two-calls : let first = executed t splines xs bins pulses in executed t splines (xs ++ ys) bins pulses ≡ secondCall first.result.answer first splines ys
-  unfolding secondCall
-  in-two-calls =
+  pub in_two-calls : let first = executed t splines xs bins pulses in executed t splines (xs ++ ys) bins pulses ≡ second_call first.result.answer first splines ys
+  unfolding second_call
+  in_two-calls =
       let first = ran 0 t splines xs bins pulses in
       let long = length-append xs ys in
       rw (fits splines (xs ++ ys) bins pulses t few shapes rows records, fits splines xs bins pulses t (omega arith) shapes rows records) (ran_on 0 t splines xs ys bins pulses ∙ go first.result.answer first (ran-sizes 0 t splines xs bins pulses))
     where
-      go : (a : Answer) (first : Ran) → Sizes first bins pulses → on a first splines ys ≡ secondCall a first splines ys
+      go : (a : Answer) (first : Ran) → Sizes first bins pulses → on a first splines ys ≡ second_call a first splines ys
       go (Refused r k) first h = refl
       go (Done n) first h =
           let long = length-append xs ys in
@@ -130,8 +130,8 @@ module _ (t : Tables) (splines : List (List Float)) (xs ys : List Arranged) (bin
 -- ---- a refused call
 
 -- what is left where a run was refused after m commands, as the end of a run that was done
-abbrev pub asDone : ℕ → Ran → Ran
-asDone m r = ranTo (doneAt r.result.tables m) r.bins r.pulses
+abbrev pub as_done : ℕ → Ran → Ran
+as_done m r = ran_to (done_at r.result.tables m) r.bins r.pulses
 
 done-not : {k n : ℕ} {r : Refusal} → Done k ≡ Refused r n → ⊥
 done-not e = let z : ◌≡◌ {A = ℕ} 0 1 = cc in omega arith
@@ -146,37 +146,37 @@ one_earlier (Refused q k) r m e = let place : 1 + k ≡ m = cc in let why : q �
 
 ran-refused : (t : Tables) (splines : List (List Float)) (commands : List Arranged) (bins : List (List Float)) (pulses : List Pulse) (r : Refusal) (m : ℕ)
     → (ran 0 t splines commands bins pulses).result.answer ≡ Refused r m
-    → ran 0 t splines (take m commands) bins pulses ≡ asDone m (ran 0 t splines commands bins pulses)
+    → ran 0 t splines (take m commands) bins pulses ≡ as_done m (ran 0 t splines commands bins pulses)
 unfolding ran
 ran-refused t splines [] bins pulses r m e = absurd (done-not e)
-ran-refused t splines (a ∷ more) bins pulses r m e = go s.stop refl m e (ran-refused s.tables splines more (binsAfter s splines bins) (pulsesAfter s pulses) r)
+ran-refused t splines (a ∷ more) bins pulses r m e = go s.stop refl m e (ran-refused s.tables splines more (bins_after s splines bins) (pulses_after s pulses) r)
   where
     s : Step
     s = step_of t splines bins a
 
     later : ℕ → List Arranged → Ran
-    later k l = ran k s.tables splines l (binsAfter s splines bins) (pulsesAfter s pulses)
+    later k l = ran k s.tables splines l (bins_after s splines bins) (pulses_after s pulses)
 
     ended : Ran
-    ended = ranTo (refusedAt t s.why 0) bins pulses
+    ended = ran_to (refused_at t s.why 0) bins pulses
 
-    one_more : (l : List Arranged) → later 1 l ≡ countedFrom 1 (later 0 l)
-    one_more l = ran-counted 1 0 s.tables splines l (binsAfter s splines bins) (pulsesAfter s pulses)
+    one_more : (l : List Arranged) → later 1 l ≡ counted_from 1 (later 0 l)
+    one_more l = ran-counted 1 0 s.tables splines l (bins_after s splines bins) (pulses_after s pulses)
 
     step : (n : ℕ) → s.stop ≡ false → Earlier r n (later 0 more).result.answer
-        → ((j : ℕ) → (later 0 more).result.answer ≡ Refused r j → later 0 (take j more) ≡ asDone j (later 0 more))
-        → ran 0 t splines (take n (a ∷ more)) bins pulses ≡ asDone n (later 1 more)
+        → ((j : ℕ) → (later 0 more).result.answer ≡ Refused r j → later 0 (take j more) ≡ as_done j (later 0 more))
+        → ran 0 t splines (take n (a ∷ more)) bins pulses ≡ as_done n (later 1 more)
     step n goes_on (earlier j is e') before =
         let next : 1 + j ≡ suc j = omega arith in
         rw (is, goes_on)
         (one_more (take j more)
-        ∙ ap (countedFrom 1) (before j e')
-        ∙ ap (λ (k : ℕ). asDone k (later 0 more)) next
-        ∙ sym (ap (asDone (suc j)) (one_more more)))
+        ∙ ap (counted_from 1) (before j e')
+        ∙ ap (λ (k : ℕ). as_done k (later 0 more)) next
+        ∙ sym (ap (as_done (suc j)) (one_more more)))
 
     go : (b : Bool) → s.stop ≡ b → (n : ℕ) → (cond b ended (later 1 more)).result.answer ≡ Refused r n
-        → ((j : ℕ) → (later 0 more).result.answer ≡ Refused r j → later 0 (take j more) ≡ asDone j (later 0 more))
-        → ran 0 t splines (take n (a ∷ more)) bins pulses ≡ asDone n (cond b ended (later 1 more))
+        → ((j : ℕ) → (later 0 more).result.answer ≡ Refused r j → later 0 (take j more) ≡ as_done j (later 0 more))
+        → ran 0 t splines (take n (a ∷ more)) bins pulses ≡ as_done n (cond b ended (later 1 more))
     go true stops zero f before = refl
     go true stops (suc n) f before = let place : ◌≡◌ {A = ℕ} 0 (suc n) = cc in absurd (omega arith)
     go false goes_on n f before =
@@ -186,7 +186,7 @@ ran-refused t splines (a ∷ more) bins pulses r m e = go s.stop refl m e (ran-r
 -- what a refused call leaves is what its commands before the refused one leave by themselves: they are as many as its place says
 pub refused-call : (t : Tables) (splines : List (List Float)) (commands : List Arranged) (bins : List (List Float)) (pulses : List Pulse) (r : Refusal) (m : ℕ)
     → length commands ≤ 1024 → length splines ≡ 8 → length bins ≡ 512 → length pulses ≡ 8192 → (executed t splines commands bins pulses).result.answer ≡ Refused r m
-    → executed t splines (take m commands) bins pulses ≡ asDone m (executed t splines commands bins pulses)
+    → executed t splines (take m commands) bins pulses ≡ as_done m (executed t splines commands bins pulses)
 refused-call t splines commands bins pulses r m few shapes rows records e =
     let short : length (take m commands) ≤ 1024 = rw length-take (omega arith) in
     let whole = fits splines commands bins pulses t few shapes rows records in

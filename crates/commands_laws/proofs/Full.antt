@@ -15,63 +15,63 @@ use Rattle.naming.specs.declared.Name.{Name}
 use Rattle.quant.specs.Refusal.{number_of}
 use Rattle.executor.specs.declared.osc.Moved.{Moved}
 use Rattle.executor.specs.declared.osc.Swapped.{Swapped}
-use Rattle.executor.specs.Osc.{swappedPhases}
+use Rattle.executor.specs.Osc.{swapped_phases}
 use Rattle.pulse.specs.declared.bin.Bin.{Bin}
 use Rattle.pulse.specs.declared.envelope.Shape.{Shape}
 use Rattle.pulse.specs.declared.envelope.Shape.TheVariants.{Plain}
 use Rattle.pulse.specs.declared.weight.Weight.{Weight}
 use Rattle.pulse.specs.declared.weight.Weighed.{Weighed}
 use Rattle.pulse.specs.declared.weight.Weighed.TheVariants.{Fine, Overflow}
-use Rattle.pulse.specs.Bin.{headOf, row_of, kind_of, place_of}
-use Rattle.pulse.specs.Weight.{negligible, weighedOf}
+use Rattle.pulse.specs.Bin.{head_of, row_of, kind_of, place_of}
+use Rattle.pulse.specs.Weight.{negligible, weighed_of}
 use Rattle.tables.specs.declared.Tables.{Tables}
 use Rattle.tables.specs.declared.Found.{Found}
 use Rattle.tables.specs.declared.Found.TheVariants.{At, Nowhere}
-use Rattle.tables.specs.Tables.{found, shapeFound, channelAt}
+use Rattle.tables.specs.Tables.{found, shape_found, channel_at}
 use Rattle.commands.specs.declared.command.Play.{Play}
 use Rattle.commands.specs.declared.command.Command.{Command}
 use Rattle.commands.specs.declared.command.Command.TheVariants as C
 use Rattle.commands.specs.declared.command.Arranged.{Arranged}
 use Rattle.commands.specs.declared.step.Step.{Step}
-use Rattle.commands.specs.Command.{wellFormed, tooLong}
-use Rattle.commands.specs.Step.{noSpline, numbersAt, stops, goesOn, withOsc, movedBy, turnedAt, swappedTo, swappedAt, swappedBetween}
-use Rattle.commands.specs.Play.{rows_of, isNew, isFull, stores, stored_at, storedWith, plateauOf, binFor, splineFor, playedAt, playedAs, playedBy, played}
+use Rattle.commands.specs.Command.{well_formed, too_long}
+use Rattle.commands.specs.Step.{no_spline, numbers_at, stops, goes_on, with_osc, moved_by, turned_at, swapped_to, swapped_at, swapped_between}
+use Rattle.commands.specs.Play.{rows_of, is_new, is_full, stores, stored_at, stored_with, plateau_of, bin_for, spline_for, played_at, played_as, played_by, played}
 use Rattle.commands.specs.Run.{acted, step_of}
 
 -- the shape that a play goes by, and the place of its name: none where 5 refuses it
 pub data Shaped (t : Tables) (splines : List (List Float)) (p : Play) : Shape → ℕ → Type 0 where
-  plain : p.shaped ≡ false → Shaped t splines p Plain noSpline
-  by_name : (k : ℕ) → p.shaped ≡ true → shapeFound t p.shape ≡ At k → Shaped t splines p (kind_of (numbersAt splines k)) k
+  plain : p.shaped ≡ false → Shaped t splines p Plain no_spline
+  by_name : (k : ℕ) → p.shaped ≡ true → shape_found t p.shape ≡ At k → Shaped t splines p (kind_of (numbers_at splines k)) k
 
 -- the row and the place of the bin of a play
-abbrev pub splineOf : Tables → ℕ → Shape → ℕ → Play → Float → ℕ
-splineOf t i kind k p span = splineFor (binFor t i kind p span).envelope.shape k
+abbrev pub spline_of : Tables → ℕ → Shape → ℕ → Play → Float → ℕ
+spline_of t i kind k p span = spline_for (bin_for t i kind p span).envelope.shape k
 
-abbrev pub rowFor : Tables → List (List Float) → ℕ → Shape → ℕ → Play → Float → List Float
-rowFor t splines i kind k p span = row_of (binFor t i kind p span) (numbersAt splines (splineOf t i kind k p span))
+abbrev pub row_for : Tables → List (List Float) → ℕ → Shape → ℕ → Play → Float → List Float
+row_for t splines i kind k p span = row_of (bin_for t i kind p span) (numbers_at splines (spline_of t i kind k p span))
 
-abbrev pub placeFor : Tables → List (List Float) → List (List Float) → ℕ → Shape → ℕ → Play → Float → ℕ
-placeFor t splines bins i kind k p span = place_of (rowFor t splines i kind k p span) (rows_of t bins i)
+abbrev pub place_for : Tables → List (List Float) → List (List Float) → ℕ → Shape → ℕ → Play → Float → ℕ
+place_for t splines bins i kind k p span = place_of (row_for t splines i kind k p span) (rows_of t bins i)
 
 -- A command that would store a pulse: a play p to channel i that meets none of 2, 4, 5, 6, 7 and 8 and is not negligible; kind is its shape, k the
 -- place of the shape's name, w its weight.
 pub record Storing (t : Tables) (splines : List (List Float)) (a : Arranged) (p : Play) (kind : Shape) (k i : ℕ) (w : Weight) : Type 0 where
-  pub formed : wellFormed a ≡ true
-  pub short : tooLong t a ≡ false
+  pub formed : well_formed a ≡ true
+  pub short : too_long t a ≡ false
   pub plays : a.command ≡ C.Play p
   pub shaped : Shaped t splines p kind k
-  pub plateau : lt (plateauOf p a.span.0) nought ≡ false
+  pub plateau : lt (plateau_of p a.span.0) nought ≡ false
   pub channel : found t p.channel ≡ At i
-  pub finite-bin : (finite (binFor t i kind p a.span.0).global.0 && finite (binFor t i kind p a.span.0).envelope.plateau.0) ≡ true
+  pub finite-bin : (finite (bin_for t i kind p a.span.0).global.0 && finite (bin_for t i kind p a.span.0).envelope.plateau.0) ≡ true
   pub heard : negligible p.amplitude.0 t.amp.0 ≡ false
-  pub weight : weighedOf p.amplitude.0 p.phase.0 p.drag ≡ Fine w
+  pub weight : weighed_of p.amplitude.0 p.phase.0 p.drag ≡ Fine w
 
 -- ---- a storing play: full, or stored
 
 -- past 5
 pub played-as : (t : Tables) (splines bins : List (List Float)) (start span : Float) (p : Play) (kind : Shape) (k : ℕ) → Shaped t splines p kind k
-    → played t splines bins start span p ≡ playedAs t splines bins start span p kind k
-unfolding playedBy
+    → played t splines bins start span p ≡ played_as t splines bins start span p kind k
+unfolding played_by
 played-as t splines bins start span p _ _ (plain e) = rw e
 played-as t splines bins start span p _ _ (by_name k e there) = rw (e, there)
 
@@ -80,19 +80,19 @@ module _ (t : Tables) (splines bins : List (List Float)) (a : Arranged) (p : Pla
   span = a.span.0
 
   abbrev place : ℕ
-  place = placeFor t splines bins i kind k p span
+  place = place_for t splines bins i kind k p span
 
-  pub storing-step : step_of t splines bins a ≡ stored_at t splines bins i a.start.0 w (headOf (binFor t i kind p span)) (splineOf t i kind k p span)
-  unfolding acted playedAt storedWith
-  storing-step =
+  pub storing_step : step_of t splines bins a ≡ stored_at t splines bins i a.start.0 w (head_of (bin_for t i kind p span)) (spline_of t i kind k p span)
+  unfolding acted played_at stored_with
+  storing_step =
       rw (h.formed, h.short, h.plays, played-as t splines bins a.start.0 span p kind k h.shaped, h.plateau, h.channel, h.finite-bin, h.heard, h.weight)
 
-  pub storing-full : isFull t bins i place ≡ true → step_of t splines bins a ≡ stops t Full
-  storing-full e = storing-step ∙ (rw e)
+  pub storing_full : is_full t bins i place ≡ true → step_of t splines bins a ≡ stops t Full
+  storing_full e = storing_step ∙ (rw e)
 
-  pub storing-room : isFull t bins i place ≡ false
-      → step_of t splines bins a ≡ stores t i place (isNew t bins i place) a.start.0 w (headOf (binFor t i kind p span)) (splineOf t i kind k p span)
-  storing-room e = storing-step ∙ (rw e)
+  pub storing_room : is_full t bins i place ≡ false
+      → step_of t splines bins a ≡ stores t i place (is_new t bins i place) a.start.0 w (head_of (bin_for t i kind p span)) (spline_of t i kind k p span)
+  storing_room e = storing_step ∙ (rw e)
 
 -- ---- and nothing else
 
@@ -107,48 +107,48 @@ pub record FullAt (t : Tables) (splines bins : List (List Float)) (a : Arranged)
   pub place : ℕ
   pub of-weight : Weight
   pub storing : Storing t splines a play kind name place of-weight
-  pub full : isFull t bins place (placeFor t splines bins place kind name play a.span.0) ≡ true
+  pub full : is_full t bins place (place_for t splines bins place kind name play a.span.0) ≡ true
 
-goes-not : (t : Tables) → ByFull (goesOn t) → ⊥
+goes-not : (t : Tables) → ByFull (goes_on t) → ⊥
 goes-not t h = true≢false (sym h.stop)
 
 -- a refusal by another number
 stops-not : (t : Tables) (r : Refusal) (n : ℕ) → number_of r ≡ n → (n ≡ 3 → ⊥) → ByFull (stops t r) → ⊥
 stops-not t r n e other h = other (sym e ∙ ap number_of h.why)
 
-turned-not : (t : Tables) (f : Found) (c : Command) (time : Float) → ByFull (turnedAt t f c time) → ⊥
-unfolding turnedAt
+turned-not : (t : Tables) (f : Found) (c : Command) (time : Float) → ByFull (turned_at t f c time) → ⊥
+unfolding turned_at
 turned-not t Nowhere c time h = stops-not t UnknownChannel 7 refl (λ e. omega arith) h
 turned-not t (At i) c time h = go m.refused h
   where
     m : Moved
-    m = movedBy c time (channelAt t i).osc
+    m = moved_by c time (channel_at t i).osc
 
-    go : (b : Bool) → ByFull (cond b (stops t NotFinite) (goesOn (withOsc t i m.osc))) → ⊥
+    go : (b : Bool) → ByFull (cond b (stops t NotFinite) (goes_on (with_osc t i m.osc))) → ⊥
     go true k = stops-not t NotFinite 8 refl (λ e. omega arith) k
-    go false k = goes-not (withOsc t i m.osc) k
+    go false k = goes-not (with_osc t i m.osc) k
 
-swapped-to-not : (t : Tables) (i j : ℕ) (s : Swapped) → ByFull (swappedTo t i j s) → ⊥
+swapped-to-not : (t : Tables) (i j : ℕ) (s : Swapped) → ByFull (swapped_to t i j s) → ⊥
 swapped-to-not t i j s h = go s.refused h
   where
-    go : (b : Bool) → ByFull (cond b (stops t NotFinite) (goesOn (withOsc (withOsc t i s.one) j s.two))) → ⊥
+    go : (b : Bool) → ByFull (cond b (stops t NotFinite) (goes_on (with_osc (with_osc t i s.one) j s.two))) → ⊥
     go true k = stops-not t NotFinite 8 refl (λ e. omega arith) k
-    go false k = goes-not (withOsc (withOsc t i s.one) j s.two) k
+    go false k = goes-not (with_osc (with_osc t i s.one) j s.two) k
 
-swapped-at-not : (t : Tables) (f g : Found) (time : Float) → ByFull (swappedAt t f g time) → ⊥
-unfolding swappedAt
+swapped-at-not : (t : Tables) (f g : Found) (time : Float) → ByFull (swapped_at t f g time) → ⊥
+unfolding swapped_at
 swapped-at-not t Nowhere g time h = stops-not t UnknownChannel 7 refl (λ e. omega arith) h
 swapped-at-not t (At i) Nowhere time h = stops-not t UnknownChannel 7 refl (λ e. omega arith) h
-swapped-at-not t (At i) (At j) time h = swapped-to-not t i j (swappedPhases (channelAt t i).osc (channelAt t j).osc time) h
+swapped-at-not t (At i) (At j) time h = swapped-to-not t i j (swapped_phases (channel_at t i).osc (channel_at t j).osc time) h
 
-swapped-not : (t : Tables) (n m : Name) (time : Float) → ByFull (swappedBetween t n m time) → ⊥
+swapped-not : (t : Tables) (n m : Name) (time : Float) → ByFull (swapped_between t n m time) → ⊥
 swapped-not t n m time h = go (same_name n m) h
   where
-    go : (b : Bool) → ByFull (cond b (goesOn t) (swappedAt t (found t n) (found t m) time)) → ⊥
+    go : (b : Bool) → ByFull (cond b (goes_on t) (swapped_at t (found t n) (found t m) time)) → ⊥
     go true k = goes-not t k
     go false k = swapped-at-not t (found t n) (found t m) time k
 
-module _ (t : Tables) (splines bins : List (List Float)) (a : Arranged) (formed : wellFormed a ≡ true) (short : tooLong t a ≡ false) where
+module _ (t : Tables) (splines bins : List (List Float)) (a : Arranged) (formed : well_formed a ≡ true) (short : too_long t a ≡ false) where
   abbrev start : Float
   start = a.start.0
 
@@ -156,9 +156,9 @@ module _ (t : Tables) (splines bins : List (List Float)) (a : Arranged) (formed 
   wide = a.span.0
 
   module _ (p : Play) (plays : a.command ≡ C.Play p) (kind : Shape) (k : ℕ) (shaped : Shaped t splines p kind k) where
-    module _ (plateau : lt (plateauOf p wide) nought ≡ false) (i : ℕ) (channel : found t p.channel ≡ At i) where
+    module _ (plateau : lt (plateau_of p wide) nought ≡ false) (i : ℕ) (channel : found t p.channel ≡ At i) where
       abbrev bin : Bin
-      bin = binFor t i kind p wide
+      bin = bin_for t i kind p wide
 
       abbrev sound : Bool
       sound = finite bin.global.0 && finite bin.envelope.plateau.0
@@ -167,18 +167,18 @@ module _ (t : Tables) (splines bins : List (List Float)) (a : Arranged) (formed 
       quiet = negligible p.amplitude.0 t.amp.0
 
       abbrev weighed : Weighed
-      weighed = weighedOf p.amplitude.0 p.phase.0 p.drag
+      weighed = weighed_of p.amplitude.0 p.phase.0 p.drag
 
       abbrev spline : ℕ
-      spline = splineOf t i kind k p wide
+      spline = spline_of t i kind k p wide
 
       abbrev at : ℕ
-      at = placeFor t splines bins i kind k p wide
+      at = place_for t splines bins i kind k p wide
 
-      stored-full : sound ≡ true → quiet ≡ false → (w : Weight) → weighed ≡ Fine w → ByFull (stored_at t splines bins i start w (headOf bin) spline) → FullAt t splines bins a
-      stored-full s q w e h = go (isFull t bins i at) refl h
+      stored-full : sound ≡ true → quiet ≡ false → (w : Weight) → weighed ≡ Fine w → ByFull (stored_at t splines bins i start w (head_of bin) spline) → FullAt t splines bins a
+      stored-full s q w e h = go (is_full t bins i at) refl h
         where
-          go : (b : Bool) → isFull t bins i at ≡ b → ByFull (cond b (stops t Full) (stores t i at (isNew t bins i at) start w (headOf bin) spline)) → FullAt t splines bins a
+          go : (b : Bool) → is_full t bins i at ≡ b → ByFull (cond b (stops t Full) (stores t i at (is_new t bins i at) start w (head_of bin) spline)) → FullAt t splines bins a
           go true f h =
               record {
                 play = p;
@@ -191,42 +191,42 @@ module _ (t : Tables) (splines bins : List (List Float)) (a : Arranged) (formed 
               }
           go false f h = absurd (true≢false (sym h.stop))
 
-      weighed-full : sound ≡ true → quiet ≡ false → (w : Weighed) → weighed ≡ w → ByFull (storedWith t splines bins i start w (headOf bin) spline) → FullAt t splines bins a
-      unfolding storedWith
+      weighed-full : sound ≡ true → quiet ≡ false → (w : Weighed) → weighed ≡ w → ByFull (stored_with t splines bins i start w (head_of bin) spline) → FullAt t splines bins a
+      unfolding stored_with
       weighed-full s q Overflow e h = absurd (stops-not t NotFinite 8 refl (λ e. omega arith) h)
       weighed-full s q (Fine w) e h = stored-full s q w e h
 
-      quiet-full : sound ≡ true → (b : Bool) → quiet ≡ b → ByFull (cond b (goesOn t) (storedWith t splines bins i start weighed (headOf bin) spline)) → FullAt t splines bins a
+      quiet-full : sound ≡ true → (b : Bool) → quiet ≡ b → ByFull (cond b (goes_on t) (stored_with t splines bins i start weighed (head_of bin) spline)) → FullAt t splines bins a
       quiet-full s true q h = absurd (goes-not t h)
       quiet-full s false q h = weighed-full s q weighed refl h
 
-      pushed-full : (b : Bool) → sound ≡ b → ByFull (cond b (cond quiet (goesOn t) (storedWith t splines bins i start weighed (headOf bin) spline)) (stops t NotFinite)) → FullAt t splines bins a
+      pushed-full : (b : Bool) → sound ≡ b → ByFull (cond b (cond quiet (goes_on t) (stored_with t splines bins i start weighed (head_of bin) spline)) (stops t NotFinite)) → FullAt t splines bins a
       pushed-full true s h = quiet-full s quiet refl h
       pushed-full false s h = absurd (stops-not t NotFinite 8 refl (λ e. omega arith) h)
 
-    channel-full : lt (plateauOf p wide) nought ≡ false → (f : Found) → found t p.channel ≡ f → ByFull (playedAt t splines bins f start wide p kind k) → FullAt t splines bins a
-    unfolding playedAt
+    channel-full : lt (plateau_of p wide) nought ≡ false → (f : Found) → found t p.channel ≡ f → ByFull (played_at t splines bins f start wide p kind k) → FullAt t splines bins a
+    unfolding played_at
     channel-full low Nowhere e h = absurd (stops-not t UnknownChannel 7 refl (λ e. omega arith) h)
     channel-full low (At i) e h = pushed-full low i e (sound low i e) refl h
 
-    plateau-full : (b : Bool) → lt (plateauOf p wide) nought ≡ b
-        → ByFull (cond b (stops t NegativePlateau) (playedAt t splines bins (found t p.channel) start wide p kind k)) → FullAt t splines bins a
+    plateau-full : (b : Bool) → lt (plateau_of p wide) nought ≡ b
+        → ByFull (cond b (stops t NegativePlateau) (played_at t splines bins (found t p.channel) start wide p kind k)) → FullAt t splines bins a
     plateau-full true e h = absurd (stops-not t NegativePlateau 6 refl (λ e. omega arith) h)
     plateau-full false e h = channel-full e (found t p.channel) refl h
 
-    as-full : ByFull (playedAs t splines bins start wide p kind k) → FullAt t splines bins a
-    as-full h = plateau-full (lt (plateauOf p wide) nought) refl h
+    as_full : ByFull (played_as t splines bins start wide p kind k) → FullAt t splines bins a
+    as_full h = plateau-full (lt (plateau_of p wide) nought) refl h
 
   module _ (p : Play) (plays : a.command ≡ C.Play p) where
-    by-full : p.shaped ≡ true → (f : Found) → shapeFound t p.shape ≡ f → ByFull (playedBy t splines bins f start wide p) → FullAt t splines bins a
-    unfolding playedBy
+    by-full : p.shaped ≡ true → (f : Found) → shape_found t p.shape ≡ f → ByFull (played_by t splines bins f start wide p) → FullAt t splines bins a
+    unfolding played_by
     by-full e Nowhere there h = absurd (stops-not t UnknownShape 5 refl (λ e. omega arith) h)
-    by-full e (At k) there h = as-full p plays (kind_of (numbersAt splines k)) k (by_name k e there) h
+    by-full e (At k) there h = as_full p plays (kind_of (numbers_at splines k)) k (by_name k e there) h
 
     shape-full : (b : Bool) → p.shaped ≡ b
-        → ByFull (cond b (playedBy t splines bins (shapeFound t p.shape) start wide p) (playedAs t splines bins start wide p Plain noSpline)) → FullAt t splines bins a
-    shape-full true e h = by-full e (shapeFound t p.shape) refl h
-    shape-full false e h = as-full p plays Plain noSpline (plain e) h
+        → ByFull (cond b (played_by t splines bins (shape_found t p.shape) start wide p) (played_as t splines bins start wide p Plain no_spline)) → FullAt t splines bins a
+    shape-full true e h = by-full e (shape_found t p.shape) refl h
+    shape-full false e h = as_full p plays Plain no_spline (plain e) h
 
   acted-full : (c : Command) → a.command ≡ c → ByFull (acted t splines bins start wide c) → FullAt t splines bins a
   unfolding acted
@@ -242,14 +242,14 @@ module _ (t : Tables) (splines bins : List (List Float)) (a : Arranged) where
   abbrev act : Step
   act = acted t splines bins a.start.0 a.span.0 a.command
 
-  short-full : wellFormed a ≡ true → (b : Bool) → tooLong t a ≡ b → ByFull (cond b (stops t Oversize) act) → FullAt t splines bins a
+  short-full : well_formed a ≡ true → (b : Bool) → too_long t a ≡ b → ByFull (cond b (stops t Oversize) act) → FullAt t splines bins a
   short-full formed true e h = absurd (stops-not t Oversize 4 refl (λ e. omega arith) h)
   short-full formed false e h = acted-full t splines bins a formed e a.command refl h
 
-  formed-full : (b : Bool) → wellFormed a ≡ b → ByFull (cond b (cond (tooLong t a) (stops t Oversize) act) (stops t Malformed)) → FullAt t splines bins a
-  formed-full true e h = short-full e (tooLong t a) refl h
+  formed-full : (b : Bool) → well_formed a ≡ b → ByFull (cond b (cond (too_long t a) (stops t Oversize) act) (stops t Malformed)) → FullAt t splines bins a
+  formed-full true e h = short-full e (too_long t a) refl h
   formed-full false e h = absurd (stops-not t Malformed 2 refl (λ e. omega arith) h)
 
   -- a step refused by 3 is a storing play that meets a full table
   pub only-full : (step_of t splines bins a).stop ≡ true → (step_of t splines bins a).why ≡ Full → FullAt t splines bins a
-  only-full s w = formed-full (wellFormed a) refl (record { stop = s; why = w })
+  only-full s w = formed-full (well_formed a) refl (record { stop = s; why = w })

@@ -24,29 +24,29 @@ use Rattle.naming.specs.Name.{same_name}
 use Rattle.naming.specs.declared.Name.{Name}
 use Rattle.quant.specs.declared.refusal.Refusal.TheVariants.{Malformed, Full, Oversize, NegativePlateau, NotFinite}
 use Rattle.quant.specs.declared.quantity.Frequency.{Frequency}
-use Rattle.executor.specs.Osc.{swappedPhases}
+use Rattle.executor.specs.Osc.{swapped_phases}
 use Rattle.pulse.specs.declared.bin.Bin.{Bin}
 use Rattle.pulse.specs.declared.envelope.Envelope.{Envelope}
 use Rattle.pulse.specs.declared.envelope.Shape.{Shape}
 use Rattle.pulse.specs.declared.envelope.Shape.TheVariants.{Plain}
 use Rattle.pulse.specs.declared.weight.Weighed.{Weighed}
 use Rattle.pulse.specs.declared.weight.Weighed.TheVariants.{Fine, Overflow}
-use Rattle.pulse.specs.Bin.{headOf, bin_of, kind_of, place_of, GoodBin}
-use Rattle.pulse.specs.Envelope.{parts, isShaped, envelopeOf}
-use Rattle.pulse.specs.Weight.{negligible, weighedOf}
+use Rattle.pulse.specs.Bin.{head_of, bin_of, kind_of, place_of, GoodBin}
+use Rattle.pulse.specs.Envelope.{parts, is_shaped, envelope_of}
+use Rattle.pulse.specs.Weight.{negligible, weighed_of}
 use Rattle.pulse.proofs.Rows.{bin-again}
 use Rattle.tables.specs.declared.Tables.{Tables}
 use Rattle.tables.specs.declared.Found.{Found}
 use Rattle.tables.specs.declared.Found.TheVariants.{At, Nowhere}
-use Rattle.tables.specs.Tables.{found, shapeFound, channelAt}
+use Rattle.tables.specs.Tables.{found, shape_found, channel_at}
 use Rattle.commands.specs.declared.command.Play.{Play}
 use Rattle.commands.specs.declared.command.Command.{Command}
 use Rattle.commands.specs.declared.command.Command.TheVariants as C
 use Rattle.commands.specs.declared.command.Arranged.{Arranged}
 use Rattle.commands.specs.declared.step.Step.{Step}
-use Rattle.commands.specs.Command.{goodNames, goodNumbers, good, wellFormed, tooLong}
-use Rattle.commands.specs.Step.{noSpline, numbersAt, stops, goesOn, withOsc, movedBy, turnedAt, swappedAt, swappedBetween}
-use Rattle.commands.specs.Play.{rows_of, isNew, isFull, stores, storedWith, plateauOf, binFor, splineFor, playedAt, playedAs, playedBy, played}
+use Rattle.commands.specs.Command.{good_names, good_numbers, good, well_formed, too_long}
+use Rattle.commands.specs.Step.{no_spline, numbers_at, stops, goes_on, with_osc, moved_by, turned_at, swapped_at, swapped_between}
+use Rattle.commands.specs.Play.{rows_of, is_new, is_full, stores, stored_with, plateau_of, bin_for, spline_for, played_at, played_as, played_by, played}
 use Rattle.commands.specs.Run.{acted, step_of}
 
 -- ---- a sum of two numbers that are not below 0 is not below 0
@@ -122,11 +122,11 @@ none : {A : Type 0} → false ≡ true → A
 none e = absurd (true≢false (sym e))
 
 module _ (w q : Float) (g l : Frequency) (w-known : finite w ≡ true) (g_known : finite g.0 ≡ true) (l-known : finite l.0 ≡ true) (w-low : lt w nought ≡ false) (q-low : lt q nought ≡ false) where
-  abbrev withEnvelope : Envelope → Bin
-  withEnvelope e = record { envelope = e; global = g; local = l }
+  abbrev with_envelope : Envelope → Bin
+  with_envelope e = record { envelope = e; global = g; local = l }
 
   -- of a width that is kept
-  wide_good : (kind : Shape) → (isShaped kind ≡ true → eq w nought ≡ false) → finite q ≡ true → GoodBin (withEnvelope (parts kind w q))
+  wide_good : (kind : Shape) → (is_shaped kind ≡ true → eq w nought ≡ false) → finite q ≡ true → GoodBin (with_envelope (parts kind w q))
   wide_good kind nonzero f =
       record {
         finite-width = w-known;
@@ -138,16 +138,16 @@ module _ (w q : Float) (g l : Frequency) (w-known : finite w ≡ true) (g_known 
         shaped = nonzero;
       }
 
-  with-good : (kind : Shape) → finite (envelopeOf kind w q).plateau.0 ≡ true → GoodBin (withEnvelope (envelopeOf kind w q))
-  unfolding envelopeOf lt of_bits
-  with-good kind f = by (isShaped kind) f
+  with-good : (kind : Shape) → finite (envelope_of kind w q).plateau.0 ≡ true → GoodBin (with_envelope (envelope_of kind w q))
+  unfolding envelope_of lt of_bits
+  with-good kind f = by (is_shaped kind) f
     where
-      by_width : (b : Bool) → eq w nought ≡ b → finite (cond b (parts Plain w q) (parts kind w q)).plateau.0 ≡ true → GoodBin (withEnvelope (cond b (parts Plain w q) (parts kind w q)))
+      by_width : (b : Bool) → eq w nought ≡ b → finite (cond b (parts Plain w q) (parts kind w q)).plateau.0 ≡ true → GoodBin (with_envelope (cond b (parts Plain w q) (parts kind w q)))
       by_width true e f = wide_good Plain none f
       by_width false e f = wide_good kind (λ _. e) f
 
       by : (b : Bool) → finite (cond b (cond (eq w nought) (parts Plain w q) (parts kind w q)) (parts Plain nought (add binary64 q w))).plateau.0 ≡ true
-          → GoodBin (withEnvelope (cond b (cond (eq w nought) (parts Plain w q) (parts kind w q)) (parts Plain nought (add binary64 q w))))
+          → GoodBin (with_envelope (cond b (cond (eq w nought) (parts Plain w q) (parts kind w q)) (parts Plain nought (add binary64 q w))))
       by true f = by_width (eq w nought) refl f
       by false f =
           record {
@@ -164,14 +164,14 @@ not-true : (b : Bool) → not b ≡ true → b ≡ false
 not-true true e = absurd (true≢false (sym e))
 not-true false e = refl
 
-module _ (t : Tables) (i : ℕ) (kind : Shape) (p : Play) (span : Float) (numbers : goodNumbers p ≡ true) (low : lt (plateauOf p span) nought ≡ false) where
+module _ (t : Tables) (i : ℕ) (kind : Shape) (p : Play) (span : Float) (numbers : good_numbers p ≡ true) (low : lt (plateau_of p span) nought ≡ false) where
   -- what 2 has let pass: width and frequency are finite, and the width is not below 0
   abbrev six : Bool
   six = finite p.amplitude.0 && finite p.width.0 && finite p.plateau.0 && finite p.drag && finite p.frequency.0 && finite p.phase.0
 
-  play-good : (finite (binFor t i kind p span).global.0 && finite (binFor t i kind p span).envelope.plateau.0) ≡ true → GoodBin (binFor t i kind p span)
+  play-good : (finite (bin_for t i kind p span).global.0 && finite (bin_for t i kind p span).envelope.plateau.0) ≡ true → GoodBin (bin_for t i kind p span)
   play-good e =
-      let b = binFor t i kind p span in
+      let b = bin_for t i kind p span in
       let fine = both (finite b.global.0) (finite b.envelope.plateau.0) e in
       let h = both six (not (lt p.width.0 nought)) numbers in
       let five = both (finite p.amplitude.0 && finite p.width.0 && finite p.plateau.0 && finite p.drag && finite p.frequency.0) (finite p.phase.0) h.0 in
@@ -179,7 +179,7 @@ module _ (t : Tables) (i : ℕ) (kind : Shape) (p : Play) (span : Float) (number
       let three = both (finite p.amplitude.0 && finite p.width.0 && finite p.plateau.0) (finite p.drag) four.0 in
       let two = both (finite p.amplitude.0 && finite p.width.0) (finite p.plateau.0) three.0 in
       let one = both (finite p.amplitude.0) (finite p.width.0) two.0 in
-      with-good p.width.0 (plateauOf p span) b.global p.frequency one.1 fine.0 four.1 (not-true (lt p.width.0 nought) h.1) low kind fine.1
+      with-good p.width.0 (plateau_of p span) b.global p.frequency one.1 fine.0 four.1 (not-true (lt p.width.0 nought) h.1) low kind fine.1
 
 -- ---- a step, check by check
 
@@ -192,70 +192,70 @@ one_of true x y h k = h refl
 one_of false x y h k = k refl
 
 module _ (t : Tables) where
-  turned-opens : (f : Found) (c : Command) (time : Float) → Opens (turnedAt t f c time)
-  unfolding turnedAt
+  turned-opens : (f : Found) (c : Command) (time : Float) → Opens (turned_at t f c time)
+  unfolding turned_at
   turned-opens Nowhere c time = none
-  turned-opens (At i) c time = let m = movedBy c time (channelAt t i).osc in one_of m.refused (stops t NotFinite) (goesOn (withOsc t i m.osc)) (λ _. none) (λ _. none)
+  turned-opens (At i) c time = let m = moved_by c time (channel_at t i).osc in one_of m.refused (stops t NotFinite) (goes_on (with_osc t i m.osc)) (λ _. none) (λ _. none)
 
-  swapped-at-opens : (f g : Found) (time : Float) → Opens (swappedAt t f g time)
-  unfolding swappedAt
+  swapped-at-opens : (f g : Found) (time : Float) → Opens (swapped_at t f g time)
+  unfolding swapped_at
   swapped-at-opens Nowhere g time = none
   swapped-at-opens (At i) Nowhere time = none
   swapped-at-opens (At i) (At j) time =
-      let x = swappedPhases (channelAt t i).osc (channelAt t j).osc time in
-      one_of x.refused (stops t NotFinite) (goesOn (withOsc (withOsc t i x.one) j x.two)) (λ _. none) (λ _. none)
+      let x = swapped_phases (channel_at t i).osc (channel_at t j).osc time in
+      one_of x.refused (stops t NotFinite) (goes_on (with_osc (with_osc t i x.one) j x.two)) (λ _. none) (λ _. none)
 
-  swapped-opens : (n m : Name) (time : Float) → Opens (swappedBetween t n m time)
+  swapped-opens : (n m : Name) (time : Float) → Opens (swapped_between t n m time)
   swapped-opens n m time =
-      let x = swappedAt t (found t n) (found t m) time in
-      one_of (same_name n m) (goesOn t) x (λ _. none) (λ _. swapped-at-opens (found t n) (found t m) time)
+      let x = swapped_at t (found t n) (found t m) time in
+      one_of (same_name n m) (goes_on t) x (λ _. none) (λ _. swapped-at-opens (found t n) (found t m) time)
 
   module _ (splines bins : List (List Float)) where
-    stored-opens : (i : ℕ) (start : Float) (w : Weighed) (b : Bin) (spline : ℕ) → GoodBin b → Opens (storedWith t splines bins i start w (headOf b) spline)
-    unfolding storedWith
+    stored-opens : (i : ℕ) (start : Float) (w : Weighed) (b : Bin) (spline : ℕ) → GoodBin b → Opens (stored_with t splines bins i start w (head_of b) spline)
+    unfolding stored_with
     stored-opens i start Overflow b spline h = none
     stored-opens i start (Fine w) b spline h =
-        let place = place_of (headOf b ++ numbersAt splines spline) (rows_of t bins i) in
-        one_of (isFull t bins i place) (stops t Full) (stores t i place (isNew t bins i place) start w (headOf b) spline)
+        let place = place_of (head_of b ++ numbers_at splines spline) (rows_of t bins i) in
+        one_of (is_full t bins i place) (stops t Full) (stores t i place (is_new t bins i place) start w (head_of b) spline)
         (λ _. none)
         (λ _ _ numbers. subst GoodBin (sym (bin-again b numbers)) h)
 
-    module _ (start span : Float) (p : Play) (numbers : goodNumbers p ≡ true) where
-      played-at-opens : (kind : Shape) (k : ℕ) → lt (plateauOf p span) nought ≡ false → (f : Found) → Opens (playedAt t splines bins f start span p kind k)
-      unfolding playedAt
+    module _ (start span : Float) (p : Play) (numbers : good_numbers p ≡ true) where
+      played-at-opens : (kind : Shape) (k : ℕ) → lt (plateau_of p span) nought ≡ false → (f : Found) → Opens (played_at t splines bins f start span p kind k)
+      unfolding played_at
       played-at-opens kind k low Nowhere = none
       played-at-opens kind k low (At i) =
-          let b = binFor t i kind p span in
-          let w = weighedOf p.amplitude.0 p.phase.0 p.drag in
-          let spline = splineFor b.envelope.shape k in
-          let storing = storedWith t splines bins i start w (headOf b) spline in
+          let b = bin_for t i kind p span in
+          let w = weighed_of p.amplitude.0 p.phase.0 p.drag in
+          let spline = spline_for b.envelope.shape k in
+          let storing = stored_with t splines bins i start w (head_of b) spline in
           let quiet = negligible p.amplitude.0 t.amp.0 in
-          one_of (finite b.global.0 && finite b.envelope.plateau.0) (cond quiet (goesOn t) storing) (stops t NotFinite)
-          (λ e. one_of quiet (goesOn t) storing (λ _. none) (λ _. stored-opens i start w b spline (play-good t i kind p span numbers low e)))
+          one_of (finite b.global.0 && finite b.envelope.plateau.0) (cond quiet (goes_on t) storing) (stops t NotFinite)
+          (λ e. one_of quiet (goes_on t) storing (λ _. none) (λ _. stored-opens i start w b spline (play-good t i kind p span numbers low e)))
           (λ _. none)
 
-      played-as-opens : (kind : Shape) (k : ℕ) → Opens (playedAs t splines bins start span p kind k)
-      played-as-opens kind k =
+      played_as_opens : (kind : Shape) (k : ℕ) → Opens (played_as t splines bins start span p kind k)
+      played_as_opens kind k =
           let f = found t p.channel in
-          one_of (lt (plateauOf p span) nought) (stops t NegativePlateau) (playedAt t splines bins f start span p kind k)
+          one_of (lt (plateau_of p span) nought) (stops t NegativePlateau) (played_at t splines bins f start span p kind k)
           (λ _. none)
           (λ e. played-at-opens kind k e f)
 
-      played-by-opens : (f : Found) → Opens (playedBy t splines bins f start span p)
-      unfolding playedBy
+      played-by-opens : (f : Found) → Opens (played_by t splines bins f start span p)
+      unfolding played_by
       played-by-opens Nowhere = none
-      played-by-opens (At k) = played-as-opens (kind_of (numbersAt splines k)) k
+      played-by-opens (At k) = played_as_opens (kind_of (numbers_at splines k)) k
 
       played-opens : Opens (played t splines bins start span p)
       played-opens =
-          let f = shapeFound t p.shape in
-          one_of p.shaped (playedBy t splines bins f start span p) (playedAs t splines bins start span p Plain noSpline)
+          let f = shape_found t p.shape in
+          one_of p.shaped (played_by t splines bins f start span p) (played_as t splines bins start span p Plain no_spline)
           (λ _. played-by-opens f)
-          (λ _. played-as-opens Plain noSpline)
+          (λ _. played_as_opens Plain no_spline)
 
     acted-opens : (start span : Float) (c : Command) → good c ≡ true → Opens (acted t splines bins start span c)
     unfolding acted good
-    acted-opens start span (C.Play p) e = played-opens start span p (both (goodNames p) (goodNumbers p) e).1
+    acted-opens start span (C.Play p) e = played-opens start span p (both (good_names p) (good_numbers p) e).1
     acted-opens start span (C.ShiftPhase n x) e = turned-opens (found t n) (C.ShiftPhase n x) start
     acted-opens start span (C.SetPhase n x) e = turned-opens (found t n) (C.SetPhase n x) start
     acted-opens start span (C.ShiftFreq n x) e = turned-opens (found t n) (C.ShiftFreq n x) start
@@ -266,8 +266,8 @@ module _ (t : Tables) where
     pub step-opens : (a : Arranged) → Opens (step_of t splines bins a)
     step-opens a =
         let x = acted t splines bins a.start.0 a.span.0 a.command in
-        one_of (wellFormed a) (cond (tooLong t a) (stops t Oversize) x) (stops t Malformed)
+        one_of (well_formed a) (cond (too_long t a) (stops t Oversize) x) (stops t Malformed)
         (λ e.
-        one_of (tooLong t a) (stops t Oversize) x (λ _. none)
+        one_of (too_long t a) (stops t Oversize) x (λ _. none)
         (λ _. acted-opens a.start.0 a.span.0 a.command (both (finite a.start.0 && finite a.span.0) (good a.command) e).1))
         (λ _. none)

@@ -19,23 +19,23 @@ use Rattle.pulse.specs.declared.envelope.Shape.TheVariants.{Plain}
 use Rattle.pulse.specs.declared.weight.Weight.{Weight}
 use Rattle.pulse.specs.declared.weight.Weighed.{Weighed}
 use Rattle.pulse.specs.declared.weight.Weighed.TheVariants.{Fine, Overflow}
-use Rattle.pulse.specs.Bin.{headOf, kind_of, place_of}
-use Rattle.pulse.specs.Weight.{negligible, weighedOf}
+use Rattle.pulse.specs.Bin.{head_of, kind_of, place_of}
+use Rattle.pulse.specs.Weight.{negligible, weighed_of}
 use Rattle.tables.specs.declared.Channel.{Channel}
 use Rattle.tables.specs.declared.Tables.{Tables}
 use Rattle.tables.specs.declared.Found.{Found}
 use Rattle.tables.specs.declared.Found.TheVariants.{At, Nowhere}
-use Rattle.tables.specs.Tables.{shapesIn, found, shapeFrom, shapeFound, channelAt}
+use Rattle.tables.specs.Tables.{shapes_in, found, shape_from, shape_found, channel_at}
 use Rattle.commands.specs.declared.command.Play.{Play}
 use Rattle.commands.specs.declared.command.Command.{Command}
 use Rattle.commands.specs.declared.command.Command.TheVariants as C
 use Rattle.commands.specs.declared.command.Arranged.{Arranged}
 use Rattle.commands.specs.declared.step.Step.{Step}
-use Rattle.commands.specs.Command.{wellFormed, required, tooLong}
-use Rattle.commands.specs.Step.{noSpline, numbersAt, stops, goesOn, withOsc, movedBy, turnedAt}
-use Rattle.commands.specs.Play.{rows_of, stores, storedWith, plateauOf, binWith, splineFor, playedAt, playedAs, playedBy, played}
+use Rattle.commands.specs.Command.{well_formed, required, too_long}
+use Rattle.commands.specs.Step.{no_spline, numbers_at, stops, goes_on, with_osc, moved_by, turned_at}
+use Rattle.commands.specs.Play.{rows_of, stores, stored_with, plateau_of, bin_with, spline_for, played_at, played_as, played_by, played}
 use Rattle.commands.specs.Run.{acted, step_of}
-use Rattle.commands.specs.Command.{named, isSwap}
+use Rattle.commands.specs.Command.{named, is_swap}
 
 -- what a channel's commands go by
 pub record View : Type 0 where
@@ -53,9 +53,9 @@ view_of t splines bins i =
       amp = t.amp.0;
       time = t.time.0;
       oversize = t.oversize;
-      shapes = shapesIn t;
+      shapes = shapes_in t;
       splines = splines;
-      channel = channelAt t i;
+      channel = channel_at t i;
       rows = rows_of t bins i;
     }
 
@@ -69,56 +69,56 @@ pub data Own : Type 0 where
 -- carried over to the tables, for the channel at a place
 abbrev pub realize : Tables → ℕ → Own → Step
 realize t i (refuses r) = stops t r
-realize t i same = goesOn t
-realize t i (turns o) = goesOn (withOsc t i o)
+realize t i same = goes_on t
+realize t i (turns o) = goes_on (with_osc t i o)
 realize t i (puts place new start w head spline) = stores t i place new start w head spline
 
 -- ---- a step from the view
 
-abbrev ownTurn : View → Moved → Own
-ownTurn v m = cond m.refused (refuses NotFinite) (turns m.osc)
+abbrev own_turn : View → Moved → Own
+own_turn v m = cond m.refused (refuses NotFinite) (turns m.osc)
 
-abbrev ownFull : View → ℕ → Bool
-ownFull v place = (leb (length v.rows) place && leb 64 v.channel.bins) || leb 1024 v.channel.pulses
+abbrev own_full : View → ℕ → Bool
+own_full v place = (leb (length v.rows) place && leb 64 v.channel.bins) || leb 1024 v.channel.pulses
 
-abbrev ownStore : View → Float → Weight → List Float → ℕ → Own
-ownStore v start w head spline =
-    let place = place_of (head ++ numbersAt v.splines spline) v.rows in
-    cond (ownFull v place) (refuses Full) (puts place (leb (length v.rows) place) start w head spline)
+abbrev own_store : View → Float → Weight → List Float → ℕ → Own
+own_store v start w head spline =
+    let place = place_of (head ++ numbers_at v.splines spline) v.rows in
+    cond (own_full v place) (refuses Full) (puts place (leb (length v.rows) place) start w head spline)
 
-abbrev ownWeighed : View → Float → Weighed → List Float → ℕ → Own
-ownWeighed v start Overflow head spline = refuses NotFinite
-ownWeighed v start (Fine w) head spline = ownStore v start w head spline
+abbrev own_weighed : View → Float → Weighed → List Float → ℕ → Own
+own_weighed v start Overflow head spline = refuses NotFinite
+own_weighed v start (Fine w) head spline = own_store v start w head spline
 
-abbrev ownPlayAs : View → Float → Float → Play → Shape → ℕ → Own
-ownPlayAs v start span p kind k =
-    let b = binWith v.channel.osc kind p span in
-    cond (lt (plateauOf p span) nought) (refuses NegativePlateau)
+abbrev own_play_as : View → Float → Float → Play → Shape → ℕ → Own
+own_play_as v start span p kind k =
+    let b = bin_with v.channel.osc kind p span in
+    cond (lt (plateau_of p span) nought) (refuses NegativePlateau)
     (cond (finite b.global.0 && finite b.envelope.plateau.0)
     (cond (negligible p.amplitude.0 v.amp) same
-    (ownWeighed v start (weighedOf p.amplitude.0 p.phase.0 p.drag) (headOf b) (splineFor b.envelope.shape k)))
+    (own_weighed v start (weighed_of p.amplitude.0 p.phase.0 p.drag) (head_of b) (spline_for b.envelope.shape k)))
     (refuses NotFinite))
 
-abbrev ownPlayBy : View → Float → Float → Play → Found → Own
-ownPlayBy v start span p Nowhere = refuses UnknownShape
-ownPlayBy v start span p (At k) = ownPlayAs v start span p (kind_of (numbersAt v.splines k)) k
+abbrev own_play_by : View → Float → Float → Play → Found → Own
+own_play_by v start span p Nowhere = refuses UnknownShape
+own_play_by v start span p (At k) = own_play_as v start span p (kind_of (numbers_at v.splines k)) k
 
-abbrev ownPlay : View → Float → Float → Play → Own
-ownPlay v start span p = cond p.shaped (ownPlayBy v start span p (shapeFrom 0 p.shape v.shapes)) (ownPlayAs v start span p Plain noSpline)
+abbrev own_play : View → Float → Float → Play → Own
+own_play v start span p = cond p.shaped (own_play_by v start span p (shape_from 0 p.shape v.shapes)) (own_play_as v start span p Plain no_spline)
 
-abbrev ownAct : View → Float → Float → Command → Own
-ownAct v start span (C.Play p) = ownPlay v start span p
-ownAct v start span (C.ShiftPhase n x) = ownTurn v (movedBy (C.ShiftPhase n x) start v.channel.osc)
-ownAct v start span (C.SetPhase n x) = ownTurn v (movedBy (C.SetPhase n x) start v.channel.osc)
-ownAct v start span (C.ShiftFreq n x) = ownTurn v (movedBy (C.ShiftFreq n x) start v.channel.osc)
-ownAct v start span (C.SetFreq n x) = ownTurn v (movedBy (C.SetFreq n x) start v.channel.osc)
-ownAct v start span (C.SwapPhase n m) = same
-ownAct v start span C.Barrier = same
+abbrev own_act : View → Float → Float → Command → Own
+own_act v start span (C.Play p) = own_play v start span p
+own_act v start span (C.ShiftPhase n x) = own_turn v (moved_by (C.ShiftPhase n x) start v.channel.osc)
+own_act v start span (C.SetPhase n x) = own_turn v (moved_by (C.SetPhase n x) start v.channel.osc)
+own_act v start span (C.ShiftFreq n x) = own_turn v (moved_by (C.ShiftFreq n x) start v.channel.osc)
+own_act v start span (C.SetFreq n x) = own_turn v (moved_by (C.SetFreq n x) start v.channel.osc)
+own_act v start span (C.SwapPhase n m) = same
+own_act v start span C.Barrier = same
 
 abbrev pub own : View → Arranged → Own
 own v a =
-    cond (wellFormed a)
-    (cond (not v.oversize && lt (add binary64 a.span.0 v.time) (required a.command)) (refuses Oversize) (ownAct v a.start.0 a.span.0 a.command))
+    cond (well_formed a)
+    (cond (not v.oversize && lt (add binary64 a.span.0 v.time) (required a.command)) (refuses Oversize) (own_act v a.start.0 a.span.0 a.command))
     (refuses Malformed)
 
 -- ---- it is the step
@@ -138,52 +138,52 @@ module _ (t : Tables) (splines bins : List (List Float)) (i : ℕ) where
   v = view_of t splines bins i
 
   own-weighed : (start : Float) (w : Weighed) (head : List Float) (spline : ℕ)
-      → storedWith t splines bins i start w head spline ≡ realize t i (ownWeighed v start w head spline)
-  unfolding storedWith
+      → stored_with t splines bins i start w head spline ≡ realize t i (own_weighed v start w head spline)
+  unfolding stored_with
   own-weighed start Overflow head spline = refl
   own-weighed start (Fine w) head spline =
-      let place = place_of (head ++ numbersAt splines spline) (rows_of t bins i) in
+      let place = place_of (head ++ numbers_at splines spline) (rows_of t bins i) in
       let new = leb (length v.rows) place in
-      both_ways t i (ownFull v place) (refuses Full) (puts place new start w head spline) (stops t Full) (stores t i place new start w head spline) refl refl
+      both_ways t i (own_full v place) (refuses Full) (puts place new start w head spline) (stops t Full) (stores t i place new start w head spline) refl refl
 
   module _ (start span : Float) where
-    own-play-as : (p : Play) → found t p.channel ≡ At i → (kind : Shape) (k : ℕ)
-        → playedAs t splines bins start span p kind k ≡ realize t i (ownPlayAs v start span p kind k)
-    unfolding playedAt
-    own-play-as p e kind k =
-        let b = binWith (channelAt t i).osc kind p span in
-        let w = weighedOf p.amplitude.0 p.phase.0 p.drag in
+    own-play_as : (p : Play) → found t p.channel ≡ At i → (kind : Shape) (k : ℕ)
+        → played_as t splines bins start span p kind k ≡ realize t i (own_play_as v start span p kind k)
+    unfolding played_at
+    own-play_as p e kind k =
+        let b = bin_with (channel_at t i).osc kind p span in
+        let w = weighed_of p.amplitude.0 p.phase.0 p.drag in
         let quiet = negligible p.amplitude.0 t.amp.0 in
         let sound = finite b.global.0 && finite b.envelope.plateau.0 in
         rw e
-        (both_ways t i (lt (plateauOf p span) nought) (refuses NegativePlateau) _ (stops t NegativePlateau) _ refl
+        (both_ways t i (lt (plateau_of p span) nought) (refuses NegativePlateau) _ (stops t NegativePlateau) _ refl
         (both_ways t i sound _ (refuses NotFinite) _ (stops t NotFinite)
-        (both_ways t i quiet same _ (goesOn t) _ refl (own-weighed start w (headOf b) (splineFor b.envelope.shape k)))
+        (both_ways t i quiet same _ (goes_on t) _ refl (own-weighed start w (head_of b) (spline_for b.envelope.shape k)))
         refl))
 
-    own-play-by : (p : Play) → found t p.channel ≡ At i → (f : Found) → playedBy t splines bins f start span p ≡ realize t i (ownPlayBy v start span p f)
-    unfolding playedBy
+    own-play-by : (p : Play) → found t p.channel ≡ At i → (f : Found) → played_by t splines bins f start span p ≡ realize t i (own_play_by v start span p f)
+    unfolding played_by
     own-play-by p e Nowhere = refl
-    own-play-by p e (At k) = own-play-as p e (kind_of (numbersAt splines k)) k
+    own-play-by p e (At k) = own-play_as p e (kind_of (numbers_at splines k)) k
 
-    own-play : (p : Play) → found t p.channel ≡ At i → played t splines bins start span p ≡ realize t i (ownPlay v start span p)
-    own-play p e = both_ways t i p.shaped _ _ _ _ (own-play-by p e (shapeFound t p.shape)) (own-play-as p e Plain noSpline)
+    own-play : (p : Play) → found t p.channel ≡ At i → played t splines bins start span p ≡ realize t i (own_play v start span p)
+    own-play p e = both_ways t i p.shaped _ _ _ _ (own-play-by p e (shape_found t p.shape)) (own-play_as p e Plain no_spline)
 
-    own_turn : (m : Moved) → cond m.refused (stops t NotFinite) (goesOn (withOsc t i m.osc)) ≡ realize t i (ownTurn v m)
-    own_turn m = both_ways t i m.refused (refuses NotFinite) (turns m.osc) (stops t NotFinite) (goesOn (withOsc t i m.osc)) refl refl
+    own_turn_lem : (m : Moved) → cond m.refused (stops t NotFinite) (goes_on (with_osc t i m.osc)) ≡ realize t i (own_turn v m)
+    own_turn_lem m = both_ways t i m.refused (refuses NotFinite) (turns m.osc) (stops t NotFinite) (goes_on (with_osc t i m.osc)) refl refl
 
-    own-act : (c : Command) → isSwap c ≡ false → found t (named c) ≡ At i → acted t splines bins start span c ≡ realize t i (ownAct v start span c)
-    unfolding acted turnedAt isSwap
+    own-act : (c : Command) → is_swap c ≡ false → found t (named c) ≡ At i → acted t splines bins start span c ≡ realize t i (own_act v start span c)
+    unfolding acted turned_at is_swap
     own-act (C.Play p) e f = own-play p f
-    own-act (C.ShiftPhase n x) e f = rw f (own_turn (movedBy (C.ShiftPhase n x) start (channelAt t i).osc))
-    own-act (C.SetPhase n x) e f = rw f (own_turn (movedBy (C.SetPhase n x) start (channelAt t i).osc))
-    own-act (C.ShiftFreq n x) e f = rw f (own_turn (movedBy (C.ShiftFreq n x) start (channelAt t i).osc))
-    own-act (C.SetFreq n x) e f = rw f (own_turn (movedBy (C.SetFreq n x) start (channelAt t i).osc))
+    own-act (C.ShiftPhase n x) e f = rw f (own_turn_lem (moved_by (C.ShiftPhase n x) start (channel_at t i).osc))
+    own-act (C.SetPhase n x) e f = rw f (own_turn_lem (moved_by (C.SetPhase n x) start (channel_at t i).osc))
+    own-act (C.ShiftFreq n x) e f = rw f (own_turn_lem (moved_by (C.ShiftFreq n x) start (channel_at t i).osc))
+    own-act (C.SetFreq n x) e f = rw f (own_turn_lem (moved_by (C.SetFreq n x) start (channel_at t i).osc))
     own-act (C.SwapPhase n m) e f = absurd (true≢false e)
     own-act C.Barrier e f = refl
 
-  pub own-step : (a : Arranged) → isSwap a.command ≡ false → found t (named a.command) ≡ At i → step_of t splines bins a ≡ realize t i (own v a)
+  pub own-step : (a : Arranged) → is_swap a.command ≡ false → found t (named a.command) ≡ At i → step_of t splines bins a ≡ realize t i (own v a)
   own-step a e f =
-      both_ways t i (wellFormed a) _ (refuses Malformed) _ (stops t Malformed)
-      (both_ways t i (tooLong t a) (refuses Oversize) _ (stops t Oversize) _ refl (own-act a.start.0 a.span.0 a.command e f))
+      both_ways t i (well_formed a) _ (refuses Malformed) _ (stops t Malformed)
+      (both_ways t i (too_long t a) (refuses Oversize) _ (stops t Oversize) _ refl (own-act a.start.0 a.span.0 a.command e f))
       refl

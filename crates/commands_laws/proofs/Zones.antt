@@ -12,7 +12,7 @@ use lib.ListN.{take, drop}
 use lib.Seq.{take-nil, take-take, drop-drop}
 use Rattle.exact.proofs.Truth.{both}
 use Rattle.pulse.specs.declared.list.Pulse.{Pulse}
-use Rattle.pulse.specs.List.{anyBefore, placed, stored}
+use Rattle.pulse.specs.List.{any_before, placed, stored}
 use Rattle.pulse.proofs.Stored.{stored-front, stored_back}
 use Rattle.commands_laws.specs.Sound.{binned}
 
@@ -65,7 +65,7 @@ binned-more a b (q ∷ qs) h e =
 pub binned-placed : (many : ℕ) (p : Pulse) (l : List Pulse) → p.bin < many → binned many l ≡ true → binned many (placed p l) ≡ true
 unfolding binned placed
 binned-placed many p [] h e = rw (lt-ltb p.bin many h)
-binned-placed many p (q ∷ qs) h e = go (anyBefore (q ∷ qs) p) (binned-placed many p qs h parts.1)
+binned-placed many p (q ∷ qs) h e = go (any_before (q ∷ qs) p) (binned-placed many p qs h parts.1)
   where
     parts : (ltb q.bin many ≡ true) × (binned many qs ≡ true)
     parts = both (ltb q.bin many) (binned many qs) e

@@ -9,7 +9,7 @@ use lib.ListN.{length, get_or-append, length-append}
 use lib.Seq.{get_or-append_seam}
 use Rattle.exact.proofs.Naturals.{below_or, first-once}
 use Rattle.naming.specs.declared.Name.{Name}
-use Rattle.naming.specs.Name.{same_name, isIn}
+use Rattle.naming.specs.Name.{same_name, is_in}
 use Rattle.naming.proofs.Named.{same-exactly}
 use Rattle.quant.specs.declared.refusal.Answer.{Answer}
 use Rattle.quant.specs.declared.refusal.Answer.TheVariants.{Done, Refused}
@@ -18,8 +18,8 @@ use Rattle.quant.specs.declared.refusal.Refusal.TheVariants.{DoubledName, NoList
 use Rattle.tables.specs.declared.Found.{Found}
 use Rattle.tables.specs.declared.Found.TheVariants.{At, Nowhere}
 use Rattle.tables.specs.declared.Tables.{Tables}
-use Rattle.tables.specs.Tables.{noName, found}
-use Rattle.crosstalk.specs.Crosstalk.{isKnown, namesJudged}
+use Rattle.tables.specs.Tables.{no_name, found}
+use Rattle.crosstalk.specs.Crosstalk.{is_known, names_judged}
 use Rattle.crosstalk.specs.Faults.{name_at, StoodBefore, AtFault, doubled, no-list, NoneBefore, FirstAtFault}
 
 -- ---- a name among those before it
@@ -30,22 +30,22 @@ record Somewhere (n : Name) (ns : List Name) : Type 0 where
   there : place < length ns
   same : name_at ns place ≡ n
 
-in-stands : (n : Name) (ns : List Name) → isIn n ns ≡ true → Somewhere n ns
-unfolding isIn
-in-stands n [] e = absurd (true≢false (sym e))
-in-stands n (m ∷ ms) e = go (same_name m n) refl e (in-stands n ms)
+in_stands : (n : Name) (ns : List Name) → is_in n ns ≡ true → Somewhere n ns
+unfolding is_in
+in_stands n [] e = absurd (true≢false (sym e))
+in_stands n (m ∷ ms) e = go (same_name m n) refl e (in_stands n ms)
   where
-    go : (b : Bool) → same_name m n ≡ b → (b || isIn n ms) ≡ true → (isIn n ms ≡ true → Somewhere n ms) → Somewhere n (m ∷ ms)
+    go : (b : Bool) → same_name m n ≡ b → (b || is_in n ms) ≡ true → (is_in n ms ≡ true → Somewhere n ms) → Somewhere n (m ∷ ms)
     go true s e later = record { place = 0; there = omega arith; same = (same-exactly m n).0 s }
     go false s e later = let h = later e in record { place = suc h.place; there = omega (arith, h.there); same = h.same }
 
-stands-in : (ns : List Name) (i : ℕ) → i < length ns → isIn (name_at ns i) ns ≡ true
-unfolding isIn
-stands-in [] i h = absurd (omega arith)
-stands-in (m ∷ ms) zero h = rw ((same-exactly m m).1 refl)
-stands-in (m ∷ ms) (suc i) h = go (same_name m (name_at ms i)) (stands-in ms i (omega arith))
+stands_in : (ns : List Name) (i : ℕ) → i < length ns → is_in (name_at ns i) ns ≡ true
+unfolding is_in
+stands_in [] i h = absurd (omega arith)
+stands_in (m ∷ ms) zero h = rw ((same-exactly m m).1 refl)
+stands_in (m ∷ ms) (suc i) h = go (same_name m (name_at ms i)) (stands_in ms i (omega arith))
   where
-    go : (b : Bool) → isIn (name_at ms i) ms ≡ true → (b || isIn (name_at ms i) ms) ≡ true
+    go : (b : Bool) → is_in (name_at ms i) ms ≡ true → (b || is_in (name_at ms i) ms) ≡ true
     go true e = refl
     go false e = e
 
@@ -55,17 +55,17 @@ module _ (before : List Name) (n : Name) (ns : List Name) where
   all = before ++ n ∷ ns
 
   at-seam : name_at all (length before) ≡ n
-  at-seam = get_or-append_seam before n ns noName
+  at-seam = get_or-append_seam before n ns no_name
 
-  stood : isIn n before ≡ true → StoodBefore all (length before)
+  stood : is_in n before ≡ true → StoodBefore all (length before)
   stood e =
-      let h = in-stands n before e in
-      record { first = h.place; earlier = h.there; same = get_or-append before (n ∷ ns) noName h.place h.there ∙ h.same ∙ sym at-seam }
+      let h = in_stands n before e in
+      record { first = h.place; earlier = h.there; same = get_or-append before (n ∷ ns) no_name h.place h.there ∙ h.same ∙ sym at-seam }
 
-  not-stood : isIn n before ≡ false → StoodBefore all (length before) → ⊥
-  not-stood e h =
-      let same : name_at before h.first ≡ n = sym (get_or-append before (n ∷ ns) noName h.first h.earlier) ∙ h.same ∙ at-seam in
-      true≢false (sym (subst (λ (m : Name). isIn m before ≡ true) same (stands-in before h.first h.earlier)) ∙ e)
+  not_stood : is_in n before ≡ false → StoodBefore all (length before) → ⊥
+  not_stood e h =
+      let same : name_at before h.first ≡ n = sym (get_or-append before (n ∷ ns) no_name h.first h.earlier) ∙ h.same ∙ at-seam in
+      true≢false (sym (subst (λ (m : Name). is_in m before ≡ true) same (stands_in before h.first h.earlier)) ∙ e)
 
 -- ---- what is told
 
@@ -75,16 +75,16 @@ module _ (t : Tables) where
   Tells ns (Refused r k) = FirstAtFault t ns r k
   Tells ns (Done n) = (n ≡ 0) × NoneBefore t ns (length ns)
 
-  not-nowhere : (p : Found) → isKnown p ≡ true → p ≡ Nowhere → ⊥
+  not-nowhere : (p : Found) → is_known p ≡ true → p ≡ Nowhere → ⊥
   not-nowhere (At i) e f = let z : ◌≡◌ {A = ℕ} 0 1 = cc in omega arith
   not-nowhere Nowhere e f = true≢false (sym e)
 
-  nowhere : (p : Found) → isKnown p ≡ false → p ≡ Nowhere
+  nowhere : (p : Found) → is_known p ≡ false → p ≡ Nowhere
   nowhere (At i) e = absurd (true≢false e)
   nowhere Nowhere e = refl
 
   -- a name that is new and known is not at fault
-  clear : (ns : List Name) (i : ℕ) → (StoodBefore ns i → ⊥) → isKnown (found t (name_at ns i)) ≡ true → (q : Refusal) → AtFault t ns i q → ⊥
+  clear : (ns : List Name) (i : ℕ) → (StoodBefore ns i → ⊥) → is_known (found t (name_at ns i)) ≡ true → (q : Refusal) → AtFault t ns i q → ⊥
   clear ns i new known q (doubled h) = new h
   clear ns i new known q (no-list h f) = not-nowhere (found t (name_at ns i)) known f
 
@@ -95,10 +95,10 @@ module _ (t : Tables) where
       go (inl h) = none j h q f
       go (inr h) = let same : j ≡ i = omega arith in this q (subst (λ (x : ℕ). AtFault t ns x q) same f)
 
-  told : (before ns : List Name) → NoneBefore t (before ++ ns) (length before) → Tells (before ++ ns) (namesJudged t before ns)
-  unfolding namesJudged
+  told : (before ns : List Name) → NoneBefore t (before ++ ns) (length before) → Tells (before ++ ns) (names_judged t before ns)
+  unfolding names_judged
   told before [] none = (refl, subst (λ (k : ℕ). NoneBefore t (before ++ []) k) (sym (ap length (append-nil before))) none)
-  told before (n ∷ ns) none = go (isIn n before) (isKnown (found t n)) refl refl (later (told (before ++ n ∷ []) ns))
+  told before (n ∷ ns) none = go (is_in n before) (is_known (found t n)) refl refl (later (told (before ++ n ∷ []) ns))
     where
       same : (before ++ n ∷ []) ++ ns ≡ before ++ n ∷ ns
       same = append_assoc before (n ∷ []) ns
@@ -106,18 +106,18 @@ module _ (t : Tables) where
       here : length before < length (before ++ n ∷ ns)
       here = rw (length-append before (n ∷ ns)) (omega arith)
 
-      later : (NoneBefore t ((before ++ n ∷ []) ++ ns) (length (before ++ n ∷ [])) → Tells ((before ++ n ∷ []) ++ ns) (namesJudged t (before ++ n ∷ []) ns))
-          → NoneBefore t (before ++ n ∷ ns) (length before + 1) → Tells (before ++ n ∷ ns) (namesJudged t (before ++ n ∷ []) ns)
+      later : (NoneBefore t ((before ++ n ∷ []) ++ ns) (length (before ++ n ∷ [])) → Tells ((before ++ n ∷ []) ++ ns) (names_judged t (before ++ n ∷ []) ns))
+          → NoneBefore t (before ++ n ∷ ns) (length before + 1) → Tells (before ++ n ∷ ns) (names_judged t (before ++ n ∷ []) ns)
       later next h = rw same at (next (rw (same, length-append before (n ∷ [])) h))
 
-      go : (b k : Bool) → isIn n before ≡ b → isKnown (found t n) ≡ k
-          → (NoneBefore t (before ++ n ∷ ns) (length before + 1) → Tells (before ++ n ∷ ns) (namesJudged t (before ++ n ∷ []) ns))
-          → Tells (before ++ n ∷ ns) (cond b (Refused DoubledName (length before + 1)) (cond k (namesJudged t (before ++ n ∷ []) ns) (Refused NoList (length before + 1))))
-      go true k e f next = record { place = length before; there = here; from-1 = refl; fault = doubled (stood before n ns e); none_before = none }
+      go : (b k : Bool) → is_in n before ≡ b → is_known (found t n) ≡ k
+          → (NoneBefore t (before ++ n ∷ ns) (length before + 1) → Tells (before ++ n ∷ ns) (names_judged t (before ++ n ∷ []) ns))
+          → Tells (before ++ n ∷ ns) (cond b (Refused DoubledName (length before + 1)) (cond k (names_judged t (before ++ n ∷ []) ns) (Refused NoList (length before + 1))))
+      go true k e f next = record { place = length before; there = here; from_1 = refl; fault = doubled (stood before n ns e); none_before = none }
       go false false e f next =
           let missing = nowhere (found t (name_at (before ++ n ∷ ns) (length before))) (rw (at-seam before n ns) f) in
-          record { place = length before; there = here; from-1 = refl; fault = no-list (not-stood before n ns e) missing; none_before = none }
-      go false true e f next = next (one_more (before ++ n ∷ ns) (length before) none (clear (before ++ n ∷ ns) (length before) (not-stood before n ns e) (rw (at-seam before n ns) f)))
+          record { place = length before; there = here; from_1 = refl; fault = no-list (not_stood before n ns e) missing; none_before = none }
+      go false true e f next = next (one_more (before ++ n ∷ ns) (length before) none (clear (before ++ n ∷ ns) (length before) (not_stood before n ns e) (rw (at-seam before n ns) f)))
 
   -- ---- one name is the first at fault, and in one way
 
@@ -131,7 +131,7 @@ module _ (t : Tables) where
   one-first ns q r j k f g =
       let at-fault : ℕ → Type 0 = λ i. (w : Refusal) × AtFault t ns i w in
       let same : g.place ≡ f.place = first-once at-fault g.place f.place (r, g.fault) (λ i under h. g.none_before i under h.0 h.1) (q, f.fault) (λ i under h. f.none_before i under h.0 h.1) in
-      (one_way ns f.place q r f.fault (subst (λ (x : ℕ). AtFault t ns x r) same g.fault), omega (arith, f.from-1, g.from-1))
+      (one_way ns f.place q r f.fault (subst (λ (x : ℕ). AtFault t ns x r) same g.fault), omega (arith, f.from_1, g.from_1))
 
   -- ---- the laws, of all names
 
@@ -140,19 +140,19 @@ module _ (t : Tables) where
     none_yet j under = absurd (omega arith)
 
     -- a refusal with its position tells the first name at fault, and that is told
-    pub name-told : (r : Refusal) (k : ℕ) → namesJudged t [] ns ≡ Refused r k ↔ FirstAtFault t ns r k
-    name-told r k = ((λ e. rw e at (told [] ns none_yet)), (λ f. by (namesJudged t [] ns) refl (told [] ns none_yet) f))
+    pub name-told : (r : Refusal) (k : ℕ) → names_judged t [] ns ≡ Refused r k ↔ FirstAtFault t ns r k
+    name-told r k = ((λ e. rw e at (told [] ns none_yet)), (λ f. by (names_judged t [] ns) refl (told [] ns none_yet) f))
       where
-        by : (a : Answer) → namesJudged t [] ns ≡ a → Tells ns a → FirstAtFault t ns r k → a ≡ Refused r k
+        by : (a : Answer) → names_judged t [] ns ≡ a → Tells ns a → FirstAtFault t ns r k → a ≡ Refused r k
         by (Done n) e h f = absurd (h.1 f.place f.there r f.fault)
         by (Refused q j) e h f = let same = one-first ns q r j k h f in λ i. Refused (same.0 i) (same.1 i)
 
-    pub told-done : (n : ℕ) → namesJudged t [] ns ≡ Done n → n ≡ 0
+    pub told-done : (n : ℕ) → names_judged t [] ns ≡ Done n → n ≡ 0
     told-done n e = (rw e at (told [] ns none_yet)).0
 
     -- none is told exactly where none is at fault
-    pub none_told : namesJudged t [] ns ≡ Done 0 ↔ NoneBefore t ns (length ns)
-    none_told = ((λ e. (rw e at (told [] ns none_yet)).1), (λ h. by (namesJudged t [] ns) (told [] ns none_yet) h))
+    pub none_told : names_judged t [] ns ≡ Done 0 ↔ NoneBefore t ns (length ns)
+    none_told = ((λ e. (rw e at (told [] ns none_yet)).1), (λ h. by (names_judged t [] ns) (told [] ns none_yet) h))
       where
         by : (a : Answer) → Tells ns a → NoneBefore t ns (length ns) → a ≡ Done 0
         by (Done n) h none = ap Done h.0
@@ -160,13 +160,13 @@ module _ (t : Tables) where
 
 -- ---- examples
 
-module _ (t : Tables) (a : Name) (known : isKnown (found t a) ≡ true) where
+module _ (t : Tables) (a : Name) (known : is_known (found t a) ≡ true) where
   -- b stands again before a does
-  pub a-b-b-a : (b : Name) → same_name a b ≡ false → isKnown (found t b) ≡ true → namesJudged t [] (a ∷ b ∷ b ∷ a ∷ []) ≡ Refused DoubledName 3
-  unfolding namesJudged isIn
+  pub a-b-b-a : (b : Name) → same_name a b ≡ false → is_known (found t b) ≡ true → names_judged t [] (a ∷ b ∷ b ∷ a ∷ []) ≡ Refused DoubledName 3
+  unfolding names_judged is_in
   a-b-b-a b apart too = rw (known, apart, too, (same-exactly b b).1 refl)
 
   -- x has no list, and stands before a's repeat
-  pub a-x-a : (x : Name) → same_name a x ≡ false → found t x ≡ Nowhere → namesJudged t [] (a ∷ x ∷ a ∷ []) ≡ Refused NoList 2
-  unfolding namesJudged isIn
+  pub a-x-a : (x : Name) → same_name a x ≡ false → found t x ≡ Nowhere → names_judged t [] (a ∷ x ∷ a ∷ []) ≡ Refused NoList 2
+  unfolding names_judged is_in
   a-x-a x apart none = rw (known, apart, none)

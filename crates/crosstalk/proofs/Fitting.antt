@@ -13,35 +13,35 @@ use Rattle.naming.specs.Name.{same_name}
 use Rattle.exact.proofs.Truth.{both}
 use Rattle.tables.specs.declared.Found.TheVariants.{At}
 use Rattle.crosstalk.specs.declared.names.Crosstalk.{Crosstalk}
-use Rattle.crosstalk.specs.Crosstalk.{namesIn, crossFits, rowFrom, row_of}
+use Rattle.crosstalk.specs.Crosstalk.{names_in, cross_fits, row_from, row_of}
 
 pub record Fits (count lent : ℕ) : Type 0 where
   pub few : count ≤ 8
   pub square : count * count ≤ 64
   pub enough : count * count ≤ lent
 
-pub square-64 : {n : ℕ} → n ≤ 8 → n * n ≤ 64
-square-64 h = mul-le-mul h h
+pub square_64 : {n : ℕ} → n ≤ 8 → n * n ≤ 64
+square_64 h = mul-le-mul h h
 
-pub fitting : (count lent : ℕ) → crossFits count lent ≡ true → Fits count lent
+pub fitting : (count lent : ℕ) → cross_fits count lent ≡ true → Fits count lent
 fitting count lent e =
     let two = both (leb count 8) (leb (count * count) lent) e in
     let few = leb-true count 8 two.0 in
-    record { few = few; square = square-64 few; enough = leb-true (count * count) lent two.1 }
+    record { few = few; square = square_64 few; enough = leb-true (count * count) lent two.1 }
 
 -- a row that is found is one of those looked at
-pub row_under : (k : ℕ) (n : Name) (ns : List Name) (r : ℕ) → rowFrom k n ns ≡ At r → r < k + length ns
-unfolding rowFrom
+pub row_under : (k : ℕ) (n : Name) (ns : List Name) (r : ℕ) → row_from k n ns ≡ At r → r < k + length ns
+unfolding row_from
 row_under k n [] r e = let z : ◌≡◌ {A = ℕ} 0 1 = cc in absurd (omega arith)
 row_under k n (m ∷ ns) r e = go (same_name m n) e (row_under (suc k) n ns r)
   where
-    go : (b : Bool) → cond b (At k) (rowFrom (suc k) n ns) ≡ At r → (rowFrom (suc k) n ns ≡ At r → r < suc k + length ns) → r < k + suc (length ns)
+    go : (b : Bool) → cond b (At k) (row_from (suc k) n ns) ≡ At r → (row_from (suc k) n ns ≡ At r → r < suc k + length ns) → r < k + suc (length ns)
     go true f later = let same : k ≡ r = cc in omega arith
     go false f later = let under = later f in omega arith
 
-pub row_below : (c : Crosstalk) (n : Name) (r : ℕ) → row_of n (namesIn c) ≡ At r → r < c.count
+pub row_below : (c : Crosstalk) (n : Name) (r : ℕ) → row_of n (names_in c) ≡ At r → r < c.count
 row_below c n r e =
-    let under = row_under 0 n (namesIn c) r e in
+    let under = row_under 0 n (names_in c) r e in
     let most = rw (length-take c.count c.names) at under in
     omega (arith, most)
 

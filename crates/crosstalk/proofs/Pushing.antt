@@ -13,8 +13,8 @@ use Rattle.tables.specs.declared.Found.TheVariants.{At, Nowhere}
 use Rattle.tables.specs.declared.Tables.{Tables}
 use Rattle.tables.specs.Tables.{found}
 use Rattle.merge.specs.declared.taking.Taking.{Taking}
-use Rattle.merge.specs.Taking.{Part, part, placeOfPart, factorOfPart, packed}
-use Rattle.crosstalk.specs.Crosstalk.{part_of, rowParts, pushed}
+use Rattle.merge.specs.Taking.{Part, part, place_of_part, factor_of_part, packed}
+use Rattle.crosstalk.specs.Crosstalk.{part_of, row_parts, pushed}
 
 -- the first of what fills the array up makes room for one more
 push-end : {A : Type 0} (xs : List A) (k : ℕ) (d v : A) → set (xs ++ replicate (suc k) d) (length xs) v ≡ (xs ++ (v ∷ [])) ++ replicate k d
@@ -37,7 +37,7 @@ push-array {B} g d done p h =
 pub push-packed : (done : List Part) (i : ℕ) (f : Float) → length done < 8 → pushed (packed done) (At i) f ≡ packed (done ++ (part i f ∷ []))
 unfolding pushed packed
 push-packed done i f h =
-    rw (push-array placeOfPart 0 done (part i f) h, push-array factorOfPart nought done (part i f) h, length-append done (part i f ∷ []))
+    rw (push-array place_of_part 0 done (part i f) h, push-array factor_of_part nought done (part i f) h, length-append done (part i f ∷ []))
 
 -- one list alone
 pub one-pushed : (p : Found) (f : Float) → pushed (packed []) p f ≡ packed (part_of p f [])
@@ -52,7 +52,7 @@ pub record Turn (t : Tables) (names : List Name) (row : List Float) (k : ℕ) (t
   pub done : List Part
   pub is : taking ≡ packed done
   pub few : length done ≤ k
-  pub whole : done ++ rowParts t (drop k names) (drop k row) ≡ rowParts t names row
+  pub whole : done ++ row_parts t (drop k names) (drop k row) ≡ row_parts t names row
 
 module _ (t : Tables) (names : List Name) (row : List Float) (k : ℕ) (taking : Taking) where
   pub turn-count : Turn t names row k taking → taking.count ≤ k
@@ -60,28 +60,28 @@ module _ (t : Tables) (names : List Name) (row : List Float) (k : ℕ) (taking :
   turn-count h = let same : taking.count ≡ length h.done = ap (λ (x : Taking). x.count) h.is in omega (arith, h.few)
 
   -- no name is left
-  pub turn_end : drop k names ≡ [] → Turn t names row k taking → taking ≡ packed (rowParts t names row)
-  unfolding rowParts
+  pub turn_end : drop k names ≡ [] → Turn t names row k taking → taking ≡ packed (row_parts t names row)
+  unfolding row_parts
   turn_end none h =
-      let whole : h.done ++ [] ≡ rowParts t names row = rw none at h.whole in
+      let whole : h.done ++ [] ≡ row_parts t names row = rw none at h.whole in
       h.is ∙ ap packed (sym (append-nil h.done) ∙ whole)
 
   -- a name and its factor
   module _ (n : Name) (f : Float) (at : drop k names ≡ n ∷ drop (k + 1) names) (on : drop k row ≡ f ∷ drop (k + 1) row) where
     abbrev rest : List Part
-    rest = rowParts t (drop (k + 1) names) (drop (k + 1) row)
+    rest = row_parts t (drop (k + 1) names) (drop (k + 1) row)
 
     pub turn-skip : eq f nought ≡ true → Turn t names row k taking → Turn t names row (k + 1) taking
-    unfolding rowParts
+    unfolding row_parts
     turn-skip z h =
-        let now : rowParts t (drop k names) (drop k row) ≡ rest = rw (at, on, z) in
+        let now : row_parts t (drop k names) (drop k row) ≡ rest = rw (at, on, z) in
         record { done = h.done; is = h.is; few = omega (arith, h.few); whole = ap (λ (l : List Part). h.done ++ l) (sym now) ∙ h.whole }
 
     pub turn-with : k < 8 → eq f nought ≡ false → Turn t names row k taking → Turn t names row (k + 1) (pushed taking (found t n) f)
-    unfolding rowParts part_of pushed
+    unfolding row_parts part_of pushed
     turn-with room z h = go (found t n) (rw (at, on, z))
       where
-        go : (p : Found) → rowParts t (drop k names) (drop k row) ≡ part_of p f rest → Turn t names row (k + 1) (pushed taking p f)
+        go : (p : Found) → row_parts t (drop k names) (drop k row) ≡ part_of p f rest → Turn t names row (k + 1) (pushed taking p f)
         go (At i) now =
             record {
               done = h.done ++ (part i f ∷ []);

@@ -5,11 +5,11 @@ use Rattle.quant.specs.declared.refusal.Refusal.{Refusal}
 use Rattle.quant.specs.declared.refusal.Refusal.TheVariants.{DoubledName, NoList}
 use Rattle.tables.specs.declared.Found.TheVariants.{Nowhere}
 use Rattle.tables.specs.declared.Tables.{Tables}
-use Rattle.tables.specs.Tables.{noName, found}
+use Rattle.tables.specs.Tables.{no_name, found}
 
 -- the name at a place, from 0
 abbrev pub name_at : List Name → ℕ → Name
-name_at ns i = get_or ns i noName
+name_at ns i = get_or ns i no_name
 
 -- the name at place i stands at an earlier place too
 pub record StoodBefore (ns : List Name) (i : ℕ) : Type 0 where
@@ -30,6 +30,6 @@ NoneBefore t ns i = (j : ℕ) → j < i → (q : Refusal) → AtFault t ns j q �
 pub record FirstAtFault (t : Tables) (ns : List Name) (r : Refusal) (position : ℕ) : Type 0 where
   pub place : ℕ
   pub there : place < length ns
-  pub from-1 : position ≡ place + 1
+  pub from_1 : position ≡ place + 1
   pub fault : AtFault t ns place r
   pub none_before : NoneBefore t ns place

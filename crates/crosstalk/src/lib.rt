@@ -1,7 +1,7 @@
 // Which channels' lists take part in a sampling, with which factors, or the refusal. The crosstalk half of the Rust's `merge_and_sample`.
 // Document 01: "a channel among the names takes its row; factor 0 skips a list". Of a sampling call's order 13, 2, 17 and 18, 7 are judged here.
 ghost use Rattle.std.specs.Prelude.{◌≡◌, ◌≤◌};
-ghost use Rattle.crosstalk.specs.Crosstalk.{crossFits, crossFine, planned};
+ghost use Rattle.crosstalk.specs.Crosstalk.{cross_fits, cross_fine, planned};
 
 use names::{Crosstalk, all_names, is_known, names_judged};
 use naming::{Name, is_name};
@@ -37,7 +37,7 @@ pub fn plan(t: Tables, channel: Name, c: Crosstalk, factors: &[f64]) -> Plan
 
 // At most eight names, and a factor for each two of them.
 fn fits(count: usize, lent: usize) -> bool
-    ensures { result ≡ crossFits count lent }
+    ensures { result ≡ cross_fits count lent }
 {
     if 8 < count {
         return false;
@@ -47,7 +47,7 @@ fn fits(count: usize, lent: usize) -> bool
 
 fn is_fine(channel: Name, c: Crosstalk, factors: &[f64]) -> bool
     requires { c.count ≤ 8 }
-    ensures { result ≡ crossFine channel c factors.now }
+    ensures { result ≡ cross_fine channel c factors.now }
 {
     both(both(is_name(channel), all_names(c)), all_finite(factors))
 }

@@ -1,6 +1,6 @@
 // The names of a crosstalk matrix, and what is judged of them.
 ghost use Rattle.std.specs.Prelude.{◌≡◌, ◌≤◌, []};
-ghost use Rattle.crosstalk.specs.Crosstalk.{namesIn, allNames, isKnown, namesJudged, row_of};
+ghost use Rattle.crosstalk.specs.Crosstalk.{names_in, all_names, is_known, names_judged, row_of};
 
 use naming::{Name, is_name, same};
 use quant::refusal::{Answer, Refusal};
@@ -15,7 +15,7 @@ pub struct Crosstalk {
 
 pub(crate) fn all_names(c: Crosstalk) -> bool
     requires { c.count ≤ 8 }
-    ensures { result ≡ allNames (namesIn c) }
+    ensures { result ≡ all_names (names_in c) }
 {
     let mut i: usize = 0;
     while i < c.count {
@@ -30,7 +30,7 @@ pub(crate) fn all_names(c: Crosstalk) -> bool
 // "names taken in reading order": the first that stood before (17) or has no list (18), by its position from 1; done where there is none.
 pub(crate) fn names_judged(t: Tables, c: Crosstalk) -> Answer
     requires { c.count ≤ 8 }
-    ensures { result ≡ namesJudged t [] (namesIn c) }
+    ensures { result ≡ names_judged t [] (names_in c) }
 {
     let mut answer = Answer::Done(0);
     let mut i: usize = 0;
@@ -53,7 +53,7 @@ pub(crate) fn names_judged(t: Tables, c: Crosstalk) -> Answer
 }
 
 pub(crate) fn is_known(at: Found) -> bool
-    ensures { result ≡ isKnown at }
+    ensures { result ≡ is_known at }
 {
     match at {
         Found::At(_) => true,
@@ -64,7 +64,7 @@ pub(crate) fn is_known(at: Found) -> bool
 // Where a channel stands among the names: its row.
 pub(crate) fn row_of(c: Crosstalk, channel: Name) -> Found
     requires { c.count ≤ 8 }
-    ensures { result ≡ row_of channel (namesIn c) }
+    ensures { result ≡ row_of channel (names_in c) }
 {
     let mut i: usize = 0;
     while i < c.count {

@@ -1,7 +1,7 @@
 // The lists that take part, put into a plan.
 ghost use Rattle.std.specs.Prelude.{◌≡◌, ◌≤◌, ◌<◌, ◌*◌, length, []};
 ghost use Rattle.merge.specs.Taking.{packed};
-ghost use Rattle.crosstalk.specs.Crosstalk.{namesIn, partsFor, rowParts, ownParts, pushed, refusedPlan, acceptedPlan};
+ghost use Rattle.crosstalk.specs.Crosstalk.{names_in, parts_for, row_parts, own_parts, pushed, refused_plan, accepted_plan};
 
 use super::names::{Crosstalk, row_of};
 use merge::taking::Taking;
@@ -18,7 +18,7 @@ pub struct Plan {
 }
 
 pub(crate) fn refused(why: Refusal, place: usize) -> Plan
-    ensures { result ≡ refusedPlan why place }
+    ensures { result ≡ refused_plan why place }
 {
     let taking = none();
     Plan {
@@ -29,7 +29,7 @@ pub(crate) fn refused(why: Refusal, place: usize) -> Plan
 }
 
 pub(crate) fn accepted(taking: Taking) -> Plan
-    ensures { result ≡ acceptedPlan taking }
+    ensures { result ≡ accepted_plan taking }
 {
     Plan {
         refused: false,
@@ -42,7 +42,7 @@ pub(crate) fn accepted(taking: Taking) -> Plan
 pub(crate) fn parts_for(t: Tables, channel: Name, c: Crosstalk, factors: &[f64]) -> Taking
     requires count_bound { c.count ≤ 8 }
     requires count_in_bounds { c.count * c.count ≤ length factors.now }
-    ensures { result ≡ packed (partsFor t channel c factors.now) }
+    ensures { result ≡ packed (parts_for t channel c factors.now) }
 {
     match row_of(c, channel) {
         Found::At(row) => {
@@ -58,7 +58,7 @@ pub(crate) fn parts_for(t: Tables, channel: Name, c: Crosstalk, factors: &[f64])
 fn row_parts(t: Tables, c: Crosstalk, row: &[f64]) -> Taking
     requires count_bound { c.count ≤ 8 }
     requires row_len { length row.now ≡ c.count }
-    ensures { result ≡ packed (rowParts t (namesIn c) row.now) }
+    ensures { result ≡ packed (row_parts t (names_in c) row.now) }
 {
     let mut taking = none();
     let mut k: usize = 0;
@@ -72,7 +72,7 @@ fn row_parts(t: Tables, c: Crosstalk, row: &[f64]) -> Taking
 }
 
 fn own(t: Tables, channel: Name) -> Taking
-    ensures { result ≡ packed (ownParts t channel) }
+    ensures { result ≡ packed (own_parts t channel) }
 {
     with_part(none(), find(t, channel), 1.0)
 }

@@ -8,9 +8,9 @@ use lib.Seq.{take_all}
 use lib.Ieee.{Float, binary64, fits, nan_bits, of_bits, to_bits}
 use lib.Ieee.Bits.{nan_bits_is, of_bits-to_bits, to_bits-of_bits, to_bits-lt}
 use Rattle.lines.proofs.Nan.{is-not}
-use Rattle.hex.specs.declared.Word.TheVariants.{Bits}
-use Rattle.hex.specs.Hex.{digits, field, room, word_at}
-use Rattle.hex.proofs.Number.{all_digits, length_digits, number_digits}
+use Rattle.hexadecimal.specs.declared.Word.TheVariants.{Bits}
+use Rattle.hexadecimal.specs.Hex.{digits, field, room, word_at}
+use Rattle.hexadecimal.proofs.Number.{all_digits, length_digits, number_digits}
 use Rattle.decimal.specs.declared.number.Number.TheVariants.{Double}
 use Rattle.decimal.specs.Number.{number_of}
 

@@ -2,11 +2,11 @@
 use mathlib.Core.Path.{◌≡◌, refl}
 use mathlib.Core.List.{[], ◌∷◌, map}
 use lib.Ieee.{binary64, of_bits, round}
-use Rattle.hex.specs.Hex.{digitValue, allDigits, number, room, field, word_at}
+use Rattle.hexadecimal.specs.Hex.{digit_value, all_digits, number, room, field, word_at}
 use Rattle.decimal.specs.declared.digits.Digits.TheVariants as digits
 use Rattle.decimal.specs.declared.number.Number.TheVariants.{Double, Bad}
-use Rattle.decimal.specs.Digits.{place_of, digitOf, digitsFrom, digitsOf}
-use Rattle.decimal.specs.Number.{parted, significandOf, fewOf, powerOf, powerAt, scaledBy, size_of, hexSizeOf, isHex, unsignedOf, decimalOf, number_of}
+use Rattle.decimal.specs.Digits.{place_of, digit_of, digits_from, digits_of}
+use Rattle.decimal.specs.Number.{parted, significand_of, few_of, power_of, power_at, scaled_by, size_of, hex_size_of, is_hex, unsigned_of, decimal_of, number_of}
 
 -- `4.5e9`, `-0.25`, `2e-9`, `-0`, `.5`, `1.`, `1.5e23`, `1234567890123456`, `1e23`, `1E5`, `0.15000000000000002`, `9007199254740993`, `9007199254740992.5000000000000000000001e0`, `1e400`, `-1e-400`, `4.9e-324`, `0x1.3333333333334p-3`, `-0X.8P1`, `0x1p-1080`, `1234567890123456.`
 pub are-read : map number_of ((52 ∷ 46 ∷ 53 ∷ 101 ∷ 57 ∷ [])
@@ -51,7 +51,7 @@ pub are-read : map number_of ((52 ∷ 46 ∷ 53 ∷ 101 ∷ 57 ∷ [])
     ∷ (Double (of_bits binary64 0x0000000000000000))
     ∷ (Double (of_bits binary64 0x43118b54f22aeb00))
     ∷ []
-unfolding number_of decimalOf unsignedOf isHex size_of hexSizeOf significandOf fewOf parted place_of digitsFrom digitOf powerOf powerAt digitsOf scaledBy of_bits round word_at room field allDigits number digitValue
+unfolding number_of decimal_of unsigned_of is_hex size_of hex_size_of significand_of few_of parted place_of digits_from digit_of power_of power_at digits_of scaled_by of_bits round word_at room field all_digits number digit_value
 are-read = refl
 
 -- ``, `1e`, `.`, `+1`, `0x`, `0x1p`, `1e1234567890123456`, `0x12345678901234567`, `1_0`, `e5`, `--1`
@@ -68,10 +68,10 @@ pub are-not : map number_of (([])
     ∷ (45 ∷ 45 ∷ 49 ∷ [])
     ∷ [])
     ≡ Bad ∷ Bad ∷ Bad ∷ Bad ∷ Bad ∷ Bad ∷ Bad ∷ Bad ∷ Bad ∷ Bad ∷ Bad ∷ []
-unfolding number_of decimalOf unsignedOf isHex size_of hexSizeOf significandOf fewOf parted place_of digitsFrom digitOf powerOf powerAt digitsOf scaledBy of_bits round word_at room field allDigits number digitValue
+unfolding number_of decimal_of unsigned_of is_hex size_of hex_size_of significand_of few_of parted place_of digits_from digit_of power_of power_at digits_of scaled_by of_bits round word_at room field all_digits number digit_value
 are-not = refl
 
 -- `b` in `ab` stands at 1, and in `a` at the end; a number of no figures is none
-pub are-placed : (place_of 98 (97 ∷ 98 ∷ []) ≡ 1) × (place_of 98 (97 ∷ []) ≡ 1) × (digitsOf [] ≡ digits.Bad)
-unfolding place_of digitsOf
+pub are-placed : (place_of 98 (97 ∷ 98 ∷ []) ≡ 1) × (place_of 98 (97 ∷ []) ≡ 1) × (digits_of [] ≡ digits.Bad)
+unfolding place_of digits_of
 are-placed = (refl, refl, refl)

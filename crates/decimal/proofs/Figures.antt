@@ -10,19 +10,19 @@ use lib.Dec.{ltb}
 use lib.ListN.{length, get_or, drop, drop_of_length-le}
 use lib.Seq.{drop-cons}
 use Rattle.decimal.specs.declared.digits.Digits.TheVariants.{Value, Bad}
-use Rattle.decimal.specs.Digits.{digitOf, digitsFrom}
+use Rattle.decimal.specs.Digits.{digit_of, digits_from}
 
 module _ (base n : ℕ) (text : List ℕ) (i : ℕ) where
-  pub one_more : i < length text → digitOf (get_or text i 0) < base → digitsFrom base n (drop i text) ≡ digitsFrom base (n * base + digitOf (get_or text i 0)) (drop (suc i) text)
-  unfolding digitsFrom
+  pub one_more : i < length text → digit_of (get_or text i 0) < base → digits_from base n (drop i text) ≡ digits_from base (n * base + digit_of (get_or text i 0)) (drop (suc i) text)
+  unfolding digits_from
   one_more h l = rw (drop-cons text i 0 h) (simp (lt-ltb _ _ l))
 
-  pub no_digit : i < length text → base ≤ digitOf (get_or text i 0) → digitsFrom base n (drop i text) ≡ Bad
-  unfolding digitsFrom
+  pub no_digit : i < length text → base ≤ digit_of (get_or text i 0) → digits_from base n (drop i text) ≡ Bad
+  unfolding digits_from
   no_digit h l = rw (drop-cons text i 0 h) (simp (le-ltb _ _ l))
 
-  pub no_more : length text ≤ i → digitsFrom base n (drop i text) ≡ Value n
-  unfolding digitsFrom
+  pub no_more : length text ≤ i → digits_from base n (drop i text) ≡ Value n
+  unfolding digits_from
   no_more h = rw (drop_of_length-le text h)
 
 -- ---- n has room for k digits more
@@ -44,35 +44,35 @@ room_next base n k d w h r =
     regroup a b c = omega arith
 
 -- ---- digits behind digits
-pub digits-after : (base n m : ℕ) (a b : List ℕ) → digitsFrom base n a ≡ Value m → digitsFrom base n (a ++ b) ≡ digitsFrom base m b
-unfolding digitsFrom
+pub digits-after : (base n m : ℕ) (a b : List ℕ) → digits_from base n a ≡ Value m → digits_from base n (a ++ b) ≡ digits_from base m b
+unfolding digits_from
 digits-after base n m [] b e = let same : n ≡ m = cc in rw same
-digits-after base n m (x ∷ a) b e = by (ltb (digitOf x) base) e (digits-after base (n * base + digitOf x) m a b)
+digits-after base n m (x ∷ a) b e = by (ltb (digit_of x) base) e (digits-after base (n * base + digit_of x) m a b)
   where
-    by : (t : Bool) → cond t (digitsFrom base (n * base + digitOf x) a) Bad ≡ Value m
-        → (digitsFrom base (n * base + digitOf x) a ≡ Value m → digitsFrom base (n * base + digitOf x) (a ++ b) ≡ digitsFrom base m b)
-        → cond t (digitsFrom base (n * base + digitOf x) (a ++ b)) Bad ≡ digitsFrom base m b
+    by : (t : Bool) → cond t (digits_from base (n * base + digit_of x) a) Bad ≡ Value m
+        → (digits_from base (n * base + digit_of x) a ≡ Value m → digits_from base (n * base + digit_of x) (a ++ b) ≡ digits_from base m b)
+        → cond t (digits_from base (n * base + digit_of x) (a ++ b)) Bad ≡ digits_from base m b
     by true e rest = rest e
     by false e rest = cc
 
-pub digits-broken : (base n : ℕ) (a b : List ℕ) → digitsFrom base n a ≡ Bad → digitsFrom base n (a ++ b) ≡ Bad
-unfolding digitsFrom
+pub digits-broken : (base n : ℕ) (a b : List ℕ) → digits_from base n a ≡ Bad → digits_from base n (a ++ b) ≡ Bad
+unfolding digits_from
 digits-broken base n [] b e = cc
-digits-broken base n (x ∷ a) b e = by (ltb (digitOf x) base) e (digits-broken base (n * base + digitOf x) a b)
+digits-broken base n (x ∷ a) b e = by (ltb (digit_of x) base) e (digits-broken base (n * base + digit_of x) a b)
   where
-    by : (t : Bool) → cond t (digitsFrom base (n * base + digitOf x) a) Bad ≡ Bad
-        → (digitsFrom base (n * base + digitOf x) a ≡ Bad → digitsFrom base (n * base + digitOf x) (a ++ b) ≡ Bad)
-        → cond t (digitsFrom base (n * base + digitOf x) (a ++ b)) Bad ≡ Bad
+    by : (t : Bool) → cond t (digits_from base (n * base + digit_of x) a) Bad ≡ Bad
+        → (digits_from base (n * base + digit_of x) a ≡ Bad → digits_from base (n * base + digit_of x) (a ++ b) ≡ Bad)
+        → cond t (digits_from base (n * base + digit_of x) (a ++ b)) Bad ≡ Bad
     by true e rest = rest e
     by false e rest = refl
 
 -- k digits stand for less than base ^ k
-pub digits-most : (base n m : ℕ) (a : List ℕ) → digitsFrom base n a ≡ Value m → m + 1 ≤ (n + 1) * base ^ length a
-unfolding digitsFrom
+pub digits-most : (base n m : ℕ) (a : List ℕ) → digits_from base n a ≡ Value m → m + 1 ≤ (n + 1) * base ^ length a
+unfolding digits_from
 digits-most base n m [] e = let same : n ≡ m = cc in rw (pow-zero base) (omega arith)
-digits-most base n m (x ∷ a) e = by (ltb (digitOf x) base) refl e (digits-most base (n * base + digitOf x) m a)
+digits-most base n m (x ∷ a) e = by (ltb (digit_of x) base) refl e (digits-most base (n * base + digit_of x) m a)
   where
-    by : (t : Bool) → ltb (digitOf x) base ≡ t → cond t (digitsFrom base (n * base + digitOf x) a) Bad ≡ Value m
-        → (digitsFrom base (n * base + digitOf x) a ≡ Value m → m + 1 ≤ (n * base + digitOf x + 1) * base ^ length a) → m + 1 ≤ (n + 1) * base ^ suc (length a)
-    by true f e below = le_trans (below e) (room_next base n (length a) (digitOf x) ((n + 1) * base ^ suc (length a)) (ltb-true (digitOf x) base f) (le_refl ((n + 1) * base ^ suc (length a))))
+    by : (t : Bool) → ltb (digit_of x) base ≡ t → cond t (digits_from base (n * base + digit_of x) a) Bad ≡ Value m
+        → (digits_from base (n * base + digit_of x) a ≡ Value m → m + 1 ≤ (n * base + digit_of x + 1) * base ^ length a) → m + 1 ≤ (n + 1) * base ^ suc (length a)
+    by true f e below = le_trans (below e) (room_next base n (length a) (digit_of x) ((n + 1) * base ^ suc (length a)) (ltb-true (digit_of x) base f) (le_refl ((n + 1) * base ^ suc (length a))))
     by false f e below = let z : ◌≡◌ {A = ℕ} 0 1 = cc in omega arith

@@ -12,40 +12,40 @@ use lib.ListN.{length, take, drop, get_or, take-append-drop, drop_of_length-le, 
 use lib.Seq.{drop-cons, take_all}
 use lib.Ieee.{binary64, round}
 use Rattle.exact.proofs.Naturals.{below_or}
-use Rattle.wide_decimal.specs.Figures.{figureOf, worthFrom, worth}
-use Rattle.wide_decimal.specs.Placed.{nearestOf}
+use Rattle.wide_decimal.specs.Figures.{figure_of, worth_from, worth}
+use Rattle.wide_decimal.specs.Placed.{nearest_of}
 use Rattle.wide_decimal.proofs.Worth.{worth-both}
 use Rattle.decimal.specs.declared.digits.Digits.TheVariants as digits
-use Rattle.decimal.specs.Digits.{digitOf, digitsFrom}
-use Rattle.decimal.specs.Number.{scaledBy}
-use Rattle.decimal.specs.Ways.{figuresIn}
+use Rattle.decimal.specs.Digits.{digit_of, digits_from}
+use Rattle.decimal.specs.Number.{scaled_by}
+use Rattle.decimal.specs.Ways.{figures_in}
 
 -- ---- all figures
 module _ (text : List ℕ) (i : ℕ) where
-  pub figures-go-on : i < length text → digitOf (get_or text i 0) < 10 → figuresIn (drop i text) ≡ figuresIn (drop (suc i) text)
-  unfolding figuresIn
+  pub figures-go-on : i < length text → digit_of (get_or text i 0) < 10 → figures_in (drop i text) ≡ figures_in (drop (suc i) text)
+  unfolding figures_in
   figures-go-on h l = rw (drop-cons text i 0 h) (simp (lt-ltb _ _ l))
 
-  pub figures-end : i < length text → 10 ≤ digitOf (get_or text i 0) → figuresIn (drop i text) ≡ false
-  unfolding figuresIn
+  pub figures-end : i < length text → 10 ≤ digit_of (get_or text i 0) → figures_in (drop i text) ≡ false
+  unfolding figures_in
   figures-end h l = rw (drop-cons text i 0 h) (simp (le-ltb _ _ l))
 
-  pub figures-done : length text ≤ i → figuresIn (drop i text) ≡ true
-  unfolding figuresIn
+  pub figures-done : length text ≤ i → figures_in (drop i text) ≡ true
+  unfolding figures_in
   figures-done h = rw (drop_of_length-le text h)
 
-pub figures-both : (a b : List ℕ) → figuresIn (a ++ b) ≡ figuresIn a && figuresIn b
-unfolding figuresIn
+pub figures-both : (a b : List ℕ) → figures_in (a ++ b) ≡ figures_in a && figures_in b
+unfolding figures_in
 figures-both [] b = refl
-figures-both (x ∷ a) b = by (ltb (digitOf x) 10) (figures-both a b)
+figures-both (x ∷ a) b = by (ltb (digit_of x) 10) (figures-both a b)
   where
-    by : (t : Bool) → figuresIn (a ++ b) ≡ figuresIn a && figuresIn b → t && figuresIn (a ++ b) ≡ (t && figuresIn a) && figuresIn b
+    by : (t : Bool) → figures_in (a ++ b) ≡ figures_in a && figures_in b → t && figures_in (a ++ b) ≡ (t && figures_in a) && figures_in b
     by true e = e
     by false e = refl
 
 -- a figure is worth the same in both words
-same-worth : (x : ℕ) → digitOf x < 10 → digitOf x ≡ figureOf x
-unfolding digitOf figureOf
+same-worth : (x : ℕ) → digit_of x < 10 → digit_of x ≡ figure_of x
+unfolding digit_of figure_of
 same-worth x h = by (leb 48 x && leb x 57) (leb 97 x) (leb x 102) (leb 65 x) (leb x 70) (leb-true 97 x) (leb-true x 102) (leb-true 65 x) (leb-true x 70) h
   where
     by : (f a b c d : Bool) → (a ≡ true → 97 ≤ x) → (b ≡ true → x ≤ 102) → (c ≡ true → 65 ≤ x) → (d ≡ true → x ≤ 70)
@@ -59,30 +59,30 @@ same-worth x h = by (leb 48 x && leb x 57) (leb 97 x) (leb x 102) (leb 65 x) (le
     by false false b true false p q r s h = absurd (omega (arith, h))
     by false false b false d p q r s h = absurd (omega (arith, h))
 
-pub figures-value : (n : ℕ) (text : List ℕ) → figuresIn text ≡ true → digitsFrom 10 n text ≡ digits.Value (worthFrom n text)
-unfolding figuresIn digitsFrom worthFrom
+pub figures-value : (n : ℕ) (text : List ℕ) → figures_in text ≡ true → digits_from 10 n text ≡ digits.Value (worth_from n text)
+unfolding figures_in digits_from worth_from
 figures-value n [] e = refl
-figures-value n (x ∷ text) e = by (ltb (digitOf x) 10) (ltb-true (digitOf x) 10) e (figures-value (n * 10 + digitOf x) text)
+figures-value n (x ∷ text) e = by (ltb (digit_of x) 10) (ltb-true (digit_of x) 10) e (figures-value (n * 10 + digit_of x) text)
   where
-    by : (t : Bool) → (t ≡ true → digitOf x < 10) → t && figuresIn text ≡ true
-        → (figuresIn text ≡ true → digitsFrom 10 (n * 10 + digitOf x) text ≡ digits.Value (worthFrom (n * 10 + digitOf x) text))
-        → cond t (digitsFrom 10 (n * 10 + digitOf x) text) digits.Bad ≡ digits.Value (worthFrom (n * 10 + figureOf x) text)
-    by true h e rest = rest e ∙ ap (λ (d : ℕ). digits.Value (worthFrom (n * 10 + d) text)) (same-worth x (h refl))
+    by : (t : Bool) → (t ≡ true → digit_of x < 10) → t && figures_in text ≡ true
+        → (figures_in text ≡ true → digits_from 10 (n * 10 + digit_of x) text ≡ digits.Value (worth_from (n * 10 + digit_of x) text))
+        → cond t (digits_from 10 (n * 10 + digit_of x) text) digits.Bad ≡ digits.Value (worth_from (n * 10 + figure_of x) text)
+    by true h e rest = rest e ∙ ap (λ (d : ℕ). digits.Value (worth_from (n * 10 + d) text)) (same-worth x (h refl))
     by false h e rest = cc
 
-pub figures-broken : (n : ℕ) (text : List ℕ) → figuresIn text ≡ false → digitsFrom 10 n text ≡ digits.Bad
-unfolding figuresIn digitsFrom
+pub figures-broken : (n : ℕ) (text : List ℕ) → figures_in text ≡ false → digits_from 10 n text ≡ digits.Bad
+unfolding figures_in digits_from
 figures-broken n [] e = cc
-figures-broken n (x ∷ text) e = by (ltb (digitOf x) 10) e (figures-broken (n * 10 + digitOf x) text)
+figures-broken n (x ∷ text) e = by (ltb (digit_of x) 10) e (figures-broken (n * 10 + digit_of x) text)
   where
-    by : (t : Bool) → t && figuresIn text ≡ false → (figuresIn text ≡ false → digitsFrom 10 (n * 10 + digitOf x) text ≡ digits.Bad)
-        → cond t (digitsFrom 10 (n * 10 + digitOf x) text) digits.Bad ≡ digits.Bad
+    by : (t : Bool) → t && figures_in text ≡ false → (figures_in text ≡ false → digits_from 10 (n * 10 + digit_of x) text ≡ digits.Bad)
+        → cond t (digits_from 10 (n * 10 + digit_of x) text) digits.Bad ≡ digits.Bad
     by true e rest = rest e
     by false e rest = refl
 
 -- ---- only the distance of two powers counts
-pub same-distance : (s : Bool) (base n u d u' d' : ℕ) → u + d' ≡ u' + d → scaledBy s base n u d ≡ scaledBy s base n u' d'
-unfolding scaledBy
+pub same-distance : (s : Bool) (base n u d u' d' : ℕ) → u + d' ≡ u' + d → scaled_by s base n u d ≡ scaled_by s base n u' d'
+unfolding scaled_by
 same-distance s base n u d u' d' e = elim (below_or u d) [
   | inl h ↦ (
       let h' : u' < d' = omega arith in
@@ -99,8 +99,8 @@ same-distance s base n u d u' d' e = elim (below_or u d) [
 -- ---- figures with their point
 module _ (s : Bool) (fs : List ℕ) where
   -- so many of them before it
-  pub point-among : (whole : ℕ) → nearestOf s fs whole 0 ≡ scaledBy s 10 (worth fs) whole (length fs)
-  unfolding nearestOf scaledBy worthFrom
+  pub point-among : (whole : ℕ) → nearest_of s fs whole 0 ≡ scaled_by s 10 (worth fs) whole (length fs)
+  unfolding nearest_of scaled_by worth_from
   point-among whole = elim (below_or whole (length fs)) [
     | inl h ↦ (
         let none : whole - length fs ≡ 0 = omega arith in
@@ -119,8 +119,8 @@ module _ (s : Bool) (fs : List ℕ) where
       plain x = omega arith
 
   -- all of them behind it, and zeros before them
-  pub point-before : (zeros : ℕ) → nearestOf s fs 0 zeros ≡ scaledBy s 10 (worth fs) 0 (length fs + zeros)
-  unfolding nearestOf scaledBy worthFrom
+  pub point-before : (zeros : ℕ) → nearest_of s fs 0 zeros ≡ scaled_by s 10 (worth fs) 0 (length fs + zeros)
+  unfolding nearest_of scaled_by worth_from
   point-before zeros = by (length fs + zeros) (ap (λ (z : ℕ). z + zeros) (sub-zero (length fs)))
     where
       none : (p w : ℕ) → 0 * 10 ^ (0 - length fs) * p + w ≡ w

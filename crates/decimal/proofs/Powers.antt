@@ -23,28 +23,28 @@ shifted-exact s n q j h k e =
 pub whole-exact : (s : Bool) (n : ℕ) → n < 10 ^ 15 → HasValue (round binary64 s n 1) s n 1
 whole-exact s n h = shifted-exact s n n 0 (lt_of_lt_of_le h (lit≤ tt)) (lit≤ tt) (sym (mul-one n))
 
-ten-split : (k : ℕ) → 10 ^ k ≡ 5 ^ k * 2 ^ k
-ten-split zero = refl
-ten-split (suc k) = rw (pow-succ' 10 k, pow-succ' 5 k, pow-succ' 2 k, ten-split k) (mul-mul-mul_comm 5 2 (5 ^ k) (2 ^ k))
+ten_split : (k : ℕ) → 10 ^ k ≡ 5 ^ k * 2 ^ k
+ten_split zero = refl
+ten_split (suc k) = rw (pow-succ' 10 k, pow-succ' 5 k, pow-succ' 2 k, ten_split k) (mul-mul-mul_comm 5 2 (5 ^ k) (2 ^ k))
 
 pub power-exact : (k : ℕ) → k ≤ 22 → HasValue (round binary64 false (10 ^ k) 1) false (10 ^ k) 1
 power-exact k h =
     let few : 5 ^ k ≤ 5 ^ 22 = pow-le-pow_right (lit< tt) {j = 22} h in
-    shifted-exact false (10 ^ k) (5 ^ k) k (lt_of_le_of_lt few (lit< tt)) h (ten-split k)
+    shifted-exact false (10 ^ k) (5 ^ k) k (lt_of_le_of_lt few (lit< tt)) h (ten_split k)
 
 -- the code's 1.0 and 10.0
 pub one_value : HasValue (of_bits binary64 0x3ff0000000000000) false 1 1
 unfolding of_bits
 one_value = (refl, refl)
 
-pub ten-value : HasValue (of_bits binary64 0x4024000000000000) false 10 1
+pub ten_value : HasValue (of_bits binary64 0x4024000000000000) false 10 1
 unfolding of_bits
-ten-value = (refl, refl)
+ten_value = (refl, refl)
 
 pub power-next : (p : Float) (i : ℕ) → i < 22 → HasValue p false (10 ^ i) 1 → HasValue (mul binary64 p (of_bits binary64 0x4024000000000000)) false (10 ^ suc i) 1
 power-next p i h v =
     let product : mul binary64 p (of_bits binary64 0x4024000000000000) ≡ round binary64 false (10 ^ i * 10) 1 =
-    mul-rounds binary64 p (of_bits binary64 0x4024000000000000) false false (10 ^ i) 1 10 1 (lit< tt) (lit< tt) v ten-value in
+    mul-rounds binary64 p (of_bits binary64 0x4024000000000000) false false (10 ^ i) 1 10 1 (lit< tt) (lit< tt) v ten_value in
     rw (product, mul_comm (10 ^ i) 10, ← pow-succ' 10 i) (power-exact (suc i) h)
 
 -- THE ROUNDING. Of a whole number that is a double, one product with a power of ten that is one, or one quotient by it, is the exact value rounded once.

@@ -9,14 +9,14 @@ place_of b [] = 0
 place_of b (x ∷ xs) = cond (eqb x b) 0 (suc (place_of b xs))
 
 -- what a digit is worth: `0` (48) to `9` (57), `a` (97) to `f` (102) and `A` (65) to `F` (70); 16 for any other byte
-unfoldable pub digitOf : ℕ → ℕ
-digitOf b = cond (leb 48 b && leb b 57) (b - 48) (cond (leb 97 b && leb b 102) (b - 87) (cond (leb 65 b && leb b 70) (b - 55) 16))
+unfoldable pub digit_of : ℕ → ℕ
+digit_of b = cond (leb 48 b && leb b 57) (b - 48) (cond (leb 97 b && leb b 102) (b - 87) (cond (leb 65 b && leb b 70) (b - 55) 16))
 
 -- the whole number that digits of a base stand for behind those of n
-unfoldable pub digitsFrom : ℕ → ℕ → List ℕ → Digits
-digitsFrom base n [] = Value n
-digitsFrom base n (b ∷ bs) = cond (ltb (digitOf b) base) (digitsFrom base (n * base + digitOf b) bs) Bad
+unfoldable pub digits_from : ℕ → ℕ → List ℕ → Digits
+digits_from base n [] = Value n
+digits_from base n (b ∷ bs) = cond (ltb (digit_of b) base) (digits_from base (n * base + digit_of b) bs) Bad
 
 -- a whole number of 1 to 15 figures
-unfoldable pub digitsOf : List ℕ → Digits
-digitsOf text = cond (leb 1 (length text) && leb (length text) 15) (digitsFrom 10 0 text) Bad
+unfoldable pub digits_of : List ℕ → Digits
+digits_of text = cond (leb 1 (length text) && leb (length text) 15) (digits_from 10 0 text) Bad

@@ -4,10 +4,10 @@
 use Rattle.std.specs.Prelude.{ℕ, suc, ◌+◌, ◌-◌, ◌*◌, ◌^◌, min, Bool, true, false, ◌&&◌, ◌||◌, cond, List, [], ◌∷◌, ◌++◌, eqb, leb, length, take, drop, Float}
 use Rattle.std.specs.Float.{binary64}
 use Rattle.std.specs.Float.Ieee.{of_bits, round}
-use Rattle.hex.specs.Hex.{word_at}
-use Rattle.hex.specs.declared.Word.{Word}
-use Rattle.hex.specs.declared.Word.TheVariants as word
-use Rattle.decimal.specs.Digits.{place_of, digitsFrom, digitsOf}
+use Rattle.hexadecimal.specs.Hex.{word_at}
+use Rattle.hexadecimal.specs.declared.Word.{Word}
+use Rattle.hexadecimal.specs.declared.Word.TheVariants as word
+use Rattle.decimal.specs.Digits.{place_of, digits_from, digits_of}
 use Rattle.decimal.specs.declared.digits.Digits.{Digits}
 use Rattle.decimal.specs.declared.digits.Digits.TheVariants as digits
 use Rattle.decimal.specs.declared.number.Number.{Number}
@@ -25,48 +25,48 @@ counted digits.Bad fraction = significand.Bad
 
 -- the digits before the point and those behind it, as one whole number
 unfoldable pub parted : ℕ → List ℕ → List ℕ → Significand
-parted base whole fraction = cond (leb 1 (length whole + length fraction)) (counted (digitsFrom base 0 (whole ++ fraction)) (length fraction)) significand.Bad
+parted base whole fraction = cond (leb 1 (length whole + length fraction)) (counted (digits_from base 0 (whole ++ fraction)) (length fraction)) significand.Bad
 
 -- parted at the first point (46); where there is none, all stand before it
-unfoldable pub significandOf : ℕ → List ℕ → Significand
-significandOf base text = parted base (take (place_of 46 text) text) (drop (suc (place_of 46 text)) text)
+unfoldable pub significand_of : ℕ → List ℕ → Significand
+significand_of base text = parted base (take (place_of 46 text) text) (drop (suc (place_of 46 text)) text)
 
 -- ---- of at most so many digits
-unfoldable pub fewOf : ℕ → ℕ → List ℕ → Significand
-fewOf base most text =
-    cond (leb (length (take (place_of 46 text) text) + length (drop (suc (place_of 46 text)) text)) most) (significandOf base text) significand.Bad
+unfoldable pub few_of : ℕ → ℕ → List ℕ → Significand
+few_of base most text =
+    cond (leb (length (take (place_of 46 text) text) + length (drop (suc (place_of 46 text)) text)) most) (significand_of base text) significand.Bad
 
 -- ---- behind the mark: `-` (45), `+` (43) or no sign, and 1 to 15 digits
 
-abbrev pub upOf : Digits → Power
-upOf (digits.Value n) = power.Up n
-upOf digits.Bad = power.Bad
+abbrev pub up_of : Digits → Power
+up_of (digits.Value n) = power.Up n
+up_of digits.Bad = power.Bad
 
-abbrev pub downOf : Digits → Power
-downOf (digits.Value n) = power.Down n
-downOf digits.Bad = power.Bad
+abbrev pub down_of : Digits → Power
+down_of (digits.Value n) = power.Down n
+down_of digits.Bad = power.Bad
 
-unfoldable pub powerOf : List ℕ → Power
-powerOf [] = power.Bad
-powerOf (b ∷ bs) = cond (eqb b 45) (downOf (digitsOf bs)) (upOf (cond (eqb b 43) (digitsOf bs) (digitsOf (b ∷ bs))))
+unfoldable pub power_of : List ℕ → Power
+power_of [] = power.Bad
+power_of (b ∷ bs) = cond (eqb b 45) (down_of (digits_of bs)) (up_of (cond (eqb b 43) (digits_of bs) (digits_of (b ∷ bs))))
 
 -- where the mark stands, a letter or its capital
 abbrev pub mark_of : ℕ → List ℕ → ℕ
 mark_of b text = min (place_of b text) (place_of (b - 32) text)
 
 -- without a mark the power is 0
-unfoldable pub powerAt : ℕ → List ℕ → Power
-powerAt p text = cond (leb (length text) p) (power.Up 0) (powerOf (drop (suc p) text))
+unfoldable pub power_at : ℕ → List ℕ → Power
+power_at p text = cond (leb (length text) p) (power.Up 0) (power_of (drop (suc p) text))
 
 -- ---- the decimal and the hex float
 
 -- n * base ^ (up - down), rounded once
-unfoldable pub scaledBy : Bool → ℕ → ℕ → ℕ → ℕ → Float
-scaledBy s base n up down = cond (leb down up) (round binary64 s (n * base ^ (up - down)) 1) (round binary64 s n (base ^ (down - up)))
+unfoldable pub scaled_by : Bool → ℕ → ℕ → ℕ → ℕ → Float
+scaled_by s base n up down = cond (leb down up) (round binary64 s (n * base ^ (up - down)) 1) (round binary64 s n (base ^ (down - up)))
 
 -- the whole number, moved by the digits behind its point, each of which is worth so many powers of the base
 abbrev pub moved : Bool → ℕ → ℕ → Significand → ℕ → ℕ → Number
-moved s base each (significand.Whole n fraction) up down = Double (scaledBy s base n up (down + each * fraction))
+moved s base each (significand.Whole n fraction) up down = Double (scaled_by s base n up (down + each * fraction))
 moved s base each significand.Bad up down = Bad
 
 abbrev pub joined : Bool → ℕ → ℕ → Significand → Power → Number
@@ -76,31 +76,31 @@ joined s base each whole power.Bad = Bad
 
 -- parted at the first `e` (101) or `E`
 unfoldable pub size_of : Bool → List ℕ → Number
-size_of s text = joined s 10 1 (significandOf 10 (take (mark_of 101 text) text)) (powerAt (mark_of 101 text) text)
+size_of s text = joined s 10 1 (significand_of 10 (take (mark_of 101 text) text)) (power_at (mark_of 101 text) text)
 
 -- parted at the first `p` (112) or `P`; a digit behind the point is worth four powers of two
-unfoldable pub hexSizeOf : Bool → List ℕ → Number
-hexSizeOf s text = joined s 2 4 (fewOf 16 16 (take (mark_of 112 text) text)) (powerAt (mark_of 112 text) text)
+unfoldable pub hex_size_of : Bool → List ℕ → Number
+hex_size_of s text = joined s 2 4 (few_of 16 16 (take (mark_of 112 text) text)) (power_at (mark_of 112 text) text)
 
 -- `0` (48) and `x` (120) or `X` (88)
-unfoldable pub isHex : List ℕ → Bool
-isHex [] = false
-isHex (a ∷ []) = false
-isHex (a ∷ b ∷ text) = eqb a 48 && (eqb b 120 || eqb b 88)
+unfoldable pub is_hex : List ℕ → Bool
+is_hex [] = false
+is_hex (a ∷ []) = false
+is_hex (a ∷ b ∷ text) = eqb a 48 && (eqb b 120 || eqb b 88)
 
-unfoldable pub unsignedOf : Bool → List ℕ → Number
-unsignedOf s text = cond (isHex text) (hexSizeOf s (drop 2 text)) (size_of s text)
+unfoldable pub unsigned_of : Bool → List ℕ → Number
+unsigned_of s text = cond (is_hex text) (hex_size_of s (drop 2 text)) (size_of s text)
 
 -- a `-` (45) before it
-unfoldable pub decimalOf : List ℕ → Number
-decimalOf [] = Bad
-decimalOf (b ∷ bs) = cond (eqb b 45) (unsignedOf true bs) (unsignedOf false (b ∷ bs))
+unfoldable pub decimal_of : List ℕ → Number
+decimal_of [] = Bad
+decimal_of (b ∷ bs) = cond (eqb b 45) (unsigned_of true bs) (unsigned_of false (b ∷ bs))
 
 -- ---- the number
 
-abbrev pub bitsOr : Number → Word → Number
-bitsOr other (word.Bits b) = Double (of_bits binary64 b)
-bitsOr other word.Bad = other
+abbrev pub bits_or : Number → Word → Number
+bits_or other (word.Bits b) = Double (of_bits binary64 b)
+bits_or other word.Bad = other
 
 unfoldable pub number_of : List ℕ → Number
-number_of word = cond (eqb (length word) 16) (bitsOr (decimalOf word) (word_at word 0)) (decimalOf word)
+number_of word = cond (eqb (length word) 16) (bits_or (decimal_of word) (word_at word 0)) (decimal_of word)

@@ -1,6 +1,6 @@
 // Digits: where a text is parted, and the whole number that digits stand for.
 ghost use Rattle.std.specs.Prelude.{◌≡◌, ◌+◌, ◌-◌, ◌*◌, ◌^◌, ◌≤◌, min, length};
-ghost use Rattle.decimal.specs.Digits.{place_of, digitOf, digitsFrom, digitsOf};
+ghost use Rattle.decimal.specs.Digits.{place_of, digit_of, digits_from, digits_of};
 ghost use Rattle.decimal.specs.Number.{mark_of};
 
 #[derive(Drop)]
@@ -51,7 +51,7 @@ pub(crate) fn behind(at: usize, end: usize) -> usize
 
 // A whole number of 1 to 15 figures.
 pub fn figures(text: &[u8]) -> Digits
-    ensures { result ≡ digitsOf text.now }
+    ensures { result ≡ digits_of text.now }
 {
     if text.len() < 1 {
         return Digits::Bad;
@@ -65,7 +65,7 @@ pub fn figures(text: &[u8]) -> Digits
 // The whole number that digits of a base stand for behind those of `start`.
 pub(crate) fn follow(base: u64, start: u64, text: &[u8]) -> Digits
     requires { (1 ≤ base) × ((start + 1) * base ^ length text.now ≤ 2 ^ 64) }
-    ensures { result ≡ digitsFrom base start text.now }
+    ensures { result ≡ digits_from base start text.now }
 {
     let mut n = start;
     let mut i: usize = 0;
@@ -82,7 +82,7 @@ pub(crate) fn follow(base: u64, start: u64, text: &[u8]) -> Digits
 
 // What a digit is worth, 16 for any other byte.
 pub(crate) fn digit(b: u8) -> u64
-    ensures { result ≡ digitOf b }
+    ensures { result ≡ digit_of b }
 {
     if b < b'0' {
         return 16;

@@ -1,11 +1,11 @@
 // A word read as a number. The job text: "exactly 16 lowercase hex digits, the double's bits; or a decimal", or a hex float.
 ghost use Rattle.std.specs.Prelude.{◌≡◌};
-ghost use Rattle.decimal.specs.Digits.{digitsOf};
-ghost use Rattle.decimal.specs.Number.{number_of, decimalOf, unsignedOf, isHex, size_of, hexSizeOf, powerOf, powerAt, upOf, downOf};
+ghost use Rattle.decimal.specs.Digits.{digits_of};
+ghost use Rattle.decimal.specs.Number.{number_of, decimal_of, unsigned_of, is_hex, size_of, hex_size_of, power_of, power_at, up_of, down_of};
 
 use super::digits::{Digits, figures, mark};
 use super::scale::{decimal_scaled, hex_scaled};
-use hex::Word;
+use hexadecimal::Word;
 
 #[derive(Drop)]
 pub enum Number {
@@ -29,7 +29,7 @@ pub fn read(word: &[u8]) -> Number
     if word.len() != 16 {
         return decimal(word);
     }
-    let bits = hex::read(word, 0);
+    let bits = hexadecimal::read(word, 0);
     match bits {
         Word::Bits(b) => Number::Double(lines::field::float_of(b)),
         Word::Bad => decimal(word),
@@ -37,7 +37,7 @@ pub fn read(word: &[u8]) -> Number
 }
 
 fn decimal(word: &[u8]) -> Number
-    ensures { result ≡ decimalOf word.now }
+    ensures { result ≡ decimal_of word.now }
 {
     if word.len() < 1 {
         return Number::Bad;
@@ -50,7 +50,7 @@ fn decimal(word: &[u8]) -> Number
 
 // A number without its sign.
 fn unsigned(minus: bool, text: &[u8]) -> Number
-    ensures { result ≡ unsignedOf minus text.now }
+    ensures { result ≡ unsigned_of minus text.now }
 {
     if is_hex(text) {
         return hex_sized(minus, &text[2..]);
@@ -59,7 +59,7 @@ fn unsigned(minus: bool, text: &[u8]) -> Number
 }
 
 fn is_hex(text: &[u8]) -> bool
-    ensures { result ≡ isHex text.now }
+    ensures { result ≡ is_hex text.now }
 {
     if text.len() < 2 {
         return false;
@@ -86,7 +86,7 @@ fn sized(minus: bool, text: &[u8]) -> Number
 }
 
 fn hex_sized(minus: bool, text: &[u8]) -> Number
-    ensures { result ≡ hexSizeOf minus text.now }
+    ensures { result ≡ hex_size_of minus text.now }
 {
     let e = mark(text, b'p');
     let shift = power_at(text, e);
@@ -99,7 +99,7 @@ fn hex_sized(minus: bool, text: &[u8]) -> Number
 
 // Behind the mark at a place.
 fn power_at(text: &[u8], p: usize) -> Power
-    ensures { result ≡ powerAt p text.now }
+    ensures { result ≡ power_at p text.now }
 {
     if text.len() <= p {
         return Power::Up(0);
@@ -109,7 +109,7 @@ fn power_at(text: &[u8], p: usize) -> Power
 
 // A sign, which may be missing, and 1 to 15 digits.
 fn power_of(text: &[u8]) -> Power
-    ensures { result ≡ powerOf text.now }
+    ensures { result ≡ power_of text.now }
 {
     if text.len() < 1 {
         return Power::Bad;
@@ -124,7 +124,7 @@ fn power_of(text: &[u8]) -> Power
 }
 
 fn raised(text: &[u8]) -> Power
-    ensures { result ≡ upOf (digitsOf text.now) }
+    ensures { result ≡ up_of (digits_of text.now) }
 {
     let up = figures(text);
     match up {
@@ -134,7 +134,7 @@ fn raised(text: &[u8]) -> Power
 }
 
 fn lowered(text: &[u8]) -> Power
-    ensures { result ≡ downOf (digitsOf text.now) }
+    ensures { result ≡ down_of (digits_of text.now) }
 {
     let down = figures(text);
     match down {

@@ -2,13 +2,13 @@
 ghost use Rattle.std.specs.Prelude.{◌≡◌};
 ghost use Rattle.std.specs.Float.{binary64};
 ghost use Rattle.std.specs.Float.Ieee.{to_bits};
-ghost use Rattle.hex.specs.Hex.{Wrote};
+ghost use Rattle.hexadecimal.specs.Hex.{Wrote};
 
 // Puts the digits at out[at..at + 16] and answers true, or leaves out as it is and answers false where they do not fit.
 pub fn put_double(x: f64, out: &mut [u8], at: usize) -> bool
     ensures { Wrote (to_bits binary64 x) out.old at result out.new }
 {
-    hex::write(pattern(x), out, at)
+    hexadecimal::write(pattern(x), out, at)
 }
 
 // The bits of a double. Only those of no NaN may be taken.

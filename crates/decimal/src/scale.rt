@@ -3,8 +3,8 @@ ghost use Rattle.std.specs.Prelude.{◌≡◌, false, suc, ◌+◌, ◌^◌, ◌
 ghost use Rattle.std.specs.Float.Ieee.Exact.{HasValue};
 ghost use Rattle.wide_decimal.specs.Figures.{worth, without};
 ghost use Rattle.decimal.specs.Digits.{place_of};
-ghost use Rattle.decimal.specs.Number.{moved, significandOf, fewOf, scaledBy};
-ghost use Rattle.decimal.specs.Ways.{quickBy, figuresIn, pointedIn};
+ghost use Rattle.decimal.specs.Number.{moved, significand_of, few_of, scaled_by};
+ghost use Rattle.decimal.specs.Ways.{quick_by, figures_in, pointed_in};
 
 use super::digits::{behind, digit, place};
 use super::number::Number;
@@ -13,7 +13,7 @@ use super::significand::{Significand, few};
 // Of up to 15 digits and a power up to 10^22 both are doubles, and one product or one quotient is all. Any other decimal is worked out in full.
 pub(crate) fn decimal_scaled(minus: bool, text: &[u8], up: u64, down: u64) -> Number
     requires { (up < 10 ^ 15) × (down < 10 ^ 15) }
-    ensures { result ≡ moved minus 10 1 (significandOf 10 text.now) up down }
+    ensures { result ≡ moved minus 10 1 (significand_of 10 text.now) up down }
 {
     let short = few(10, 15, text);
     let Significand::Whole(n, fraction) = short else {
@@ -28,7 +28,7 @@ pub(crate) fn decimal_scaled(minus: bool, text: &[u8], up: u64, down: u64) -> Nu
 
 fn quick(minus: bool, n: u64, up: u64, down: u64) -> Number
     requires { n < 10 ^ 15 }
-    ensures { result ≡ quickBy minus n up down }
+    ensures { result ≡ quick_by minus n up down }
 {
     if down <= up {
         if 22 < up - down {
@@ -45,7 +45,7 @@ fn quick(minus: bool, n: u64, up: u64, down: u64) -> Number
 // The point moves by the power, within the digits or past them.
 fn wide(minus: bool, text: &[u8], up: u64, down: u64) -> Number
     requires { (up < 10 ^ 15) × (down < 10 ^ 15) }
-    ensures { result ≡ moved minus 10 1 (significandOf 10 text.now) up down }
+    ensures { result ≡ moved minus 10 1 (significand_of 10 text.now) up down }
 {
     let point = place(text, b'.');
     if !pointed(text, point) {
@@ -57,7 +57,7 @@ fn wide(minus: bool, text: &[u8], up: u64, down: u64) -> Number
 // Whether a text is of figures but for a point, and has one.
 fn pointed(text: &[u8], point: usize) -> bool
     requires { point ≡ place_of 46 text.now }
-    ensures { result ≡ pointedIn text.now }
+    ensures { result ≡ pointed_in text.now }
 {
     let next = behind(point, text.len());
     if point + (text.len() - next) < 1 {
@@ -71,7 +71,7 @@ fn pointed(text: &[u8], point: usize) -> bool
 
 fn placed(minus: bool, text: &[u8], point: usize, up: usize, down: usize) -> f64
     requires { (point ≤ length text.now) × (up < 10 ^ 15) × (down < 10 ^ 15) }
-    ensures { result ≡ scaledBy minus 10 (worth (without point text.now)) up (down + length (drop (suc point) text.now)) }
+    ensures { result ≡ scaled_by minus 10 (worth (without point text.now)) up (down + length (drop (suc point) text.now)) }
 {
     let whole = point + up;
     if down <= whole {
@@ -81,7 +81,7 @@ fn placed(minus: bool, text: &[u8], point: usize, up: usize, down: usize) -> f64
 }
 
 fn all_figures(text: &[u8]) -> bool
-    ensures { result ≡ figuresIn text.now }
+    ensures { result ≡ figures_in text.now }
 {
     let mut i: usize = 0;
     while i < text.len() {
@@ -96,7 +96,7 @@ fn all_figures(text: &[u8]) -> bool
 // 16 hex digits are one word. A power beyond 2^4000 is infinite, one below 2^-2208 is nothing.
 pub(crate) fn hex_scaled(minus: bool, text: &[u8], up: u64, down: u64) -> Number
     requires { (up < 10 ^ 15) × (down < 10 ^ 15) }
-    ensures { result ≡ moved minus 2 4 (fewOf 16 16 text.now) up down }
+    ensures { result ≡ moved minus 2 4 (few_of 16 16 text.now) up down }
 {
     let whole = few(16, 16, text);
     match whole {
@@ -111,7 +111,7 @@ pub(crate) fn hex_scaled(minus: bool, text: &[u8], up: u64, down: u64) -> Number
 }
 
 fn binary(minus: bool, n: u64, up: u64, down: u64) -> f64
-    ensures { result ≡ scaledBy minus 2 n up down }
+    ensures { result ≡ scaled_by minus 2 n up down }
 {
     if down <= up {
         return fma::pack::nearest_double(minus, 0, n, (2208 + lesser(up - down, 4000)) as u16);

@@ -1,6 +1,6 @@
 // The digits of a number, with at most one point among them.
 ghost use Rattle.std.specs.Prelude.{◌≡◌, ◌^◌, ◌≤◌};
-ghost use Rattle.decimal.specs.Number.{fewOf};
+ghost use Rattle.decimal.specs.Number.{few_of};
 
 use super::digits::{Digits, behind, follow, place};
 
@@ -14,7 +14,7 @@ pub enum Significand {
 // 1 to so many of them.
 pub(crate) fn few(base: u64, most: usize, text: &[u8]) -> Significand
     requires { (1 ≤ base) × (base ^ most ≤ 2 ^ 64) }
-    ensures { result ≡ fewOf base most text.now }
+    ensures { result ≡ few_of base most text.now }
 {
     let point = place(text, b'.');
     let next = behind(point, text.len());

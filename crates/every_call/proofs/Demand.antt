@@ -19,25 +19,25 @@ use Rattle.quant.specs.declared.refusal.Answer.TheVariants.{Done, Refused}
 use Rattle.quant.specs.declared.refusal.Refusal.TheVariants.{NotFinite}
 use Rattle.quant.specs.declared.settings.Fitting.{Fitting}
 use Rattle.quant.specs.declared.settings.Fitting.TheVariants as fitting
-use Rattle.quant.specs.Aligned.{alignedAnswer, placedAnswer}
-use Rattle.quant.specs.Phaser.{phasedAnswer}
-use Rattle.quant.specs.Settings.{fittingAnswer}
+use Rattle.quant.specs.Aligned.{aligned_answer, placed_answer}
+use Rattle.quant.specs.Phaser.{phased_answer}
+use Rattle.quant.specs.Settings.{fitting_answer}
 use Rattle.rows.specs.Rows.{answer_of}
-use Rattle.executor.specs.Osc.{movedAnswer, swappedAnswer}
+use Rattle.executor.specs.Osc.{moved_answer, swapped_answer}
 use Rattle.pulse.specs.declared.weight.Weighed.{Weighed}
 use Rattle.pulse.specs.declared.weight.Weighed.TheVariants as weighed
-use Rattle.pulse.specs.Weight.{weighedAnswer}
+use Rattle.pulse.specs.Weight.{weighed_answer}
 use Rattle.tables.specs.declared.Told.{Told}
 use Rattle.tables.specs.declared.Told.TheVariants as told
-use Rattle.tables.specs.Tables.{toldAnswer, namingAnswer}
-use Rattle.shape.specs.Envelope.{least, limitOf, envelopedOf, scratchAfter, envelopedAnswer}
+use Rattle.tables.specs.Tables.{told_answer, naming_answer}
+use Rattle.shape.specs.Envelope.{least, limit_of, enveloped_of, scratch_after, enveloped_answer}
 use Rattle.mixdown.specs.Sampled.{Out}
 use Rattle.sheet.specs.Sheet as sheet
-use Rattle.sheet.specs.Sheet.{outcome, names_of, matrixOf, printedOf, bytesAfter, printedAnswer}
-use Rattle.sheet_answer.specs.Answer.{answerPrints, answerLeft}
-use Rattle.stand_ins.specs.Buffers.{partsLaid, mixedFor}
+use Rattle.sheet.specs.Sheet.{outcome, names_of, matrix_of, printed_of, bytes_after, printed_answer}
+use Rattle.sheet_answer.specs.Answer.{answer_prints, answer_left}
+use Rattle.stand_ins.specs.Buffers.{parts_laid, mixed_for}
 use Rattle.stand_ins.specs.StandIns.{equation}
-use Rattle.every_call.specs.Demand.{Said, Answers, Which, align, place, phaser, set-up, shift-phase, set-phase, shift-freq, set-freq, swap-phase, weigh, lay-out, measure, envelope, judge, state, plan, steps, name-read, sheet-read, sheet-print, sheet-answer, mix-lists, execute-owned, none, refusing}
+use Rattle.every_call.specs.Demand.{Said, Answers, Which, align, place, phaser, set-up, shift-phase, set-phase, shift_freq, set_freq, swap-phase, weigh, lay-out, measure, envelope, judge, state, plan, steps, name-read, sheet-read, sheet-print, sheet-answer, mix-lists, execute-owned, none, refusing}
 use Rattle.every_call.proofs.Numbers.{parted-said, points-said, measured-said, judged-said, planned-said, mixed-said, owned-said}
 use Rattle.every_call.proofs.Sheets.{read-said, print-said, answer-said}
 
@@ -62,24 +62,24 @@ moved {L = L} numbers (Refused r k) b e f h = subst (Said numbers L) (sym e) (h.
 
 -- ---- what each case says
 
-aligned-said : (y : Aligned) → Said (8 ∷ []) Unit (alignedAnswer y)
+aligned-said : (y : Aligned) → Said (8 ∷ []) Unit (aligned_answer y)
 unfolding among
 aligned-said (aligned.Index a) = tt
 aligned-said aligned.NotFinite = (refl, tt)
 
-placed-said : (y : Placed) → Said (8 ∷ 9 ∷ 10 ∷ []) Unit (placedAnswer y)
+placed-said : (y : Placed) → Said (8 ∷ 9 ∷ 10 ∷ []) Unit (placed_answer y)
 unfolding among
 placed-said (placed.Start start offset) = tt
 placed-said placed.NotFinite = (refl, tt)
 placed-said placed.Before = (refl, tt)
 placed-said placed.Beyond = (refl, tt)
 
-phased-said : (y : Phased) → Said (8 ∷ []) Unit (phasedAnswer y)
+phased-said : (y : Phased) → Said (8 ∷ []) Unit (phased_answer y)
 unfolding among
 phased-said (phased.Pair z) = tt
 phased-said phased.NotFinite = (refl, tt)
 
-fitting-said : (y : Fitting) → Said (1 ∷ []) Unit (fittingAnswer y)
+fitting-said : (y : Fitting) → Said (1 ∷ []) Unit (fitting_answer y)
 unfolding among
 fitting-said (fitting.Fit s) = tt
 fitting-said fitting.Unfit = (refl, tt)
@@ -89,18 +89,18 @@ unfolding among
 flag-said true = (refl, tt)
 flag-said false = tt
 
-weighed-said : (y : Weighed) → Said (8 ∷ []) Unit (weighedAnswer y)
+weighed-said : (y : Weighed) → Said (8 ∷ []) Unit (weighed_answer y)
 unfolding among
 weighed-said (weighed.Fine w) = tt
 weighed-said weighed.Overflow = (refl, tt)
 
-told-said : (y : Told) → Said (2 ∷ 7 ∷ []) Unit (toldAnswer y)
+told-said : (y : Told) → Said (2 ∷ 7 ∷ []) Unit (told_answer y)
 unfolding among
 told-said (told.Of o) = tt
 told-said told.Malformed = (refl, tt)
 told-said told.Unknown = (refl, tt)
 
-naming-said : (y : Naming) → Said (2 ∷ []) Unit (namingAnswer y)
+naming-said : (y : Naming) → Said (2 ∷ []) Unit (naming_answer y)
 unfolding among
 naming-said (naming.Named n) = tt
 naming-said naming.Bad = (refl, tt)
@@ -115,40 +115,40 @@ steps-said true true = tt
 
 pub every_call : (w : Which) → Answers (refusing w)
 unfolding refusing
-every_call align = by_cases _ _ alignedAnswer _ aligned-said
-every_call place = by_cases _ _ placedAnswer _ placed-said
-every_call phaser = by_cases _ _ phasedAnswer _ phased-said
-every_call set-up = by_cases _ _ fittingAnswer _ fitting-said
-every_call shift-phase = by_cases _ _ movedAnswer _ (λ y. flag-said y.refused)
-every_call set-phase = by_cases _ _ movedAnswer _ (λ y. flag-said y.refused)
-every_call shift-freq = by_cases _ _ movedAnswer _ (λ y. flag-said y.refused)
-every_call set-freq = by_cases _ _ movedAnswer _ (λ y. flag-said y.refused)
-every_call swap-phase = by_cases _ _ swappedAnswer _ (λ y. flag-said y.refused)
-every_call weigh = by_cases _ _ weighedAnswer _ weighed-said
+every_call align = by_cases _ _ aligned_answer _ aligned-said
+every_call place = by_cases _ _ placed_answer _ placed-said
+every_call phaser = by_cases _ _ phased_answer _ phased-said
+every_call set-up = by_cases _ _ fitting_answer _ fitting-said
+every_call shift-phase = by_cases _ _ moved_answer _ (λ y. flag-said y.refused)
+every_call set-phase = by_cases _ _ moved_answer _ (λ y. flag-said y.refused)
+every_call shift_freq = by_cases _ _ moved_answer _ (λ y. flag-said y.refused)
+every_call set_freq = by_cases _ _ moved_answer _ (λ y. flag-said y.refused)
+every_call swap-phase = by_cases _ _ swapped_answer _ (λ y. flag-said y.refused)
+every_call weigh = by_cases _ _ weighed_answer _ weighed-said
 every_call lay-out = by-equation _ _ _ _ (λ x. parted-said x.width x.plateau x.offset x.rate x.dt x.room)
 every_call measure = by-equation _ _ _ _ (λ x. let c = x.curve in measured-said x.shape x.numbers c.width c.plateau c.offset c.rate c.dt (least c.room 65536))
 every_call envelope =
     record {
       answered = λ x.
           let b = x.bent in
-          (record { answer = envelopedOf b.shape b.numbers (partsLaid x); scratch = scratchAfter b.shape b.numbers (partsLaid x) x.scratch }, (refl, refl));
+          (record { answer = enveloped_of b.shape b.numbers (parts_laid x); scratch = scratch_after b.shape b.numbers (parts_laid x) x.scratch }, (refl, refl));
       only = λ x y z p q i. record { answer = (p.0 ∙ sym q.0) i; scratch = (p.1 ∙ sym q.1) i };
       said = λ x y p.
           let b = x.bent in
           let c = b.curve in
-          moved _ _ _ (ap envelopedAnswer p.0) (λ k. p.1 ∙ k)
-          (points-said b.shape b.numbers c.width c.plateau c.offset c.rate c.dt (limitOf c.room (length x.scratch)) x.scratch);
+          moved _ _ _ (ap enveloped_answer p.0) (λ k. p.1 ∙ k)
+          (points-said b.shape b.numbers c.width c.plateau c.offset c.rate c.dt (limit_of c.room (length x.scratch)) x.scratch);
     }
 every_call judge = by-equation _ _ _ _ (λ x. judged-said x.settings x.bin x.numbers x.pulse x.len)
-every_call state = by_cases _ _ toldAnswer _ told-said
+every_call state = by_cases _ _ told_answer _ told-said
 every_call plan = by-equation _ _ _ _ (λ x. planned-said x.tables x.channel x.cross x.factors)
 every_call steps = by-equation _ _ _ _ (λ x. steps-said x.fits x.fine)
-every_call name-read = by_cases _ _ namingAnswer _ naming-said
+every_call name-read = by_cases _ _ naming_answer _ naming-said
 every_call sheet-read =
     record {
       answered = λ x.
           let o = outcome x.text (length x.matrix) in
-          (record { reading = record { answer = sheet.answer_of o; names = names_of o }; matrix = matrixOf o x.matrix }, record { answered = refl; named = refl; left = refl });
+          (record { reading = record { answer = sheet.answer_of o; names = names_of o }; matrix = matrix_of o x.matrix }, record { answered = refl; named = refl; left = refl });
       only = λ x y z p q i.
           record {
             reading = record { answer = (p.answered ∙ sym q.answered) i; names = (p.named ∙ sym q.named) i };
@@ -159,20 +159,20 @@ every_call sheet-read =
 every_call sheet-print =
     record {
       answered = λ x.
-          let r = printedOf x.count x.names x.matrix (length x.out) in
-          (record { printed = r; out = bytesAfter x.count x.names x.matrix r x.out }, record { answered = refl; left = refl });
+          let r = printed_of x.count x.names x.matrix (length x.out) in
+          (record { printed = r; out = bytes_after x.count x.names x.matrix r x.out }, record { answered = refl; left = refl });
       only = λ x y z p q i. record { printed = (p.answered ∙ sym q.answered) i; out = (p.left ∙ sym q.left) i };
-      said = λ x y p. moved _ _ _ (ap printedAnswer p.answered) (λ k. p.left ∙ k) (print-said x.count x.names x.matrix x.out);
+      said = λ x y p. moved _ _ _ (ap printed_answer p.answered) (λ k. p.left ∙ k) (print-said x.count x.names x.matrix x.out);
     }
 every_call sheet-answer =
     record {
-      answered = λ x. (record { printed = answerPrints x.text (length x.out); out = answerLeft x.text x.out }, record { answer = refl; left = refl });
+      answered = λ x. (record { printed = answer_prints x.text (length x.out); out = answer_left x.text x.out }, record { answer = refl; left = refl });
       only = λ x y z p q i. record { printed = (p.answer ∙ sym q.answer) i; out = (p.left ∙ sym q.left) i };
-      said = λ x y p. moved _ _ _ (ap printedAnswer p.answer) (λ k. p.left ∙ k) (answer-said x.text x.out);
+      said = λ x y p. moved _ _ _ (ap printed_answer p.answer) (λ k. p.left ∙ k) (answer-said x.text x.out);
     }
 every_call mix-lists =
     record {
-      answered = λ x. (record { out = mixedFor x; work = x.work; marks = x.marks }, (refl, (refl, refl)));
+      answered = λ x. (record { out = mixed_for x; work = x.work; marks = x.marks }, (refl, (refl, refl)));
       only = λ x y z p q i. record { out = (p.0 ∙ sym q.0) i; work = (p.1.0 ∙ sym q.1.0) i; marks = (p.1.1 ∙ sym q.1.1) i };
       said = λ x y p.
           moved _ _ _ (ap (λ (o : Out). o.answer) p.0) (λ k. p.1)

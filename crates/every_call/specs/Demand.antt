@@ -5,16 +5,16 @@ use Rattle.exact.specs.Among.{among}
 use Rattle.quant.specs.declared.refusal.Answer.{Answer}
 use Rattle.quant.specs.declared.refusal.Answer.TheVariants.{Done, Refused}
 use Rattle.quant.specs.Refusal.{number_of}
-use Rattle.quant.specs.Aligned.{alignedAnswer, placedAnswer}
-use Rattle.quant.specs.Phaser.{phasedAnswer}
-use Rattle.quant.specs.Settings.{fittingAnswer}
-use Rattle.executor.specs.Osc.{movedAnswer, swappedAnswer}
-use Rattle.pulse.specs.Weight.{weighedAnswer}
-use Rattle.tables.specs.Tables.{toldAnswer, namingAnswer}
-use Rattle.shape.specs.Parts.{partedAnswer}
-use Rattle.shape.specs.Envelope.{envelopedAnswer}
-use Rattle.placing.specs.Judged.{judgedAnswer}
-use Rattle.sheet.specs.Sheet.{printedAnswer}
+use Rattle.quant.specs.Aligned.{aligned_answer, placed_answer}
+use Rattle.quant.specs.Phaser.{phased_answer}
+use Rattle.quant.specs.Settings.{fitting_answer}
+use Rattle.executor.specs.Osc.{moved_answer, swapped_answer}
+use Rattle.pulse.specs.Weight.{weighed_answer}
+use Rattle.tables.specs.Tables.{told_answer, naming_answer}
+use Rattle.shape.specs.Parts.{parted_answer}
+use Rattle.shape.specs.Envelope.{enveloped_answer}
+use Rattle.placing.specs.Judged.{judged_answer}
+use Rattle.sheet.specs.Sheet.{printed_answer}
 use Rattle.stand_ins.specs.StandIns.{Call}
 use Rattle.stand_ins.specs.ByValue as value
 use Rattle.stand_ins.specs.Texts as text
@@ -42,7 +42,7 @@ pub record Answers (r : Refusing) : Type 0 where
 
 pub data Which : Type 0 where
   align place phaser set-up : Which
-  shift-phase set-phase shift-freq set-freq swap-phase : Which
+  shift-phase set-phase shift_freq set_freq swap-phase : Which
   weigh lay-out measure envelope judge : Which
   state plan steps name-read : Which
   sheet-read sheet-print sheet-answer : Which
@@ -53,27 +53,27 @@ abbrev pub none : {A B : Type 0} → A → B → Type 0
 none x y = Unit {0}
 
 unfoldable pub refusing : Which → Refusing
-refusing align = record { call = value.align; answer = alignedAnswer; numbers = 8 ∷ []; Kept = none }
-refusing place = record { call = value.place; answer = placedAnswer; numbers = 8 ∷ 9 ∷ 10 ∷ []; Kept = none }
-refusing phaser = record { call = value.phaser; answer = phasedAnswer; numbers = 8 ∷ []; Kept = none }
-refusing set-up = record { call = value.set-up; answer = fittingAnswer; numbers = 1 ∷ []; Kept = none }
-refusing shift-phase = record { call = value.shift-phase; answer = movedAnswer; numbers = 8 ∷ []; Kept = none }
-refusing set-phase = record { call = value.set-phase; answer = movedAnswer; numbers = 8 ∷ []; Kept = none }
-refusing shift-freq = record { call = value.shift-freq; answer = movedAnswer; numbers = 8 ∷ []; Kept = none }
-refusing set-freq = record { call = value.set-freq; answer = movedAnswer; numbers = 8 ∷ []; Kept = none }
-refusing swap-phase = record { call = value.swap-phase; answer = swappedAnswer; numbers = 8 ∷ []; Kept = none }
-refusing weigh = record { call = value.weigh; answer = weighedAnswer; numbers = 8 ∷ []; Kept = none }
-refusing lay-out = record { call = value.lay-out; answer = partedAnswer; numbers = 11 ∷ 12 ∷ []; Kept = none }
-refusing measure = record { call = value.measure; answer = envelopedAnswer; numbers = 11 ∷ 12 ∷ 8 ∷ []; Kept = none }
-refusing envelope = record { call = buffer.envelope; answer = λ y. envelopedAnswer y.answer; numbers = 11 ∷ 12 ∷ 8 ∷ []; Kept = λ x y. y.scratch ≡ x.scratch }
-refusing judge = record { call = value.judge; answer = judgedAnswer; numbers = 8 ∷ 9 ∷ 10 ∷ 11 ∷ 12 ∷ []; Kept = none }
-refusing state = record { call = value.state; answer = toldAnswer; numbers = 2 ∷ 7 ∷ []; Kept = none }
+refusing align = record { call = value.align; answer = aligned_answer; numbers = 8 ∷ []; Kept = none }
+refusing place = record { call = value.place; answer = placed_answer; numbers = 8 ∷ 9 ∷ 10 ∷ []; Kept = none }
+refusing phaser = record { call = value.phaser; answer = phased_answer; numbers = 8 ∷ []; Kept = none }
+refusing set-up = record { call = value.set-up; answer = fitting_answer; numbers = 1 ∷ []; Kept = none }
+refusing shift-phase = record { call = value.shift-phase; answer = moved_answer; numbers = 8 ∷ []; Kept = none }
+refusing set-phase = record { call = value.set-phase; answer = moved_answer; numbers = 8 ∷ []; Kept = none }
+refusing shift_freq = record { call = value.shift_freq; answer = moved_answer; numbers = 8 ∷ []; Kept = none }
+refusing set_freq = record { call = value.set_freq; answer = moved_answer; numbers = 8 ∷ []; Kept = none }
+refusing swap-phase = record { call = value.swap-phase; answer = swapped_answer; numbers = 8 ∷ []; Kept = none }
+refusing weigh = record { call = value.weigh; answer = weighed_answer; numbers = 8 ∷ []; Kept = none }
+refusing lay-out = record { call = value.lay-out; answer = parted_answer; numbers = 11 ∷ 12 ∷ []; Kept = none }
+refusing measure = record { call = value.measure; answer = enveloped_answer; numbers = 11 ∷ 12 ∷ 8 ∷ []; Kept = none }
+refusing envelope = record { call = buffer.envelope; answer = λ y. enveloped_answer y.answer; numbers = 11 ∷ 12 ∷ 8 ∷ []; Kept = λ x y. y.scratch ≡ x.scratch }
+refusing judge = record { call = value.judge; answer = judged_answer; numbers = 8 ∷ 9 ∷ 10 ∷ 11 ∷ 12 ∷ []; Kept = none }
+refusing state = record { call = value.state; answer = told_answer; numbers = 2 ∷ 7 ∷ []; Kept = none }
 refusing plan = record { call = value.plan; answer = λ y. y.answer; numbers = 13 ∷ 2 ∷ 17 ∷ 18 ∷ 7 ∷ []; Kept = none }
 refusing steps = record { call = value.answer; answer = λ y. y; numbers = 13 ∷ 2 ∷ []; Kept = none }
-refusing name-read = record { call = text.name-read; answer = namingAnswer; numbers = 2 ∷ []; Kept = none }
+refusing name-read = record { call = text.name-read; answer = naming_answer; numbers = 2 ∷ []; Kept = none }
 refusing sheet-read = record { call = text.sheet-read; answer = λ y. y.reading.answer; numbers = 13 ∷ 15 ∷ 2 ∷ 17 ∷ 19 ∷ []; Kept = λ x y. y.matrix ≡ x.matrix }
-refusing sheet-print = record { call = text.sheet-print; answer = λ y. printedAnswer y.printed; numbers = 13 ∷ 2 ∷ 17 ∷ []; Kept = λ x y. y.out ≡ x.out }
-refusing sheet-answer = record { call = text.sheet-answer; answer = λ y. printedAnswer y.printed; numbers = 13 ∷ []; Kept = λ x y. y.out ≡ x.out }
+refusing sheet-print = record { call = text.sheet-print; answer = λ y. printed_answer y.printed; numbers = 13 ∷ 2 ∷ 17 ∷ []; Kept = λ x y. y.out ≡ x.out }
+refusing sheet-answer = record { call = text.sheet-answer; answer = λ y. printed_answer y.printed; numbers = 13 ∷ []; Kept = λ x y. y.out ≡ x.out }
 -- of both the commands or pulses before the refused one remain, as `system` says of `execute` and `sample`
 refusing mix-lists = record { call = buffer.mix-lists; answer = λ y. y.out.answer; numbers = 13 ∷ 8 ∷ 9 ∷ 10 ∷ 11 ∷ 12 ∷ []; Kept = λ x y. (y.work ≡ x.work) × (y.marks ≡ x.marks) }
 refusing execute-owned = record { call = buffer.execute-owned; answer = λ y. y.result.answer; numbers = 13 ∷ 2 ∷ 4 ∷ 5 ∷ 6 ∷ 7 ∷ 8 ∷ 3 ∷ []; Kept = none }

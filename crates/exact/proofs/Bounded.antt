@@ -10,7 +10,7 @@ use lib.Pow.{pow_pos}
 use lib.Ieee.{Float, binary64, unlike, round, sum, sub, mul}
 use Rattle.exact.specs.Value.{Units}
 use Rattle.exact.specs.Near.{Off}
-use Rattle.exact.specs.Signed.{Apart, signed, lessS}
+use Rattle.exact.specs.Signed.{Apart, signed, less_s}
 use Rattle.exact.proofs.Operation.{mul-rounds, sub-rounds}
 use Rattle.exact.proofs.Rounding.{round-off}
 
@@ -77,7 +77,7 @@ sub_is x y a b v w =
 pub record Less (f : Float) (a b i : ℕ) : Type 0 where
   pub size : ℕ
   pub value : Units f (ltb a b) size
-  pub apart : Apart (signed (ltb a b) size) (lessS (signed false a) (signed false b)) (2 ^ i)
+  pub apart : Apart (signed (ltb a b) size) (less_s (signed false a) (signed false b)) (2 ^ i)
 
 pub sub-apart : (x y : Float) (a b i : ℕ) → Units x false a → Units y false b → a ≤ b + 2 ^ (54 + i) → b ≤ a + 2 ^ (54 + i)
     → 2 ^ (54 + i) + 2 ^ (1 + i) ≤ 2 ^ 2098 → Less (sub binary64 x y) a b i
@@ -101,7 +101,7 @@ sub-apart x y a b i v w h k o =
     under v n q e h = omega arith
 
     either : (v e : ℕ) (z : Bool) → (T z → a < b) → (T (not z) → b ≤ a) → v ≤ gap a b + e → gap a b ≤ v + e
-        → Apart (signed z v) (lessS (signed false a) (signed false b)) e
+        → Apart (signed z v) (less_s (signed false a) (signed false b)) e
     either v e true h _ o u =
         let l = h tt in
         let g = gap-second a b l in

@@ -14,7 +14,7 @@ use lib.Dec.{T, leb, leb→le, nleb→lt}
 use lib.Pow.{pow_pos}
 use lib.Ieee.{Float, nan, inf, fin, binary64, fits, round, up, down}
 use lib.Ieee.Scale.{finite}
-use Rattle.exact.specs.Value.{Units, sign_of, unitsOf}
+use Rattle.exact.specs.Value.{Units, sign_of, units_of}
 use Rattle.exact.proofs.Naturals.{sub-mul}
 use Rattle.exact.proofs.Value.{held, pow-split, digits_of, units-are, own}
 use Rattle.exact.proofs.Rounding.{round-none}
@@ -31,7 +31,7 @@ value-finite nan s n v = v
 value-finite (inf t) s n v = v
 value-finite (fin t m e) s n v = tt
 
-pub few-of : (x : Float) → T (fits binary64 x) → T (finite x) → Few (unitsOf x)
+pub few-of : (x : Float) → T (fits binary64 x) → T (finite x) → Few (units_of x)
 few-of x f t =
     let d = digits_of x f t in
     record {
@@ -41,11 +41,11 @@ few-of x f t =
       is = units-are x (sign_of x) (d.digits * 2 ^ d.shift) d.value;
     }
 
-pub units-below : (x : Float) → T (fits binary64 x) → T (finite x) → unitsOf x < 2 ^ 2098
+pub units-below : (x : Float) → T (fits binary64 x) → T (finite x) → units_of x < 2 ^ 2098
 units-below nan f t = absurd t
 units-below (inf s) f t = absurd t
 units-below (fin s m e) f t =
-    below (m * up e) (down e) (2 ^ 1074) (2 ^ 1024) (unitsOf (fin s m e)) (pow_pos 1074) (held s m e f).high (own (fin s m e) f t).1
+    below (m * up e) (down e) (2 ^ 1074) (2 ^ 1024) (units_of (fin s m e)) (pow_pos 1074) (held s m e f).high (own (fin s m e) f t).1
   where
     below : (a d q h n : ℕ) → 0 < q → a < h * d → a * q ≡ n * d → n < h * q
     below a d q h n p l e =
@@ -95,8 +95,8 @@ common a b v w = by (leb w.shift v.shift) (leb→le w.shift v.shift) (nleb→lt 
         }
 
 -- ---- the remainder
-pub mod-scale : (a b c : ℕ) → 0 < b → 0 < c → a * c % (b * c) ≡ a % b * c
-mod-scale a b c B C =
+pub mod_scale : (a b c : ℕ) → 0 < b → 0 < c → a * c % (b * c) ≡ a % b * c
+mod_scale a b c B C =
     ap (λ (n : ℕ). n % (b * c))
     (ap (λ (n : ℕ). n * c) (sym (div-add-mod' a b)) ∙ add-mul (a / b * b) (a % b) c ∙ ap (λ (n : ℕ). n + a % b * c) (mul_assoc (a / b) b c))
     ∙ digits_mod (a / b) (mul-lt-mul_of_pos_right (mod-lt a B) C)
@@ -107,8 +107,8 @@ some b q p e h = elim (eq-zero-or-pos q) [ inl z ↦ absurd (none (sym (e ∙ ap
     none : 0 ≡ b → 0 < b → ⊥
     none e h = omega arith
 
-pub few-mod : (a b : ℕ) → Few a → Few b → 0 < b → Few (a % b)
-few-mod a b v w B =
+pub few_mod : (a b : ℕ) → Few a → Few b → 0 < b → Few (a % b)
+few_mod a b v w B =
     let c = common a b v w in
     let Q = some b c.second (2 ^ c.shift) c.b-is B in
     record {
@@ -121,7 +121,7 @@ few-mod a b v w B =
       is =
           ap (λ (n : ℕ). n % b) c.a-is
           ∙ ap (λ (n : ℕ). c.first * 2 ^ c.shift % n) c.b-is
-          ∙ mod-scale c.first c.second (2 ^ c.shift) Q (pow_pos c.shift);
+          ∙ mod_scale c.first c.second (2 ^ c.shift) Q (pow_pos c.shift);
     }
 
 -- ---- a close difference

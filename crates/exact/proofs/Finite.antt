@@ -10,7 +10,7 @@ use lib.Ieee.{Float, nan, inf, fin, binary64, up, down, odd, units, round, le}
 use lib.Ieee.Fits.{round_is, down_pos, and_l}
 use lib.Ieee.Order.{round_mono, transfer, kept, drop}
 use lib.Ieee.Scale.{finite, grid}
-use Rattle.exact.specs.Value.{Units, unitsOf}
+use Rattle.exact.specs.Value.{Units, units_of}
 use Rattle.exact.proofs.Value.{units-are}
 use Rattle.exact.proofs.Rounding.{round-value}
 
@@ -82,7 +82,7 @@ units-le (fin false m e) (fin false n d) a b v w h =
         by true b f g t = le_of_lt (f tt)
         by false b f g t = le_of_eq (g (and_l b (true || eqb x 0) t))
 
-pub smaller-units : (s t : Bool) (a b q : ℕ) → 0 < q → a ≤ b → T (finite (round binary64 t b q)) → unitsOf (round binary64 s a q) ≤ unitsOf (round binary64 t b q)
+pub smaller-units : (s t : Bool) (a b q : ℕ) → 0 < q → a ≤ b → T (finite (round binary64 t b q)) → units_of (round binary64 s a q) ≤ units_of (round binary64 t b q)
 smaller-units s t a b q Q h f =
     let g = grid binary64 in
     let large : T (finite (round binary64 false b q)) = subst T (round-any t false b q) f in

@@ -10,9 +10,9 @@ use lib.Ieee.{Float, nan, inf, fin, Format, binary64, up, down, round, rem, fits
 use lib.Ieee.Fits.{up_pos, down_pos}
 use lib.Ieee.Exact.{HasValue}
 use lib.Ieee.Scale.{finite, round_same}
-use Rattle.exact.specs.Value.{Units, sign_of, unitsOf}
+use Rattle.exact.specs.Value.{Units, sign_of, units_of}
 use Rattle.exact.proofs.Value.{own}
-use Rattle.exact.proofs.Few.{mod-scale, few-of, few-mod, few-value, units-below}
+use Rattle.exact.proofs.Few.{mod_scale, few-of, few_mod, few-value, units-below}
 
 -- ---- the divisor is not zero
 some : (n u b c d : ℕ) → 0 < b → 0 < d → n * u * c ≡ b * d → 0 < n
@@ -26,7 +26,7 @@ tested (suc n) x y h = ap (λ (b : Bool). cond b x y) (eqb-suc-zero n)
 
 -- ---- x / d and a / c are one fraction, and so are y / d and b / c
 crossed : (x y a b c d : ℕ) → 0 < c → 0 < d → 0 < y → 0 < b → x * c ≡ a * d → y * c ≡ b * d → x % y * c ≡ a % b * d
-crossed x y a b c d C D Y B p q = sym (mod-scale x y c Y C) ∙ ap (λ (z : ℕ). z % (y * c)) p ∙ ap (λ (z : ℕ). a * d % z) q ∙ mod-scale a b d B D
+crossed x y a b c d C D Y B p q = sym (mod_scale x y c Y C) ∙ ap (λ (z : ℕ). z % (y * c)) p ∙ ap (λ (z : ℕ). a * d % z) q ∙ mod_scale a b d B D
 
 pub rem-rounds : (f : Format) (x y : Float) (s t : Bool) (a b c : ℕ) → 0 < c → 0 < b → HasValue x s a c → HasValue y t b c
     → rem f x y ≡ round f s (a % b) c
@@ -52,11 +52,11 @@ rem-rounds f (fin u m e) (fin j n g) s t a b c C B v w =
     ∙ round_same f s (x % y) d (a % b) c D C (crossed x y a b c d C D (mul-pos (mul-pos N (up_pos g)) (down_pos e)) B p q)
 
 -- THE REMAINDER IS EXACT, in units
-pub rem-exact : (x y : Float) → T (fits binary64 x) → T (finite x) → T (fits binary64 y) → T (finite y) → 0 < unitsOf y
-    → Units (rem binary64 x y) (sign_of x) (unitsOf x % unitsOf y)
+pub rem-exact : (x y : Float) → T (fits binary64 x) → T (finite x) → T (fits binary64 y) → T (finite y) → 0 < units_of y
+    → Units (rem binary64 x y) (sign_of x) (units_of x % units_of y)
 rem-exact x y f t g u h =
-    let a = unitsOf x in
-    let b = unitsOf y in
+    let a = units_of x in
+    let b = units_of y in
     subst (λ (z : Float). Units z (sign_of x) (a % b))
     (sym (rem-rounds binary64 x y (sign_of x) (sign_of y) a b (2 ^ 1074) (pow_pos 1074) h (own x f t) (own y g u)))
-    (few-value (sign_of x) (a % b) (few-mod a b (few-of x f t) (few-of y g u) h) (lt_of_le_of_lt (mod-le a b) (units-below x f t)))
+    (few-value (sign_of x) (a % b) (few_mod a b (few-of x f t) (few-of y g u) h) (lt_of_le_of_lt (mod-le a b) (units-below x f t)))

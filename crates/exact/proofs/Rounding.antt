@@ -21,16 +21,16 @@ use Rattle.exact.proofs.Value.{pow-split}
 
 -- ---- from a half of the unit u that is kept to each way of saying it. d is v c: the answer v, times c
 -- the unit u is c, or 2 ^ 52 of it are at most n
-as-within : (v n c u : ℕ) → v * c * 2 ≤ n * 2 + u → n * 2 ≤ v * c * 2 + u → ((u ≡ c) ⊎ (u * 2 ^ 52 ≤ n)) → Within v n c
-as-within v n c u h l (inl e) = record { over = omega arith; under = omega arith }
-as-within v n c u h l (inr e) = record { over = omega arith; under = omega arith }
+as_within : (v n c u : ℕ) → v * c * 2 ≤ n * 2 + u → n * 2 ≤ v * c * 2 + u → ((u ≡ c) ⊎ (u * 2 ^ 52 ≤ n)) → Within v n c
+as_within v n c u h l (inl e) = record { over = omega arith; under = omega arith }
+as_within v n c u h l (inr e) = record { over = omega arith; under = omega arith }
 
-as-part : (v n u : ℕ) → v * 2 ≤ n * 2 + u → n * 2 ≤ v * 2 + u → ((u ≡ 1) ⊎ (u * 2 ^ 52 ≤ n)) → Part v n
-as-part v n u h l (inl e) = record { over = omega arith; under = omega arith }
-as-part v n u h l (inr e) = record { over = omega arith; under = omega arith }
+as_part : (v n u : ℕ) → v * 2 ≤ n * 2 + u → n * 2 ≤ v * 2 + u → ((u ≡ 1) ⊎ (u * 2 ^ 52 ≤ n)) → Part v n
+as_part v n u h l (inl e) = record { over = omega arith; under = omega arith }
+as_part v n u h l (inr e) = record { over = omega arith; under = omega arith }
 
-as-off : (v n c u e : ℕ) → v * c * 2 ≤ n * 2 + u → n * 2 ≤ v * c * 2 + u → u ≤ c * (e * 2) → Off v n c e
-as-off v n c u e h l g = record { over = omega arith; under = omega arith }
+as_off : (v n c u e : ℕ) → v * c * 2 ≤ n * 2 + u → n * 2 ≤ v * c * 2 + u → u ≤ c * (e * 2) → Off v n c e
+as_off v n c u e h l g = record { over = omega arith; under = omega arith }
 
 -- ---- a / c is n / c units, n = a 2 ^ 1074; `round` drops k digits of its whole part, so that the unit kept is c 2 ^ k, and answers `grid` units
 module _ (n c : ℕ) (C : 0 < c) where
@@ -67,7 +67,7 @@ module _ (n c : ℕ) (C : 0 < c) where
 
   answer-within : Within answer n c
   answer-within =
-      as-within answer n c unit answer-over answer-under
+      as_within answer n c unit answer-over answer-under
       (elim full [ inl z ↦ inl (ap (λ (k : ℕ). c * 2 ^ k) z ∙ mul-one c) | inr h ↦ inr h ])
 
 -- ---- a finite result has the sign asked for and the value `grid`
@@ -106,7 +106,7 @@ round-part s n t =
 
     part : (v n c k : ℕ) → 0 < c → v * c * 2 ≤ n * c * 2 + c * 2 ^ k → n * c * 2 ≤ v * c * 2 + c * 2 ^ k → ((k ≡ 0) ⊎ (c * 2 ^ k * 2 ^ 52 ≤ n * c)) → Part v n
     part v n c k C h l o =
-        as-part v n (2 ^ k) (gone v n (2 ^ k) c C h) (gone n v (2 ^ k) c C l)
+        as_part v n (2 ^ k) (gone v n (2 ^ k) c C h) (gone n v (2 ^ k) c C l)
         (elim o [ inl z ↦ inl (ap (λ (x : ℕ). 2 ^ x) z) | inr g ↦ inr (le_of_mul-le-mul_right (le_trans (le_of_eq (turn c (2 ^ k) (2 ^ 52))) g) C) ])
       where
         turn : (c p q : ℕ) → p * q * c ≡ c * p * q
@@ -132,7 +132,7 @@ round-off s a c i C h o = elim (eq-or-lt_of_le h) [ inl e ↦ at e | inr l ↦ b
     below l =
         let kept-le : drop 53 n c ≤ 1 + i = drops (size (n / c)) i (size-le (n / c) (54 + i) ((div-lt_iff_lt-mul C).1 l)) in
         let two : 2 ^ (1 + i) ≡ 2 ^ i * 2 = pow-add 2 1 i ∙ mul_comm 2 (2 ^ i) in
-        let off : Off (grid binary64 a c) n c (2 ^ i) = as-off (grid binary64 a c) n c (unit n c C) (2 ^ i) (answer-over n c C) (answer-under n c C) (le_trans (mul-le-mul_left c (pow_mono kept-le)) (le_of_eq (ap (λ (x : ℕ). c * x) two))) in
+        let off : Off (grid binary64 a c) n c (2 ^ i) = as_off (grid binary64 a c) n c (unit n c C) (2 ^ i) (answer-over n c C) (answer-under n c C) (le_trans (mul-le-mul_left c (pow_mono kept-le)) (le_of_eq (ap (λ (x : ℕ). c * x) two))) in
         let small : grid binary64 a c < overflow binary64 = lt_of_lt_of_le (lt_of_mul-lt-mul_right c (room (grid binary64 a c) n c (2 ^ (54 + i)) (2 ^ (1 + i)) (2 ^ i) l off.over two)) o in
         (grid binary64 a c, at-grid s a c small, off)
 

@@ -4,7 +4,7 @@ use mathlib.Core.Bool.{Bool, true, false}
 use Prim.Native.Nat.{ℕ, ◌+◌, ◌*◌, ◌≤◌, ◌<◌}
 use native.Mathlib.Nat.{mul-le-mul_left, le_of_mul-le-mul_left}
 use native.Mathlib.Omega.{arith}
-use Rattle.exact.specs.Signed.{Signed, Same, Apart, signed, times, plusS, lessS}
+use Rattle.exact.specs.Signed.{Signed, Same, Apart, signed, times, plus_s, less_s}
 
 pub apart_none : (x y : Signed) → Same x y → Apart x y 0
 apart_none x y e = record { over = omega arith; under = omega arith }
@@ -18,10 +18,10 @@ apart_more x y e d l h = record { over = omega (arith, h.over); under = omega (a
 pub apart-via : (x y z : Signed) (e d : ℕ) → Apart x y e → Apart y z d → Apart x z (e + d)
 apart-via x y z e d h k = record { over = omega (arith, h.over, k.over); under = omega (arith, h.under, k.under) }
 
-pub apart-sum : (x y z w : Signed) (e d : ℕ) → Apart x y e → Apart z w d → Apart (plusS x z) (plusS y w) (e + d)
+pub apart-sum : (x y z w : Signed) (e d : ℕ) → Apart x y e → Apart z w d → Apart (plus_s x z) (plus_s y w) (e + d)
 apart-sum x y z w e d h k = record { over = omega (arith, h.over, k.over); under = omega (arith, h.under, k.under) }
 
-pub apart-less : (x y z w : Signed) (e d : ℕ) → Apart x y e → Apart z w d → Apart (lessS x z) (lessS y w) (e + d)
+pub apart-less : (x y z w : Signed) (e d : ℕ) → Apart x y e → Apart z w d → Apart (less_s x z) (less_s y w) (e + d)
 apart-less x y z w e d h k = record { over = omega (arith, h.over, k.under); under = omega (arith, h.under, k.over) }
 
 -- sizes with one sign are as far apart as the sizes

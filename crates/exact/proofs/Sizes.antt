@@ -6,7 +6,7 @@ use Prim.Native.Nat.{ℕ, ◌+◌, ◌-◌, ◌*◌, ◌≤◌, ◌<◌}
 use native.Mathlib.Nat.{mul-add, mul-sub, eq_of_mul-eq-mul_right}
 use native.Mathlib.Omega.{arith}
 use lib.Ieee.{unlike}
-use Rattle.exact.specs.Signed.{Signed, Same, Apart, signed, times, plusS, lessS, timesS, dist, mag}
+use Rattle.exact.specs.Signed.{Signed, Same, Apart, signed, times, plus_s, less_s, times_s, dist, mag}
 use Rattle.exact.proofs.Naturals.{below_or}
 
 pub mag_same : (x y : Signed) → Same x y → mag x ≡ mag y
@@ -19,7 +19,7 @@ pub mag-signed : (s : Bool) (n : ℕ) → mag (signed s n) ≡ n
 mag-signed true n = omega arith
 mag-signed false n = omega arith
 
-pub mag-add : (x y : Signed) → mag (plusS x y) ≤ mag x + mag y
+pub mag-add : (x y : Signed) → mag (plus_s x y) ≤ mag x + mag y
 mag-add x y = by x.plus x.less y.plus y.less
   where
     by : (a b c d : ℕ) → dist (a + c) (b + d) ≤ dist a b + dist c d
@@ -58,7 +58,7 @@ mag-le x e h k = by x.plus x.less h k
     by a b h k = omega arith
 
 -- how far two numbers are apart is the size of their difference
-pub apart-mag : (x y : Signed) (e : ℕ) → Apart x y e → mag (lessS x y) ≤ e
+pub apart-mag : (x y : Signed) (e : ℕ) → Apart x y e → mag (less_s x y) ≤ e
 apart-mag x y e h = by x.plus x.less y.plus y.less h.over h.under
   where
     by : (a b c d : ℕ) → a + d ≤ c + b + e → c + b ≤ a + d + e → dist (a + d) (b + c) ≤ e
@@ -68,13 +68,13 @@ apart-mag x y e h = by x.plus x.less y.plus y.less h.over h.under
 pub same-via : (x y z : Signed) → Same x y → Same y z → Same x z
 same-via x y z h k = omega arith
 
-pub same-plus : (x y u v : Signed) → Same x u → Same y v → Same (plusS x y) (plusS u v)
+pub same-plus : (x y u v : Signed) → Same x u → Same y v → Same (plus_s x y) (plus_s u v)
 same-plus x y u v h k = omega arith
 
-pub same-less : (x y u v : Signed) → Same x u → Same y v → Same (lessS x y) (lessS u v)
+pub same-less : (x y u v : Signed) → Same x u → Same y v → Same (less_s x y) (less_s u v)
 same-less x y u v h k = omega arith
 
-pub same-product : (x y u v : Signed) → Same x u → Same y v → Same (timesS x y) (timesS u v)
+pub same-product : (x y u v : Signed) → Same x u → Same y v → Same (times_s x y) (times_s u v)
 same-product x y u v h k =
     both x.plus x.less u.plus u.less y.plus y.less v.plus v.less (left x.plus x.less u.plus u.less y.plus y.less h)
     (right u.plus u.less y.plus y.less v.plus v.less k)
@@ -96,21 +96,21 @@ same-product x y u v h k =
     both a b c d e f g i h k = omega arith
 
 -- ---- products
-pub signed_product : (s t : Bool) (m n : ℕ) → Same (timesS (signed s m) (signed t n)) (signed (unlike s t) (m * n))
+pub signed_product : (s t : Bool) (m n : ℕ) → Same (times_s (signed s m) (signed t n)) (signed (unlike s t) (m * n))
 signed_product true true m n = omega arith
 signed_product true false m n = omega arith
 signed_product false true m n = omega arith
 signed_product false false m n = omega arith
 
-pub mag-product : (x y : Signed) → mag (timesS x y) ≡ mag x * mag y
+pub mag-product : (x y : Signed) → mag (times_s x y) ≡ mag x * mag y
 mag-product x y =
     let s = signed_is x in
     let t = signed_is y in
-    mag_same (timesS x y) (timesS (signed s.0 (mag x)) (signed t.0 (mag y))) (same-product x y (signed s.0 (mag x)) (signed t.0 (mag y)) s.1 t.1)
-    ∙ mag_same (timesS (signed s.0 (mag x)) (signed t.0 (mag y))) (signed (unlike s.0 t.0) (mag x * mag y)) (signed_product s.0 t.0 (mag x) (mag y))
+    mag_same (times_s x y) (times_s (signed s.0 (mag x)) (signed t.0 (mag y))) (same-product x y (signed s.0 (mag x)) (signed t.0 (mag y)) s.1 t.1)
+    ∙ mag_same (times_s (signed s.0 (mag x)) (signed t.0 (mag y))) (signed (unlike s.0 t.0) (mag x * mag y)) (signed_product s.0 t.0 (mag x) (mag y))
     ∙ mag-signed (unlike s.0 t.0) (mag x * mag y)
 
-pub factors-out : (c d : ℕ) (x y : Signed) → Same (timesS (times c x) (times d y)) (times (c * d) (timesS x y))
+pub factors-out : (c d : ℕ) (x y : Signed) → Same (times_s (times c x) (times d y)) (times (c * d) (times_s x y))
 factors-out c d x y = by x.plus x.less y.plus y.less
   where
     by : (p q r s : ℕ) → c * p * (d * r) + c * q * (d * s) + c * d * (p * s + q * r) ≡ c * d * (p * r + q * s) + (c * p * (d * s) + c * q * (d * r))

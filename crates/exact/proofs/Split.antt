@@ -9,7 +9,7 @@ use lib.Dec.{lit≤}
 use lib.Pow.{pow_pos}
 use lib.Ieee.{Float, binary64, of_bits, add, sub}
 use Rattle.exact.specs.Value.{Units}
-use Rattle.exact.specs.Signed.{Signed, signed, times, lessS}
+use Rattle.exact.specs.Signed.{Signed, signed, times, less_s}
 use Rattle.exact.proofs.Grid.{On, Clear, sub-on}
 use Rattle.exact.proofs.Steps.{finer}
 use Rattle.exact.proofs.Upper.{Upper, upper_of, top}
@@ -29,7 +29,7 @@ three-value = (refl, refl)
 
 -- what is left of k steps
 abbrev pub rest : Signed → ℕ → Signed
-rest k v = lessS k (times (2 ^ 37) (top v))
+rest k v = less_s k (times (2 ^ 37) (top v))
 
 pub record Split (z : Float) (k : Signed) : Type 0 where
   pub v : ℕ

@@ -11,26 +11,26 @@ use Rattle.exact.proofs.Order.{ltb_yes, ltb_no}
 use Rattle.exact.proofs.Naturals.{ltb-cross, cross-sub}
 
 -- where the signs differ: the larger size less the smaller, with the larger's sign; x and y say whether a < b and b < a
-abbrev unlikeSum : Format → Bool → Bool → ℕ → ℕ → ℕ → Bool → Bool → Float
-unlikeSum f s t a b c x y = cond x (round f t (b - a) c) (round f (s && y) (a - b) c)
+abbrev unlike_sum : Format → Bool → Bool → ℕ → ℕ → ℕ → Bool → Bool → Float
+unlike_sum f s t a b c x y = cond x (round f t (b - a) c) (round f (s && y) (a - b) c)
 
-sum_is : (f : Format) (s t : Bool) (a b c : ℕ) → sum f s a t b c ≡ cond (beq s t) (round f s (a + b) c) (unlikeSum f s t a b c (ltb a b) (ltb b a))
+sum_is : (f : Format) (s t : Bool) (a b c : ℕ) → sum f s a t b c ≡ cond (beq s t) (round f s (a + b) c) (unlike_sum f s t a b c (ltb a b) (ltb b a))
 unfolding sum
 sum_is f s t a b c = refl
 
 -- ---- which way it goes
 module _ (f : Format) (s t : Bool) (a b c : ℕ) where
   pub sum_like : beq s t ≡ true → sum f s a t b c ≡ round f s (a + b) c
-  sum_like e = sum_is f s t a b c ∙ ap (λ (x : Bool). cond x (round f s (a + b) c) (unlikeSum f s t a b c (ltb a b) (ltb b a))) e
+  sum_like e = sum_is f s t a b c ∙ ap (λ (x : Bool). cond x (round f s (a + b) c) (unlike_sum f s t a b c (ltb a b) (ltb b a))) e
 
-  differ : beq s t ≡ false → sum f s a t b c ≡ unlikeSum f s t a b c (ltb a b) (ltb b a)
-  differ e = sum_is f s t a b c ∙ ap (λ (x : Bool). cond x (round f s (a + b) c) (unlikeSum f s t a b c (ltb a b) (ltb b a))) e
+  differ : beq s t ≡ false → sum f s a t b c ≡ unlike_sum f s t a b c (ltb a b) (ltb b a)
+  differ e = sum_is f s t a b c ∙ ap (λ (x : Bool). cond x (round f s (a + b) c) (unlike_sum f s t a b c (ltb a b) (ltb b a))) e
 
   pub sum-second : beq s t ≡ false → a < b → sum f s a t b c ≡ round f t (b - a) c
-  sum-second e h = differ e ∙ ap (λ (x : Bool). unlikeSum f s t a b c x (ltb b a)) (ltb_yes a b h)
+  sum-second e h = differ e ∙ ap (λ (x : Bool). unlike_sum f s t a b c x (ltb b a)) (ltb_yes a b h)
 
   not-less : beq s t ≡ false → b ≤ a → sum f s a t b c ≡ round f (s && ltb b a) (a - b) c
-  not-less e h = differ e ∙ ap (λ (x : Bool). unlikeSum f s t a b c x (ltb b a)) (ltb_no a b h)
+  not-less e h = differ e ∙ ap (λ (x : Bool). unlike_sum f s t a b c x (ltb b a)) (ltb_no a b h)
 
   pub sum_first : beq s t ≡ false → b < a → sum f s a t b c ≡ round f s (a - b) c
   sum_first e h = not-less e (le_of_lt h) ∙ ap (λ (x : Bool). round f x (a - b) c) (ap (λ (x : Bool). s && x) (ltb_yes b a h) ∙ and-true s)
@@ -43,7 +43,7 @@ module _ (f : Format) (s t : Bool) (a b c : ℕ) where
       ∙ ap (λ (x : ℕ). round f false x c) (ap (λ (x : ℕ). x - b) h ∙ sub_self b)
 
 -- ---- the terms change places
-swap : (f : Format) (s t : Bool) (a b c : ℕ) (x y : Bool) → (T x → a < b) → (T (not x) → b ≤ a) → (T y → b < a) → (T (not y) → a ≤ b) → unlikeSum f s t a b c x y ≡ unlikeSum f t s b a c y x
+swap : (f : Format) (s t : Bool) (a b c : ℕ) (x y : Bool) → (T x → a < b) → (T (not x) → b ≤ a) → (T y → b < a) → (T (not y) → a ≤ b) → unlike_sum f s t a b c x y ≡ unlike_sum f t s b a c y x
 swap f s t a b c true true p q r u = absurd (not-le_of_lt (p tt) (le_of_lt (r tt)))
 swap f s t a b c true false p q r u = ap (λ (z : Bool). round f z (b - a) c) (sym (and-true t))
 swap f s t a b c false true p q r u = ap (λ (z : Bool). round f z (a - b) c) (and-true s)
@@ -78,9 +78,9 @@ sum_same f s t x y c a b u C U p q =
     let second : r t (y - x) c ≡ r t (b - a) u = round_same f t (y - x) c (b - a) u C U (cross-sub y x c b a u q p) in
     let first : (z : Bool) → r z (x - y) c ≡ r z (a - b) u = λ z. round_same f z (x - y) c (a - b) u C U (cross-sub x y c a b u p q) in
     sum_is f s t x y c
-    ∙ ap (λ (z : Float). cond (beq s t) z (unlikeSum f s t x y c (ltb x y) (ltb y x))) plus
+    ∙ ap (λ (z : Float). cond (beq s t) z (unlike_sum f s t x y c (ltb x y) (ltb y x))) plus
     ∙ ap (λ (z : Float). cond (beq s t) (r s (a + b) u) (cond (ltb x y) z (r (s && ltb y x) (x - y) c))) second
     ∙ ap (λ (z : Float). cond (beq s t) (r s (a + b) u) (cond (ltb x y) (r t (b - a) u) z)) (first (s && ltb y x))
-    ∙ ap (λ (z : Bool). cond (beq s t) (r s (a + b) u) (unlikeSum f s t a b u z (ltb y x))) l
-    ∙ ap (λ (z : Bool). cond (beq s t) (r s (a + b) u) (unlikeSum f s t a b u (ltb a b) z)) m
+    ∙ ap (λ (z : Bool). cond (beq s t) (r s (a + b) u) (unlike_sum f s t a b u z (ltb y x))) l
+    ∙ ap (λ (z : Bool). cond (beq s t) (r s (a + b) u) (unlike_sum f s t a b u (ltb a b) z)) m
     ∙ sym (sum_is f s t a b u)

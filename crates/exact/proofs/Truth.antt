@@ -27,28 +27,28 @@ pub not-below : {a b : ℤ} → lt_z a b ≡ false → b ≤ℤ a
 not-below e = lt_z_no (subst (λ (t : Bool). T (not t)) (sym e) tt)
 
 -- a NaN is not equal to itself, a number is, and a finite double is one
-pub nan-if-other : (x : Float) → ne x x ≡ true → is_nan x ≡ true
+pub nan_if_other : (x : Float) → ne x x ≡ true → is_nan x ≡ true
 unfolding ne eq is_nan
-nan-if-other nan e = refl
-nan-if-other (inf true) e = absurd (true≢false (sym e))
-nan-if-other (inf false) e = absurd (true≢false (sym e))
-nan-if-other (fin s m k) e = absurd (true≢false (sym e ∙ by s (eqb (m * up k * down k) (m * up k * down k)) (eq-eqb (m * up k * down k) (m * up k * down k) refl)))
+nan_if_other nan e = refl
+nan_if_other (inf true) e = absurd (true≢false (sym e))
+nan_if_other (inf false) e = absurd (true≢false (sym e))
+nan_if_other (fin s m k) e = absurd (true≢false (sym e ∙ by s (eqb (m * up k * down k) (m * up k * down k)) (eq-eqb (m * up k * down k) (m * up k * down k) refl)))
   where
     by : (s b : Bool) → b ≡ true → not (b && (beq s s || eqb (m * up k * down k) 0)) ≡ false
     by true b e = ap (λ (c : Bool). not (c && true)) e
     by false b e = ap (λ (c : Bool). not (c && true)) e
 
-pub number-if-same : (x : Float) → ne x x ≡ false → T (not (is_nan x))
+pub number_if_same : (x : Float) → ne x x ≡ false → T (not (is_nan x))
 unfolding ne is_nan
-number-if-same nan e = absurd (true≢false e)
-number-if-same (inf s) e = tt
-number-if-same (fin s m k) e = tt
+number_if_same nan e = absurd (true≢false e)
+number_if_same (inf s) e = tt
+number_if_same (fin s m k) e = tt
 
-pub number-if-finite : (x : Float) → finite x ≡ true → T (not (is_nan x))
+pub number_if_finite : (x : Float) → finite x ≡ true → T (not (is_nan x))
 unfolding is_nan
-number-if-finite nan e = absurd (true≢false (sym e))
-number-if-finite (inf s) e = tt
-number-if-finite (fin s m k) e = tt
+number_if_finite nan e = absurd (true≢false (sym e))
+number_if_finite (inf s) e = tt
+number_if_finite (fin s m k) e = tt
 
 pub and-true : (s : Bool) → (s && true) ≡ s
 and-true true = refl

@@ -12,17 +12,17 @@ use lib.Ieee.Exact.{HasValue}
 use lib.Ieee.Fits.{down_pos, mul-fits, div-fits}
 use lib.Ieee.Scale.{finite}
 use Rattle.exact.specs.Doubles.{one}
-use Rattle.exact.specs.Value.{Units, sign_of, unitsOf}
+use Rattle.exact.specs.Value.{Units, sign_of, units_of}
 use Rattle.exact.proofs.Few.{few-of, few-value, units-below}
 use Rattle.exact.proofs.Operation.{mul-rounds, div-rounds}
 use Rattle.exact.proofs.Value.{own, unique}
 use Rattle.exact.proofs.Truth.{both, like-false, like-plus}
 
 -- a double that rounds the sign and the units of x is x
-pub rounds-back : (x y : Float) → T (fits binary64 x) → T (finite x) → T (fits binary64 y) → y ≡ round binary64 (sign_of x) (unitsOf x) (2 ^ 1074) → y ≡ x
+pub rounds-back : (x y : Float) → T (fits binary64 x) → T (finite x) → T (fits binary64 y) → y ≡ round binary64 (sign_of x) (units_of x) (2 ^ 1074) → y ≡ x
 rounds-back x y f t g e =
     let s = sign_of x in
-    let n = unitsOf x in
+    let n = units_of x in
     unique y x s n (2 ^ 1074) (pow_pos 1074) g f (subst (λ (z : Float). Units z s n) (sym e) (few-value s n (few-of x f t) (units-below x f t))) (own x f t)
 
 one_value : HasValue one false 1 1
@@ -35,7 +35,7 @@ one-times nan f = refl
 one-times (inf s) f = ap inf (like-plus s)
 one-times (fin s m e) f =
     let x = fin s m e in
-    let n = unitsOf x in
+    let n = units_of x in
     rounds-back x (mul binary64 one x) f tt (mul-fits binary64 one x)
     (mul-rounds binary64 one x false s 1 1 n (2 ^ 1074) (lit< tt) (pow_pos 1074) one_value (own x f tt)
     ∙ (λ i. round binary64 (like-plus s i) (one-mul n i) (2 ^ 1074)))
@@ -46,7 +46,7 @@ times-one nan f = refl
 times-one (inf s) f = ap inf (like-false s)
 times-one (fin s m e) f =
     let x = fin s m e in
-    let n = unitsOf x in
+    let n = units_of x in
     rounds-back x (mul binary64 x one) f tt (mul-fits binary64 x one)
     (mul-rounds binary64 x one s false n (2 ^ 1074) 1 1 (pow_pos 1074) (lit< tt) (own x f tt) one_value
     ∙ (λ i. round binary64 (like-false s i) (mul-one n i) (2 ^ 1074)))
@@ -57,7 +57,7 @@ over-one nan f = refl
 over-one (inf s) f = ap inf (like-false s)
 over-one (fin s m e) f =
     let x = fin s m e in
-    let n = unitsOf x in
+    let n = units_of x in
     rounds-back x (div binary64 x one) f tt (div-fits binary64 x one)
     (div-rounds binary64 x one s false n (2 ^ 1074) 1 1 (lit< tt) (pow_pos 1074) (lit< tt) (own x f tt) one_value
     ∙ (λ i. round binary64 (like-false s i) (mul-one n i) (mul-one (2 ^ 1074) i)))

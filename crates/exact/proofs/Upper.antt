@@ -8,8 +8,8 @@ use native.Mathlib.Omega.{arith}
 use lib.Pow.{pow-add, pow_pos}
 use lib.Ieee.{Float, binary64, round, add, sub}
 use lib.Ieee.Fits.{add-fits}
-use Rattle.exact.specs.Value.{Units, unitsOf}
-use Rattle.exact.specs.Signed.{Signed, Same, signed, plusS, lessS}
+use Rattle.exact.specs.Value.{Units, units_of}
+use Rattle.exact.specs.Signed.{Signed, Same, signed, plus_s, less_s}
 use Rattle.exact.specs.Near.{Off}
 use Rattle.exact.proofs.Value.{units-are}
 use Rattle.exact.proofs.Few.{value-finite}
@@ -21,7 +21,7 @@ use Rattle.exact.proofs.Steps.{far-on}
 
 -- v multiples of 2 ^ (1 + d), less M's
 abbrev pub top : ℕ → Signed
-top v = lessS (signed false v) (signed false (3 * 2 ^ 51))
+top v = less_s (signed false v) (signed false (3 * 2 ^ 51))
 
 -- ---- in whole numbers, over p = 2 ^ d
 near : (m c r e : ℕ) → 0 < c → Off r (m * c) c e → (r ≤ m + e) × (m ≤ r + e)
@@ -57,7 +57,7 @@ record Multiple (d : ℕ) (z M : Float) (n : ℕ) : Type 0 where
 multiple : (d : ℕ) (z M : Float) (n r : ℕ) → Units (add binary64 z M) false r → r ≤ n + 2 ^ d → n ≤ r + 2 ^ d → 2 ^ 52 * (2 * 2 ^ d) ≤ r → Multiple d z M n
 multiple d z M n r u o l h =
     let y = add binary64 z M in
-    let is : unitsOf y ≡ r = units-are y false r u in
+    let is : units_of y ≡ r = units-are y false r u in
     let m = far-on (1 + d) y (add-fits binary64 z M) (value-finite y false r u)
     (le_trans (le_of_eq (pow-add 2 52 (1 + d) ∙ ap (λ (q : ℕ). 2 ^ 52 * q) (twice d))) (le_trans h (le_of_eq (sym is)))) in
     let e : r ≡ m.0 * (2 * 2 ^ d) = sym is ∙ m.1 ∙ ap (λ (q : ℕ). m.0 * q) (twice d) in
@@ -71,7 +71,7 @@ pub record Upper (d : ℕ) (z M : Float) (k : Signed) : Type 0 where
 
 module _ (d : ℕ) (M : Float) (value : Units M false (3 * 2 ^ 52 * 2 ^ d)) (room : 2 ^ (54 + d) + 2 ^ (1 + d) ≤ 2 ^ 2098) where
   summed : (z : Float) (s : Bool) (b : ℕ) → b ≤ 3 * 2 ^ 50 * 2 ^ d → Units z s b
-      → (n : ℕ) × Sum d z M n × Same (signed false n) (plusS (signed false (3 * 2 ^ 52 * 2 ^ d)) (signed s b))
+      → (n : ℕ) × Sum d z M n × Same (signed false n) (plus_s (signed false (3 * 2 ^ 52 * 2 ^ d)) (signed s b))
   summed z false b h u =
       let m = 3 * 2 ^ 52 * 2 ^ d in (
         b + m,

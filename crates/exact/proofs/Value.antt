@@ -12,7 +12,7 @@ use lib.Ieee.Bits.{of_bits-to_bits}
 use lib.Ieee.Exact.{HasValue}
 use lib.Ieee.Nearest.{div_same}
 use lib.Ieee.Scale.{finite}
-use Rattle.exact.specs.Value.{Units, sign_of, unitsOf}
+use Rattle.exact.specs.Value.{Units, sign_of, units_of}
 
 -- ---- one value, as two fractions
 pub rescale : (x : Float) (s : Bool) (a c b d : ℕ) → 0 < c → b * c ≡ a * d → HasValue x s a c → HasValue x s b d
@@ -94,7 +94,7 @@ digits_of (fin s m e) f t =
     record { digits = m; shift = j.0; few = h.few; value = (refl, j.1) }
 
 -- ---- the units and the sign of a value are its own
-pub units-are : (x : Float) (s : Bool) (n : ℕ) → Units x s n → unitsOf x ≡ n
+pub units-are : (x : Float) (s : Bool) (n : ℕ) → Units x s n → units_of x ≡ n
 units-are nan s n v = absurd v
 units-are (inf t) s n v = absurd v
 units-are (fin t m e) s n v = ap (λ (z : ℕ). z / down e) v.1 ∙ mul-div_cancel n (down_pos e)
@@ -104,16 +104,16 @@ sign-is nan s n v = absurd v
 sign-is (inf t) s n v = absurd v
 sign-is (fin t m e) s n v = v.0
 
-pub own : (x : Float) → T (fits binary64 x) → T (finite x) → Units x (sign_of x) (unitsOf x)
+pub own : (x : Float) → T (fits binary64 x) → T (finite x) → Units x (sign_of x) (units_of x)
 own x f t =
     let d = digits_of x f t in
     subst (λ (n : ℕ). Units x (sign_of x) n) (sym (units-are x (sign_of x) (d.digits * 2 ^ d.shift) d.value)) d.value
 
 -- ---- two doubles of one sign and one size are one double: the bits written for n units tell all
-abbrev patternOf : Bool → ℕ → ℕ
-patternOf s n = cond s (2 ^ 63) 0 + (size n - 53) * 2 ^ 52 + n / 2 ^ (size n - 53)
+abbrev pattern_of : Bool → ℕ → ℕ
+pattern_of s n = cond s (2 ^ 63) 0 + (size n - 53) * 2 ^ 52 + n / 2 ^ (size n - 53)
 
-bits_at : (x : Float) (s : Bool) (a c : ℕ) → 0 < c → HasValue x s a c → to_bits binary64 x ≡ patternOf s (a * 2 ^ 1074 / c)
+bits_at : (x : Float) (s : Bool) (a c : ℕ) → 0 < c → HasValue x s a c → to_bits binary64 x ≡ pattern_of s (a * 2 ^ 1074 / c)
 unfolding to_bits
 bits_at nan s a c C v = absurd v
 bits_at (inf t) s a c C v = absurd v
@@ -121,10 +121,10 @@ bits_at (fin t m e) s a c C v =
     let n : m * up e * 2 ^ 1074 / down e ≡ a * 2 ^ 1074 / c =
     div_same (m * up e * 2 ^ 1074) (down e) (a * 2 ^ 1074) c (down_pos e) C
     (mul_right_comm (m * up e) (2 ^ 1074) c ∙ ap (λ (z : ℕ). z * 2 ^ 1074) v.1 ∙ mul_right_comm a (down e) (2 ^ 1074)) in
-    λ i. patternOf (v.0 i) (n i)
+    λ i. pattern_of (v.0 i) (n i)
 
 pub bits_are : (x : Float) (s : Bool) (n : ℕ) → Units x s n → to_bits binary64 x ≡ cond s (2 ^ 63) 0 + (size n - 53) * 2 ^ 52 + n / 2 ^ (size n - 53)
-bits_are x s n v = bits_at x s n (2 ^ 1074) (pow_pos 1074) v ∙ ap (patternOf s) (mul-div_cancel n (pow_pos 1074))
+bits_are x s n v = bits_at x s n (2 ^ 1074) (pow_pos 1074) v ∙ ap (pattern_of s) (mul-div_cancel n (pow_pos 1074))
 
 pub unique : (x y : Float) (s : Bool) (a c : ℕ) → 0 < c → T (fits binary64 x) → T (fits binary64 y) → HasValue x s a c → HasValue y s a c → x ≡ y
 unique x y s a c C p q v w =
@@ -135,6 +135,6 @@ zero-fits : (s : Bool) → T (fits binary64 (fin s 0 (pos 0)))
 unfolding fits
 zero-fits s = tt
 
-pub zero_is : (x : Float) → T (fits binary64 x) → T (finite x) → unitsOf x ≡ 0 → x ≡ fin (sign_of x) 0 (pos 0)
+pub zero_is : (x : Float) → T (fits binary64 x) → T (finite x) → units_of x ≡ 0 → x ≡ fin (sign_of x) 0 (pos 0)
 zero_is x f t z =
     unique x (fin (sign_of x) 0 (pos 0)) (sign_of x) 0 (2 ^ 1074) (pow_pos 1074) f (zero-fits (sign_of x)) (rw z at (own x f t)) (refl, refl)

@@ -12,8 +12,8 @@ use lib.Ieee.Exact.{units_val}
 use lib.Ieee.Fits.{round_is, round-fits}
 use lib.Ieee.Order.{drop, kept}
 use lib.Ieee.Scale.{grid, finite, round_same}
-use Rattle.exact.specs.Value.{Units, sign_of, unitsOf, value_of}
-use Rattle.exact.specs.Signed.{Signed, Same, signed, times, plusS, lessS, timesS, mag}
+use Rattle.exact.specs.Value.{Units, sign_of, units_of, value_of}
+use Rattle.exact.specs.Signed.{Signed, Same, signed, times, plus_s, less_s, times_s, mag}
 use Rattle.exact.specs.Rounds.{rnd, Rounds}
 use Rattle.exact.proofs.Order.{Stands, compared}
 use Rattle.exact.proofs.Value.{own, unique, units-are, sign-is}
@@ -30,7 +30,7 @@ pub value-is : (x : Float) (s : Bool) (n : ℕ) → Units x s n → value_of x �
 value-is x s n h = λ i. signed (sign-is x s n h i) (units-are x s n h i)
 
 pub double-of : (x : Float) → T (fits binary64 x) → T (finite x) → Double (value_of x)
-double-of x f t = double-signed (sign_of x) (unitsOf x) (few-of x f t)
+double-of x f t = double-signed (sign_of x) (units_of x) (few-of x f t)
 
 -- ---- a result is finite only where both operands are
 pub add-finite : (f : Format) (x y : Float) → T (finite (add f x y)) → T (finite x) × T (finite y)
@@ -89,13 +89,13 @@ result-rounds r x h t = subst (λ (z : Float). Rounds x (value_of z)) (sym h.is)
 -- ---- a sum and a difference
 module _ (a b : ℕ) where
   abbrev Sum : Bool → Bool → Type 0
-  Sum s t = Result (sum binary64 s a t b (2 ^ 1074)) (plusS (signed s a) (signed t b))
+  Sum s t = Result (sum binary64 s a t b (2 ^ 1074)) (plus_s (signed s a) (signed t b))
 
-  like : (s t : Bool) → beq s t ≡ true → Same (signed s (a + b)) (plusS (signed s a) (signed t b)) → Sum s t
+  like : (s t : Bool) → beq s t ≡ true → Same (signed s (a + b)) (plus_s (signed s a) (signed t b)) → Sum s t
   like s t e same = record { sign = s; size = a + b; is = sum_like binary64 s t a b (2 ^ 1074) e; same = same }
 
-  differ : (s t : Bool) → beq s t ≡ false → (a < b → Same (signed t (b - a)) (plusS (signed s a) (signed t b))) → (b < a → Same (signed s (a - b)) (plusS (signed s a) (signed t b)))
-      → (a ≡ b → Same (signed false 0) (plusS (signed s a) (signed t b))) → Sum s t
+  differ : (s t : Bool) → beq s t ≡ false → (a < b → Same (signed t (b - a)) (plus_s (signed s a) (signed t b))) → (b < a → Same (signed s (a - b)) (plus_s (signed s a) (signed t b)))
+      → (a ≡ b → Same (signed false 0) (plus_s (signed s a) (signed t b))) → Sum s t
   differ s t e less more none = by (compare a b) (compared a b)
     where
       by : (o : Ordering) → Stands o a b → Sum s t
@@ -110,22 +110,22 @@ module _ (a b : ℕ) where
   sum-result false true = differ false true refl (λ l. omega arith) (λ l. omega arith) (λ l. omega arith)
 
 module _ (x y : Float) (f : T (fits binary64 x)) (g : T (fits binary64 y)) where
-  pub add-value : T (finite (add binary64 x y)) → Rounds (plusS (value_of x) (value_of y)) (value_of (add binary64 x y))
+  pub add-value : T (finite (add binary64 x y)) → Rounds (plus_s (value_of x) (value_of y)) (value_of (add binary64 x y))
   add-value t =
       let o = add-finite binary64 x y t in
-      let e = add_rounds binary64 x y (sign_of x) (sign_of y) (unitsOf x) (unitsOf y) (2 ^ 1074) (pow_pos 1074) (own x f o.0) (own y g o.1) in
-      result-rounds (add binary64 x y) (plusS (value_of x) (value_of y))
-      (subst (λ (r : Float). Result r (plusS (value_of x) (value_of y))) (sym e) (sum-result (unitsOf x) (unitsOf y) (sign_of x) (sign_of y))) t
+      let e = add_rounds binary64 x y (sign_of x) (sign_of y) (units_of x) (units_of y) (2 ^ 1074) (pow_pos 1074) (own x f o.0) (own y g o.1) in
+      result-rounds (add binary64 x y) (plus_s (value_of x) (value_of y))
+      (subst (λ (r : Float). Result r (plus_s (value_of x) (value_of y))) (sym e) (sum-result (units_of x) (units_of y) (sign_of x) (sign_of y))) t
 
-  pub sub-value : T (finite (sub binary64 x y)) → Rounds (lessS (value_of x) (value_of y)) (value_of (sub binary64 x y))
+  pub sub-value : T (finite (sub binary64 x y)) → Rounds (less_s (value_of x) (value_of y)) (value_of (sub binary64 x y))
   sub-value t =
       let o = sub-finite binary64 x y t in
-      let e = sub-rounds binary64 x y (sign_of x) (sign_of y) (unitsOf x) (unitsOf y) (2 ^ 1074) (pow_pos 1074) (own x f o.0) (own y g o.1) in
-      result-rounds (sub binary64 x y) (lessS (value_of x) (value_of y))
-      (result_as (sub binary64 x y) (plusS (value_of x) (signed (not (sign_of y)) (unitsOf y))) (lessS (value_of x) (value_of y)) (turned (sign_of y) (unitsOf y))
-      (subst (λ (r : Float). Result r (plusS (value_of x) (signed (not (sign_of y)) (unitsOf y)))) (sym e) (sum-result (unitsOf x) (unitsOf y) (sign_of x) (not (sign_of y))))) t
+      let e = sub-rounds binary64 x y (sign_of x) (sign_of y) (units_of x) (units_of y) (2 ^ 1074) (pow_pos 1074) (own x f o.0) (own y g o.1) in
+      result-rounds (sub binary64 x y) (less_s (value_of x) (value_of y))
+      (result_as (sub binary64 x y) (plus_s (value_of x) (signed (not (sign_of y)) (units_of y))) (less_s (value_of x) (value_of y)) (turned (sign_of y) (units_of y))
+      (subst (λ (r : Float). Result r (plus_s (value_of x) (signed (not (sign_of y)) (units_of y)))) (sym e) (sum-result (units_of x) (units_of y) (sign_of x) (not (sign_of y))))) t
     where
-      turned : (s : Bool) (n : ℕ) → Same (plusS (value_of x) (signed (not s) n)) (lessS (value_of x) (signed s n))
+      turned : (s : Bool) (n : ℕ) → Same (plus_s (value_of x) (signed (not s) n)) (less_s (value_of x) (signed s n))
       turned true n = refl
       turned false n = refl
 
@@ -137,20 +137,20 @@ pub record OnStep (x : Float) (i : ℕ) (u : Signed) : Type 0 where
 
 module _ (x y : Float) (i j k : ℕ) (u w : Signed) (f : OnStep x i u) (g : OnStep y j w) (e : i + j ≡ 1074 + k) where
   abbrev exact : Signed
-  exact = times (2 ^ k) (timesS u w)
+  exact = times (2 ^ k) (times_s u w)
 
   abbrev sign : Bool
   sign = unlike (sign_of x) (sign_of y)
 
-  whole : Same (signed sign (unitsOf x * unitsOf y)) (times (2 ^ 1074) exact)
+  whole : Same (signed sign (units_of x * units_of y)) (times (2 ^ 1074) exact)
   whole =
-      same-via (signed sign (unitsOf x * unitsOf y)) (timesS (times (2 ^ i) u) (times (2 ^ j) w)) (times (2 ^ 1074) exact)
-      (same-via (signed sign (unitsOf x * unitsOf y)) (timesS (value_of x) (value_of y)) (timesS (times (2 ^ i) u) (times (2 ^ j) w))
-      (sym (signed_product (sign_of x) (sign_of y) (unitsOf x) (unitsOf y)))
+      same-via (signed sign (units_of x * units_of y)) (times_s (times (2 ^ i) u) (times (2 ^ j) w)) (times (2 ^ 1074) exact)
+      (same-via (signed sign (units_of x * units_of y)) (times_s (value_of x) (value_of y)) (times_s (times (2 ^ i) u) (times (2 ^ j) w))
+      (sym (signed_product (sign_of x) (sign_of y) (units_of x) (units_of y)))
       (same-product (value_of x) (value_of y) (times (2 ^ i) u) (times (2 ^ j) w) f.value g.value))
-      (same-via (timesS (times (2 ^ i) u) (times (2 ^ j) w)) (times (2 ^ i * 2 ^ j) (timesS u w)) (times (2 ^ 1074) exact)
+      (same-via (times_s (times (2 ^ i) u) (times (2 ^ j) w)) (times (2 ^ i * 2 ^ j) (times_s u w)) (times (2 ^ 1074) exact)
       (factors-out (2 ^ i) (2 ^ j) u w)
-      (deep (2 ^ i * 2 ^ j) (2 ^ 1074) (2 ^ k) (timesS u w) (sym (pow-add 2 i j) ∙ ap (λ (z : ℕ). 2 ^ z) e ∙ pow-add 2 1074 k)))
+      (deep (2 ^ i * 2 ^ j) (2 ^ 1074) (2 ^ k) (times_s u w) (sym (pow-add 2 i j) ∙ ap (λ (z : ℕ). 2 ^ z) e ∙ pow-add 2 1074 k)))
     where
       deep : (a b c : ℕ) (z : Signed) → a ≡ b * c → Same (times a z) (times b (times c z))
       deep a b c z e = by z.plus z.less
@@ -161,14 +161,14 @@ module _ (x y : Float) (i j k : ℕ) (u w : Signed) (f : OnStep x i u) (g : OnSt
               let l : a * q ≡ b * c * q = ap (λ (n : ℕ). n * q) e in
               omega arith
 
-  sizes : unitsOf x * unitsOf y ≡ mag exact * 2 ^ 1074
-  sizes = sym (mag-signed sign (unitsOf x * unitsOf y)) ∙ mag_same (signed sign (unitsOf x * unitsOf y)) (times (2 ^ 1074) exact) whole ∙ mag-by (2 ^ 1074) exact ∙ mul_comm (2 ^ 1074) (mag exact)
+  sizes : units_of x * units_of y ≡ mag exact * 2 ^ 1074
+  sizes = sym (mag-signed sign (units_of x * units_of y)) ∙ mag_same (signed sign (units_of x * units_of y)) (times (2 ^ 1074) exact) whole ∙ mag-by (2 ^ 1074) exact ∙ mul_comm (2 ^ 1074) (mag exact)
 
-  pub product-scaled : unitsOf x * unitsOf y * 2 ^ 1074 ≡ mag exact * (2 ^ 1074 * 2 ^ 1074)
+  pub product-scaled : units_of x * units_of y * 2 ^ 1074 ≡ mag exact * (2 ^ 1074 * 2 ^ 1074)
   product-scaled = ap (λ (z : ℕ). z * 2 ^ 1074) sizes ∙ mul_assoc (mag exact) (2 ^ 1074) (2 ^ 1074)
 
   pub product-same : Same (signed sign (mag exact)) exact
-  product-same = factor-off (2 ^ 1074) (signed sign (mag exact)) exact (pow_pos 1074) (by sign (unitsOf x * unitsOf y) (mag exact) (2 ^ 1074) (times (2 ^ 1074) exact) sizes whole)
+  product-same = factor-off (2 ^ 1074) (signed sign (mag exact)) exact (pow_pos 1074) (by sign (units_of x * units_of y) (mag exact) (2 ^ 1074) (times (2 ^ 1074) exact) sizes whole)
     where
       by : (s : Bool) (n m c : ℕ) (z : Signed) → n ≡ m * c → Same (signed s n) z → Same (times c (signed s m)) z
       by true n m c z e h = omega arith
@@ -178,8 +178,8 @@ module _ (x y : Float) (i j k : ℕ) (u w : Signed) (f : OnStep x i u) (g : OnSt
   mul_is =
       let q = 2 ^ 1074 in
       let p = pow_pos 1074 in
-      mul-rounds binary64 x y (sign_of x) (sign_of y) (unitsOf x) q (unitsOf y) q p p (own x f.fit f.here) (own y g.fit g.here)
-      ∙ round_same binary64 sign (unitsOf x * unitsOf y) (q * q) (mag exact) q (mul-pos p p) p product-scaled
+      mul-rounds binary64 x y (sign_of x) (sign_of y) (units_of x) q (units_of y) q p p (own x f.fit f.here) (own y g.fit g.here)
+      ∙ round_same binary64 sign (units_of x * units_of y) (q * q) (mag exact) q (mul-pos p p) p product-scaled
 
   pub mul-value : T (finite (mul binary64 x y)) → Rounds exact (value_of (mul binary64 x y))
   mul-value = result-rounds (mul binary64 x y) exact record { sign = sign; size = mag exact; is = mul_is; same = product-same }
@@ -193,12 +193,12 @@ at-grid s n h =
     (subst (λ (z : ℕ). Units (units binary64 s (kept 53 (n * q) q) (drop 53 (n * q) q)) s z) g
     (units_val binary64 s (kept 53 (n * q) q) (drop 53 (n * q) q) (lt_of_le_of_lt (le_of_eq g) h)))
 
-pub result-is : (r z : Float) (x : Signed) → T (fits binary64 r) → T (finite r) → Rounds x (value_of r) → 0 < unitsOf r → Result z x → r ≡ z
+pub result-is : (r z : Float) (x : Signed) → T (fits binary64 r) → T (finite r) → Rounds x (value_of r) → 0 < units_of r → Result z x → r ≡ z
 result-is r z x f t h p w =
     let s = w.sign in
     let n = w.size in
-    let o = alike (sign_of r) s (unitsOf r) (rnd n) p (rounds-at x (value_of r) s n h (sym w.same)) in
+    let o = alike (sign_of r) s (units_of r) (rnd n) p (rounds-at x (value_of r) s n h (sym w.same)) in
     unique r (round binary64 s n (2 ^ 1074)) s (rnd n) (2 ^ 1074) (pow_pos 1074) f (round-fits binary64 s n (2 ^ 1074))
-    (subst (λ (z : ℕ). Units r s z) o.1 (subst (λ (b : Bool). Units r b (unitsOf r)) o.0 (own r f t)))
+    (subst (λ (z : ℕ). Units r s z) o.1 (subst (λ (b : Bool). Units r b (units_of r)) o.0 (own r f t)))
     (at-grid s n (lt_of_le_of_lt (le_of_eq (sym o.1)) (units-below r f t)))
     ∙ sym w.is

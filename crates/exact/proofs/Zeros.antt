@@ -11,8 +11,8 @@ use lib.Pow.{pow_pos}
 use lib.Ieee.{Float, nan, inf, fin, binary64, up, down, unlike, round, sum, add, mul, fits, of_bits}
 use lib.Ieee.Fits.{up_pos, down_pos, add-fits}
 use lib.Ieee.Scale.{finite, grid, round_same}
-use Rattle.exact.specs.Doubles.{nought, minusNought, zero_of, besideZero, plainZero}
-use Rattle.exact.specs.Value.{sign_of, unitsOf}
+use Rattle.exact.specs.Doubles.{nought, minus_nought, zero_of, beside_zero, plain_zero}
+use Rattle.exact.specs.Value.{sign_of, units_of}
 use Rattle.exact.proofs.Order.{Stands, compared}
 use Rattle.exact.proofs.Sum.{sum_like, sum_first, sum-second, sum-none, sum_comm}
 use Rattle.exact.proofs.Operation.{add_rounds}
@@ -68,7 +68,7 @@ pub zero-and-some : (s t : Bool) (n : ℕ) (d : ℤ) → add binary64 (zero_of s
 zero-and-some s t n d = added s t (suc n) d ∙ sum-of-one s t (suc n * up d) (down d) (mul-pos (zero-lt-suc n) (up_pos d))
 
 -- any double beside a zero
-pub beside-zero : (s : Bool) (x : Float) → T (fits binary64 x) → add binary64 (zero_of s) x ≡ besideZero s x
+pub beside-zero : (s : Bool) (x : Float) → T (fits binary64 x) → add binary64 (zero_of s) x ≡ beside_zero s x
 unfolding add
 beside-zero s nan f = refl
 beside-zero s (inf t) f = refl
@@ -76,21 +76,21 @@ beside-zero s (fin t zero d) f = two-zeros s t d
 beside-zero s (fin t (suc n) d) f =
     let x = fin t (suc n) d in
     rounds-back x (add binary64 (zero_of s) x) f tt (add-fits binary64 (zero_of s) x)
-    (zero-and-some s t n d ∙ round_same binary64 t (suc n * up d) (down d) (unitsOf x) (2 ^ 1074) (down_pos d) (pow_pos 1074) (own x f tt).1)
+    (zero-and-some s t n d ∙ round_same binary64 t (suc n * up d) (down d) (units_of x) (2 ^ 1074) (down_pos d) (pow_pos 1074) (own x f tt).1)
 
 -- x + 0.0 is x, or +0 where x is a zero
-pub plus-zero : (x : Float) → T (fits binary64 x) → add binary64 x nought ≡ plainZero x
+pub plus-zero : (x : Float) → T (fits binary64 x) → add binary64 x nought ≡ plain_zero x
 unfolding of_bits
 plus-zero x f = add_comm x nought ∙ beside-zero false x f
 
-pub beside-fits : (s : Bool) (x : Float) → T (fits binary64 x) → T (fits binary64 (besideZero s x))
+pub beside-fits : (s : Bool) (x : Float) → T (fits binary64 x) → T (fits binary64 (beside_zero s x))
 unfolding fits
 beside-fits s nan f = tt
 beside-fits s (inf t) f = tt
 beside-fits s (fin t zero d) f = tt
 beside-fits s (fin t (suc n) d) f = f
 
-pub beside-plain : (s : Bool) (x : Float) → plainZero (besideZero s x) ≡ plainZero x
+pub beside-plain : (s : Bool) (x : Float) → plain_zero (beside_zero s x) ≡ plain_zero x
 beside-plain s nan = refl
 beside-plain s (inf t) = refl
 beside-plain s (fin t zero d) = refl
@@ -100,14 +100,14 @@ beside-plain s (fin t (suc n) d) = refl
 as_written : (t : Bool) (d : ℤ) → T (fits binary64 (fin t zero d)) → fin t zero d ≡ zero_of t
 as_written t d f = zero_is (fin t zero d) f tt (units-are (fin t zero d) t 0 (refl, ap (λ (n : ℕ). n * 2 ^ 1074) (zero-mul (up d)) ∙ zero-mul (2 ^ 1074) ∙ sym (zero-mul (down d))))
 
-pub beside-minus : (x : Float) → T (fits binary64 x) → besideZero true x ≡ x
+pub beside-minus : (x : Float) → T (fits binary64 x) → beside_zero true x ≡ x
 beside-minus nan f = refl
 beside-minus (inf t) f = refl
 beside-minus (fin t zero d) f = sym (as_written t d f)
 beside-minus (fin t (suc n) d) f = refl
 
 -- what is not -0 is the same beside either zero
-pub beside-either : (s t : Bool) (x : Float) → T (fits binary64 x) → (x ≡ minusNought → ⊥) → besideZero s x ≡ besideZero t x
+pub beside-either : (s t : Bool) (x : Float) → T (fits binary64 x) → (x ≡ minus_nought → ⊥) → beside_zero s x ≡ beside_zero t x
 unfolding of_bits
 beside-either s t nan f h = refl
 beside-either s t (inf u) f h = refl
@@ -115,15 +115,15 @@ beside-either s t (fin true zero d) f h = absurd (h (as_written true d f))
 beside-either s t (fin false zero d) f h = ap zero_of (and-false s ∙ sym (and-false t))
 beside-either s t (fin u (suc n) d) f h = refl
 
-pub plus-minus : (x : Float) → T (fits binary64 x) → add binary64 x minusNought ≡ x
+pub plus-minus : (x : Float) → T (fits binary64 x) → add binary64 x minus_nought ≡ x
 unfolding of_bits
-plus-minus x f = add_comm x minusNought ∙ beside-zero true x f ∙ beside-minus x f
+plus-minus x f = add_comm x minus_nought ∙ beside-zero true x f ∙ beside-minus x f
 
 -- ---- a sum is -0 only where both terms are
 some_left : (s t : Bool) (n : ℕ) → 0 < n → round binary64 s n (2 ^ 1074) ≡ zero_of t → ⊥
 some_left s t n p e =
     let r = round-part s n (subst (λ (z : Float). T (finite z)) (sym e) tt) in
-    clash (grid binary64 n (2 ^ 1074)) (sym (units-are (round binary64 s n (2 ^ 1074)) s (grid binary64 n (2 ^ 1074)) r.0) ∙ ap unitsOf e) r.1.under
+    clash (grid binary64 n (2 ^ 1074)) (sym (units-are (round binary64 s n (2 ^ 1074)) s (grid binary64 n (2 ^ 1074)) r.0) ∙ ap units_of e) r.1.under
   where
     clash : (v : ℕ) → v ≡ 0 → n * 2 ^ 53 ≤ v * 2 ^ 53 + n → ⊥
     clash v z h = omega arith
@@ -152,8 +152,8 @@ minus-sum false true a b e = absurd (unlike-sum false true a b refl e)
 
 pub minus-only : (x y : Float) → T (fits binary64 x) → T (finite x) → T (fits binary64 y) → T (finite y) → add binary64 x y ≡ zero_of true → (x ≡ zero_of true) × (y ≡ zero_of true)
 minus-only x y f t g u e =
-    let m = minus-sum (sign_of x) (sign_of y) (unitsOf x) (unitsOf y) (sym (add_rounds binary64 x y (sign_of x) (sign_of y) (unitsOf x) (unitsOf y) (2 ^ 1074) (pow_pos 1074) (own x f t) (own y g u)) ∙ e) in
-    (zero_is x f t (left (unitsOf x) (unitsOf y) m.2) ∙ ap zero_of m.0, zero_is y g u (right (unitsOf x) (unitsOf y) m.2) ∙ ap zero_of m.1)
+    let m = minus-sum (sign_of x) (sign_of y) (units_of x) (units_of y) (sym (add_rounds binary64 x y (sign_of x) (sign_of y) (units_of x) (units_of y) (2 ^ 1074) (pow_pos 1074) (own x f t) (own y g u)) ∙ e) in
+    (zero_is x f t (left (units_of x) (units_of y) m.2) ∙ ap zero_of m.0, zero_is y g u (right (units_of x) (units_of y) m.2) ∙ ap zero_of m.1)
   where
     left : (a b : ℕ) → a + b ≡ 0 → a ≡ 0
     left a b h = omega arith
@@ -173,8 +173,8 @@ pub nought-times : (x : Float) → T (finite x) → mul binary64 nought x ≡ ze
 unfolding of_bits
 nought-times x h = none-times false x h ∙ ap zero_of (like-plus (sign_of x))
 
-pub nought-times-wild : (x : Float) → finite x ≡ false → mul binary64 nought x ≡ nan
+pub nought-times_wild : (x : Float) → finite x ≡ false → mul binary64 nought x ≡ nan
 unfolding mul of_bits
-nought-times-wild nan h = refl
-nought-times-wild (inf s) h = refl
-nought-times-wild (fin t n d) h = absurd (true≢false h)
+nought-times_wild nan h = refl
+nought-times_wild (inf s) h = refl
+nought-times_wild (fin t n d) h = absurd (true≢false h)

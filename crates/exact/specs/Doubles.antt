@@ -8,8 +8,8 @@ abbrev pub nought : Float
 nought = of_bits binary64 0
 
 -- -0.0
-abbrev pub minusNought : Float
-minusNought = of_bits binary64 0x8000_0000_0000_0000
+abbrev pub minus_nought : Float
+minus_nought = of_bits binary64 0x8000_0000_0000_0000
 
 -- 1.0
 abbrev pub one : Float
@@ -24,12 +24,12 @@ abbrev pub zero_of : Bool → Float
 zero_of s = fin s 0 (pos 0)
 
 -- the zero with the sign s, plus x: x itself; and where x is a zero too, -0 if both are, else +0
-abbrev pub besideZero : Bool → Float → Float
-besideZero s nan = nan
-besideZero s (inf t) = inf t
-besideZero s (fin t zero d) = zero_of (s && t)
-besideZero s (fin t (suc n) d) = fin t (suc n) d
+abbrev pub beside_zero : Bool → Float → Float
+beside_zero s nan = nan
+beside_zero s (inf t) = inf t
+beside_zero s (fin t zero d) = zero_of (s && t)
+beside_zero s (fin t (suc n) d) = fin t (suc n) d
 
 -- x, but +0 for either zero
-abbrev pub plainZero : Float → Float
-plainZero = besideZero false
+abbrev pub plain_zero : Float → Float
+plain_zero = beside_zero false

@@ -23,15 +23,15 @@ abbrev pub times : ℕ → Signed → Signed
 times n x = record { plus = n * x.plus; less = n * x.less }
 
 -- the sum, and the difference
-abbrev pub plusS : Signed → Signed → Signed
-plusS x y = record { plus = x.plus + y.plus; less = x.less + y.less }
+abbrev pub plus_s : Signed → Signed → Signed
+plus_s x y = record { plus = x.plus + y.plus; less = x.less + y.less }
 
-abbrev pub lessS : Signed → Signed → Signed
-lessS x y = record { plus = x.plus + y.less; less = x.less + y.plus }
+abbrev pub less_s : Signed → Signed → Signed
+less_s x y = record { plus = x.plus + y.less; less = x.less + y.plus }
 
 -- the product
-abbrev pub timesS : Signed → Signed → Signed
-timesS x y = record { plus = x.plus * y.plus + x.less * y.less; less = x.plus * y.less + x.less * y.plus }
+abbrev pub times_s : Signed → Signed → Signed
+times_s x y = record { plus = x.plus * y.plus + x.less * y.less; less = x.plus * y.less + x.less * y.plus }
 
 -- how far two naturals are apart, and the size of a signed number
 abbrev pub dist : ℕ → ℕ → ℕ

@@ -16,17 +16,17 @@ sign_of nan = false
 sign_of (inf s) = s
 sign_of (fin s m e) = s
 
-abbrev pub unitsOf : Float → ℕ
-unitsOf nan = 0
-unitsOf (inf s) = 0
-unitsOf (fin s m e) = m * up e * 2 ^ 1074 / down e
+abbrev pub units_of : Float → ℕ
+units_of nan = 0
+units_of (inf s) = 0
+units_of (fin s m e) = m * up e * 2 ^ 1074 / down e
 
 -- a finite double times 2 ^ 1074
 abbrev pub value_of : Float → Signed
-value_of x = signed (sign_of x) (unitsOf x)
+value_of x = signed (sign_of x) (units_of x)
 
 -- z is a double of at most m units in size
 pub record AtMost (m : ℕ) (z : Float) : Type 0 where
   pub fit : T (fits binary64 z)
   pub known : T (finite z)
-  pub small : unitsOf z ≤ m
+  pub small : units_of z ≤ m

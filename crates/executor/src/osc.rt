@@ -1,7 +1,7 @@
 // A channel's oscillator: three numbers, passed and returned by each command. The Rust's `OscState` in src/executor.rs.
 ghost use Rattle.std.specs.Prelude.{◌≡◌, ◌&&◌};
 ghost use Rattle.std.specs.Float.Ieee.Scale.{finite};
-ghost use Rattle.executor.specs.Osc.{total_of, phaseAt, withPhase, withBoth, moved, swapped, shiftedPhase, setPhaseTo, retuned, shiftedFreq, setFreqTo, swappedBy, swappedPhases};
+ghost use Rattle.executor.specs.Osc.{total_of, phase_at, with_phase, with_both, moved, swapped, shifted_phase, set_phase_to, retuned, shifted_freq, set_freq_to, swapped_by, swapped_phases};
 
 use ieee::finite::is_finite;
 use quant::judge::both;
@@ -17,7 +17,7 @@ pub struct OscState {
 }
 
 // The state after a command. Where a number worked out on the way is not finite the command is refused, and the state is the one that came.
-// `movedAnswer` and `swappedAnswer` say by which number.
+// `moved_answer` and `swapped_answer` say by which number.
 #[repr(C)]
 #[derive(Drop)]
 pub struct Moved {
@@ -42,21 +42,21 @@ impl OscState {
     }
 
     pub fn phase_at(self, time: Time) -> Phase
-        ensures { result.0 ≡ phaseAt self time.0 }
+        ensures { result.0 ≡ phase_at self time.0 }
     {
         let turned = self.total_freq().mul_time(time);
         self.phase.add(turned)
     }
 
     pub fn with_time_shift(self, time: Time) -> OscState
-        ensures { result ≡ withPhase self (phaseAt self time.0) }
+        ensures { result ≡ with_phase self (phase_at self time.0) }
     {
         let phase = self.phase_at(time);
         self.with_phase(phase)
     }
 
     pub fn shift_phase(self, by: Phase) -> Moved
-        ensures { result ≡ shiftedPhase self by.0 }
+        ensures { result ≡ shifted_phase self by.0 }
     {
         let phase = self.phase.add(by);
         let fine = is_finite(phase.0);
@@ -64,7 +64,7 @@ impl OscState {
     }
 
     pub fn set_phase(self, to: Phase, time: Time) -> Moved
-        ensures { result ≡ setPhaseTo self to.0 time.0 }
+        ensures { result ≡ set_phase_to self to.0 time.0 }
     {
         let turned = self.delta.mul_time(time);
         let phase = to.sub(turned);
@@ -73,14 +73,14 @@ impl OscState {
     }
 
     pub fn shift_freq(self, by: Frequency, time: Time) -> Moved
-        ensures { result ≡ shiftedFreq self by.0 time.0 }
+        ensures { result ≡ shifted_freq self by.0 time.0 }
     {
         let delta = self.delta.add(by);
         self.retune(delta, by.neg().mul_time(time), delta)
     }
 
     pub fn set_freq(self, to: Frequency, time: Time) -> Moved
-        ensures { result ≡ setFreqTo self to.0 time.0 }
+        ensures { result ≡ set_freq_to self to.0 time.0 }
     {
         let change = to.sub(self.delta);
         self.retune(change, change.neg().mul_time(time), to)
@@ -99,14 +99,14 @@ impl OscState {
     }
 
     fn with_both(self, delta: Frequency, phase: Phase) -> OscState
-        ensures { result ≡ withBoth self delta.0 phase.0 }
+        ensures { result ≡ with_both self delta.0 phase.0 }
     {
         let base = self.base;
         OscState { base, delta, phase }
     }
 
     fn with_phase(self, phase: Phase) -> OscState
-        ensures { result ≡ withPhase self phase.0 }
+        ensures { result ≡ with_phase self phase.0 }
     {
         let base = self.base;
         let delta = self.delta;
@@ -131,7 +131,7 @@ impl OscState {
 
 // The phases change places, each turned by how far the other's frequency is ahead.
 pub fn swap_phase(one: OscState, two: OscState, time: Time) -> Swapped
-    ensures { result ≡ swappedPhases one two time.0 }
+    ensures { result ≡ swapped_phases one two time.0 }
 {
     let first = one.total_freq();
     let second = two.total_freq();
@@ -142,7 +142,7 @@ pub fn swap_phase(one: OscState, two: OscState, time: Time) -> Swapped
 }
 
 fn swap_turned(one: OscState, two: OscState, fine: bool, turned: Phase) -> Swapped
-    ensures { result ≡ swappedBy one two fine turned.0 }
+    ensures { result ≡ swapped_by one two fine turned.0 }
 {
     let p = two.phase.sub(turned);
     let q = one.phase.add(turned);

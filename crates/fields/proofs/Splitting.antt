@@ -17,7 +17,7 @@ use Rattle.sheet.specs.Sheet.{value}
 use Rattle.sheet.proofs.Keys.{missing, there}
 use Rattle.sheet.proofs.Keys as keys
 use Rattle.fields.specs.declared.words.Span.TheVariants.{At, Missing}
-use Rattle.fields.specs.Words.{words_of, word_in, first_word, blankOf, Begins, Found}
+use Rattle.fields.specs.Words.{words_of, word_in, first_word, blank_of, Begins, Found}
 
 -- no blank: one word
 pub words-one : (text : List ℕ) → place_of 32 text ≡ length text → words_of text ≡ text ∷ []
@@ -97,7 +97,7 @@ words-some (b ∷ bs) = by (eqb b 32) (words_of bs) (words-some bs)
     by false [] h = omega arith
     by false (w ∷ ws) h = omega arith
 
-pub counts-on : (line : List ℕ) (i : ℕ) → i < length line → length (words_of (drop i line)) ≡ blankOf (get_or line i 0) + length (words_of (drop (suc i) line))
+pub counts-on : (line : List ℕ) (i : ℕ) → i < length line → length (words_of (drop i line)) ≡ blank_of (get_or line i 0) + length (words_of (drop (suc i) line))
 unfolding words_of
 counts-on line i h = rw (drop-cons line i 0 h) (by (eqb (get_or line i 0) 32) (words_of (drop (suc i) line)) (words-some (drop (suc i) line)))
   where
@@ -170,7 +170,7 @@ module _ (line : List ℕ) (k at left p : ℕ) (within : at ≤ length line) (pl
         let more : at + place_of 32 (drop at line) ≡ length line → ⊥ = rw (← here) n in
         (omega (arith, turn-within), rw here (one_less line at left some within more ∙ so_far))
 
-pub blank-most : (b : ℕ) → blankOf b ≤ 1
+pub blank-most : (b : ℕ) → blank_of b ≤ 1
 blank-most b = by (eqb b 32)
   where
     by : (t : Bool) → cond t 1 0 ≤ 1

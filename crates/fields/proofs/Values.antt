@@ -15,7 +15,7 @@ use lib.Ieee.Bits.{is_true}
 use mir.Syntax.{w32}
 use mir.Val.{SFits, to_z, of_z}
 use mir.ValLaws.{to_z-of_z}
-use Rattle.decimal.specs.Digits.{digitsFrom, digitsOf}
+use Rattle.decimal.specs.Digits.{digits_from, digits_of}
 use Rattle.decimal.specs.declared.digits.Digits.TheVariants as digits
 use Rattle.decimal.proofs.Figures.{digits-most}
 use Rattle.decimal.proofs.Reading.{digits-none, digits_are}
@@ -25,8 +25,8 @@ use Rattle.fields.specs.declared.words.Span.TheVariants.{At, Missing}
 use Rattle.fields.specs.declared.value.Flag.TheVariants as flag
 use Rattle.fields.specs.declared.value.Level.TheVariants as level
 use Rattle.fields.specs.Words.{word_in, Found, bare}
-use Rattle.naming.specs.Name.{accepted, isName, named, namingOf}
-use Rattle.fields.specs.Value.{flagBy, flagOf, levelOf, name_of, signed}
+use Rattle.naming.specs.Name.{accepted, is_name, named, naming_of}
+use Rattle.fields.specs.Value.{flag_by, flag_of, level_of, name_of, signed}
 
 module _ (line : List ℕ) (k : ℕ) (key : List ℕ) (r : Span) (found : Found line k key r) where
   pub found_none : r ≡ Missing → behind key (word_in line k) ≡ other
@@ -70,14 +70,14 @@ module _ (line : List ℕ) (from to : ℕ) (order : from ≤ to) (within : to �
       differs e h = omega arith
 
 -- ---- flags
-pub flag-long : (text : List ℕ) → (length text ≡ 1 → ⊥) → flagOf text ≡ flag.Bad
-unfolding flagOf
+pub flag-long : (text : List ℕ) → (length text ≡ 1 → ⊥) → flag_of text ≡ flag.Bad
+unfolding flag_of
 flag-long [] n = refl
 flag-long (b ∷ []) n = absurd (n refl)
 flag-long (b ∷ c ∷ bs) n = refl
 
-pub flag_one : (text : List ℕ) → length text ≡ 1 → flagOf text ≡ flagBy (get_or text 0 0)
-unfolding flagOf
+pub flag_one : (text : List ℕ) → length text ≡ 1 → flag_of text ≡ flag_by (get_or text 0 0)
+unfolding flag_of
 flag_one [] e = absurd (none e)
   where
     none : ◌≡◌ {A = ℕ} 0 1 → ⊥
@@ -89,32 +89,32 @@ flag_one (b ∷ c ∷ bs) e = absurd (none (length bs) e)
     none n k = omega arith
 
 -- ---- levels
-pub level-none : (text : List ℕ) → length text < 1 → levelOf text ≡ level.Bad
-unfolding levelOf
+pub level-none : (text : List ℕ) → length text < 1 → level_of text ≡ level.Bad
+unfolding level_of
 level-none [] h = refl
 level-none (b ∷ bs) h = absurd (not-suc-le-zero (le_of_suc-le-suc h))
 
-pub level-minus : (text : List ℕ) → 1 ≤ length text → get_or text 0 0 ≡ 45 → levelOf text ≡ signed true (drop 1 text)
-unfolding levelOf
+pub level-minus : (text : List ℕ) → 1 ≤ length text → get_or text 0 0 ≡ 45 → level_of text ≡ signed true (drop 1 text)
+unfolding level_of
 level-minus [] h e = absurd (not-suc-le-zero h)
 level-minus (b ∷ bs) h e = simp (eq-eqb b 45 e)
 
-pub level-bare : (text : List ℕ) → 1 ≤ length text → (get_or text 0 0 ≡ 45 → ⊥) → levelOf text ≡ signed false text
-unfolding levelOf
+pub level-bare : (text : List ℕ) → 1 ≤ length text → (get_or text 0 0 ≡ 45 → ⊥) → level_of text ≡ signed false text
+unfolding level_of
 level-bare [] h n = absurd (not-suc-le-zero h)
 level-bare (b ∷ bs) h n = simp (ne_eqb b 45 n)
 
-module _ (text : List ℕ) (n : ℕ) (few : length text ≤ 9) (is : digitsOf text ≡ digits.Value n) where
+module _ (text : List ℕ) (n : ℕ) (few : length text ≤ 9) (is : digits_of text ≡ digits.Value n) where
   level-small : n < 10 ^ 9
   level-small = by (length text) refl
     where
       by : (k : ℕ) → length text ≡ k → n < 10 ^ 9
       by zero e =
-          let none : digitsOf text ≡ digits.Bad = digits-none text (omega arith) in
+          let none : digits_of text ≡ digits.Bad = digits-none text (omega arith) in
           let z : ◌≡◌ {A = ℕ} 0 1 = cc in
           omega arith
       by (suc k) e =
-          let from : digitsFrom 10 0 text ≡ digits.Value n = sym (digits_are text (omega arith) (omega arith)) ∙ is in
+          let from : digits_from 10 0 text ≡ digits.Value n = sym (digits_are text (omega arith) (omega arith)) ∙ is in
           let below : n + 1 ≤ 10 ^ length text = rw (one-mul (10 ^ length text)) at (digits-most 10 0 n text from) in
           let most : 10 ^ length text ≤ 10 ^ 9 = pow-le-pow_right (lit< tt) {j = 9} few in
           omega arith
@@ -151,16 +151,16 @@ pub level-long : (s : Bool) (text : List ℕ) → 9 < length text → signed s t
 unfolding signed
 level-long s text h = rw (lt-leb (length text) 9 h)
 
-pub level-broken : (s : Bool) (text : List ℕ) → length text ≤ 9 → digitsOf text ≡ digits.Bad → signed s text ≡ level.Bad
+pub level-broken : (s : Bool) (text : List ℕ) → length text ≤ 9 → digits_of text ≡ digits.Bad → signed s text ≡ level.Bad
 unfolding signed
 level-broken true text h e = rw (le-leb (length text) 9 h, e)
 level-broken false text h e = rw (le-leb (length text) 9 h, e)
 
 -- ---- names: one that breaks the rule is handed on as one that breaks it
 pub name-kept : (text : List ℕ) → accepted text ≡ true → name_of text ≡ named text
-unfolding name_of namingOf
+unfolding name_of naming_of
 name-kept text e = rw e
 
-pub name-refused : (text : List ℕ) → accepted text ≡ false → isName (name_of text) ≡ false
-unfolding name_of namingOf isName blank
+pub name-refused : (text : List ℕ) → accepted text ≡ false → is_name (name_of text) ≡ false
+unfolding name_of naming_of is_name blank
 name-refused text e = rw e

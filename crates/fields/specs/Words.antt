@@ -13,8 +13,8 @@ words_of [] = [] ∷ []
 words_of (b ∷ bs) = cond (eqb b 32) ([] ∷ words_of bs) (before b (words_of bs))
 
 -- 1 for a blank
-abbrev pub blankOf : ℕ → ℕ
-blankOf b = cond (eqb b 32) 1 0
+abbrev pub blank_of : ℕ → ℕ
+blank_of b = cond (eqb b 32) 1 0
 
 -- word k, from 0; the empty word where there is none
 abbrev pub word_in : List ℕ → ℕ → List ℕ
@@ -50,5 +50,5 @@ bare (value []) = true
 bare (value (b ∷ bs)) = false
 bare other = false
 
-unfoldable pub isWord : List ℕ → List ℕ → Bool
-isWord key word = bare (behind key word)
+unfoldable pub is_word : List ℕ → List ℕ → Bool
+is_word key word = bare (behind key word)

@@ -1,7 +1,7 @@
 // What a value says: each call reads the value behind a key in word k of a line.
 ghost use Rattle.std.specs.Prelude.{◌≡◌};
 ghost use Rattle.fields.specs.Words.{word_in};
-ghost use Rattle.fields.specs.Value.{numberField, nameField, shapeField, flagField, wholeField, levelField, name_of, flagOf, levelOf, signed};
+ghost use Rattle.fields.specs.Value.{number_field, name_field, shape_field, flag_field, whole_field, level_field, name_of, flag_of, level_of, signed};
 
 use super::words::{Span, value_at};
 use decimal::digits::{Digits, figures};
@@ -36,7 +36,7 @@ pub enum Level {
 }
 
 pub fn number_in(line: &[u8], k: usize, key: &[u8]) -> Number
-    ensures { result ≡ numberField key.now (word_in line.now k) }
+    ensures { result ≡ number_field key.now (word_in line.now k) }
 {
     let value = value_at(line, k, key);
     match value {
@@ -47,7 +47,7 @@ pub fn number_in(line: &[u8], k: usize, key: &[u8]) -> Number
 
 // A whole number of 1 to 15 digits.
 pub fn whole_in(line: &[u8], k: usize, key: &[u8]) -> Digits
-    ensures { result ≡ wholeField key.now (word_in line.now k) }
+    ensures { result ≡ whole_field key.now (word_in line.now k) }
 {
     let value = value_at(line, k, key);
     match value {
@@ -57,7 +57,7 @@ pub fn whole_in(line: &[u8], k: usize, key: &[u8]) -> Digits
 }
 
 pub fn name_in(line: &[u8], k: usize, key: &[u8]) -> Called
-    ensures { result ≡ nameField key.now (word_in line.now k) }
+    ensures { result ≡ name_field key.now (word_in line.now k) }
 {
     let value = value_at(line, k, key);
     match value {
@@ -68,7 +68,7 @@ pub fn name_in(line: &[u8], k: usize, key: &[u8]) -> Called
 
 // Nothing behind the key is no shape.
 pub fn shape_in(line: &[u8], k: usize, key: &[u8]) -> Shaped
-    ensures { result ≡ shapeField key.now (word_in line.now k) }
+    ensures { result ≡ shape_field key.now (word_in line.now k) }
 {
     let value = value_at(line, k, key);
     match value {
@@ -78,7 +78,7 @@ pub fn shape_in(line: &[u8], k: usize, key: &[u8]) -> Shaped
 }
 
 pub fn flag_in(line: &[u8], k: usize, key: &[u8]) -> Flag
-    ensures { result ≡ flagField key.now (word_in line.now k) }
+    ensures { result ≡ flag_field key.now (word_in line.now k) }
 {
     let value = value_at(line, k, key);
     match value {
@@ -89,7 +89,7 @@ pub fn flag_in(line: &[u8], k: usize, key: &[u8]) -> Flag
 
 // An optional `-` and 1 to 9 digits.
 pub fn level_in(line: &[u8], k: usize, key: &[u8]) -> Level
-    ensures { result ≡ levelField key.now (word_in line.now k) }
+    ensures { result ≡ level_field key.now (word_in line.now k) }
 {
     let value = value_at(line, k, key);
     match value {
@@ -109,7 +109,7 @@ fn name_of(text: &[u8]) -> Name
 }
 
 fn flag_of(text: &[u8]) -> Flag
-    ensures { result ≡ flagOf text.now }
+    ensures { result ≡ flag_of text.now }
 {
     if text.len() != 1 {
         return Flag::Bad;
@@ -124,7 +124,7 @@ fn flag_of(text: &[u8]) -> Flag
 }
 
 fn level_of(text: &[u8]) -> Level
-    ensures { result ≡ levelOf text.now }
+    ensures { result ≡ level_of text.now }
 {
     if text.len() < 1 {
         return Level::Bad;

@@ -1,6 +1,6 @@
 // Words, parted by one blank: two blanks have an empty word between them.
 ghost use Rattle.std.specs.Prelude.{◌≡◌, length};
-ghost use Rattle.fields.specs.Words.{words_of, blankOf, Begins, Found, isWord, word_in};
+ghost use Rattle.fields.specs.Words.{words_of, blank_of, Begins, Found, is_word, word_in};
 
 use decimal::digits::place;
 use sheet::line::starts;
@@ -28,7 +28,7 @@ pub fn count(line: &[u8]) -> usize
 
 // 1 for a blank, 0 for any other byte.
 fn blank(b: u8) -> usize
-    ensures { result ≡ blankOf b }
+    ensures { result ≡ blank_of b }
 {
     if b == b' ' {
         return 1;
@@ -67,7 +67,7 @@ pub fn value_at(line: &[u8], k: usize, key: &[u8]) -> Span
 
 // Whether word k is this one.
 pub fn is_word(line: &[u8], k: usize, key: &[u8]) -> bool
-    ensures { result ≡ isWord key.now (word_in line.now k) }
+    ensures { result ≡ is_word key.now (word_in line.now k) }
 {
     let value = value_at(line, k, key);
     match value {

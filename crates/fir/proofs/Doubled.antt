@@ -11,9 +11,9 @@ use lib.Seq.{get_or_at, get_or-append-add}
 use lib.Ieee.{Float, nan, binary64, add, mul}
 use Rattle.exact.specs.Doubles.{nought}
 use Rattle.exact.proofs.Naturals.{below_or}
-use Rattle.ring.specs.Ring.{tapAt, slot_of, put, sum_to, filteredFrom, filteredRow}
-use Rattle.ring.proofs.Tap.{tap-back, tap-round}
-use Rattle.fir.specs.Doubled.{doubled, tapDoubled, sumDoubled, filteredDoubledFrom, filteredDoubled}
+use Rattle.ring.specs.Ring.{tap_at, slot_of, put, sum_to, filtered_from, filtered_row}
+use Rattle.ring.proofs.Tap.{tap_back, tap_round}
+use Rattle.fir.specs.Doubled.{doubled, tap_doubled, sum_doubled, filtered_doubled_from, filtered_doubled}
 
 -- the p-th of a list that is turned round is the p-th from its end
 turned-at : {A : Type 0} (l : List A) (p : ℕ) (d : A) → p < length l → get_or (reverse l) p d ≡ get_or l (length l - 1 - p) d
@@ -57,29 +57,29 @@ round n s j g k = omega arith
 over : (n s j : ℕ) → s < j → j < n → n - s - 1 + j ≡ n + (j - s - 1)
 over n s j g k = omega arith
 
-pub same-tap : (taps : List Float) (s j : ℕ) → s < length taps → j < length taps → tapAt taps s j ≡ tapDoubled taps s j
-same-tap taps s j h k = elim (below_or s j) [
+pub same_tap : (taps : List Float) (s j : ℕ) → s < length taps → j < length taps → tap_at taps s j ≡ tap_doubled taps s j
+same_tap taps s j h k = elim (below_or s j) [
   | inl g ↦
-      tap-round taps s j g k
+      tap_round taps s j g k
       ∙ sym
       (ap (λ (m : ℕ). get_or (doubled taps) m nan) (over (length taps) s j g k)
       ∙ rest taps (j - s - 1) (omega arith)
       ∙ ap (λ (m : ℕ). get_or taps m nan) (round (length taps) s j g k))
   | inr g ↦
-      tap-back taps s j h g
+      tap_back taps s j h g
       ∙ sym (front taps (length taps - s - 1 + j) (omega arith) ∙ ap (λ (m : ℕ). get_or taps m nan) (back (length taps) s j h g))
 ]
 
 module _ (taps : List Float) (some : 1 ≤ length taps) where
-  same_sum : (ring : List Float) (s : ℕ) → s < length taps → (j : ℕ) → j ≤ length taps → sum_to taps ring s j ≡ sumDoubled taps ring s j
-  unfolding sum_to sumDoubled
+  same_sum : (ring : List Float) (s : ℕ) → s < length taps → (j : ℕ) → j ≤ length taps → sum_to taps ring s j ≡ sum_doubled taps ring s j
+  unfolding sum_to sum_doubled
   same_sum ring s h zero l = refl
-  same_sum ring s h (suc j) l = λ i. add binary64 (mul binary64 (same-tap taps s j h l i) (get_or ring j nan)) (same_sum ring s h j (le_of_lt l) i)
+  same_sum ring s h (suc j) l = λ i. add binary64 (mul binary64 (same_tap taps s j h l i) (get_or ring j nan)) (same_sum ring s h j (le_of_lt l) i)
 
-  same_from : (k : ℕ) (ring row : List Float) → filteredFrom taps k ring row ≡ filteredDoubledFrom taps k ring row
-  unfolding filteredFrom filteredDoubledFrom
+  same_from : (k : ℕ) (ring row : List Float) → filtered_from taps k ring row ≡ filtered_doubled_from taps k ring row
+  unfolding filtered_from filtered_doubled_from
   same_from k ring [] = refl
   same_from k ring (x ∷ xs) = λ i. same_sum (put taps k x ring) (slot_of taps k) (mod-lt k some) (length taps) (le_refl (length taps)) i ∷ same_from (suc k) (put taps k x ring) xs i
 
-  pub same_row : (row : List Float) → filteredRow taps row ≡ filteredDoubled taps row
+  pub same_row : (row : List Float) → filtered_row taps row ≡ filtered_doubled taps row
   same_row row = same_from 0 (replicate 256 nought) row

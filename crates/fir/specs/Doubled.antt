@@ -11,17 +11,17 @@ unfoldable pub doubled : List Float → List Float
 doubled taps = reverse taps ++ reverse taps
 
 -- the tap that met slot j while the newest sample stood in slot s: read straight on
-abbrev pub tapDoubled : List Float → ℕ → ℕ → Float
-tapDoubled taps s j = get_or (doubled taps) (length taps - s - 1 + j) nan
+abbrev pub tap_doubled : List Float → ℕ → ℕ → Float
+tap_doubled taps s j = get_or (doubled taps) (length taps - s - 1 + j) nan
 
 -- the sum over the first j slots, the samples from the k-th on, and the row: as in `ring`
-unfoldable pub sumDoubled : List Float → List Float → ℕ → ℕ → Float
-sumDoubled taps ring s zero = nought
-sumDoubled taps ring s (suc j) = add binary64 (mul binary64 (tapDoubled taps s j) (get_or ring j nan)) (sumDoubled taps ring s j)
+unfoldable pub sum_doubled : List Float → List Float → ℕ → ℕ → Float
+sum_doubled taps ring s zero = nought
+sum_doubled taps ring s (suc j) = add binary64 (mul binary64 (tap_doubled taps s j) (get_or ring j nan)) (sum_doubled taps ring s j)
 
-unfoldable pub filteredDoubledFrom : List Float → ℕ → List Float → List Float → List Float
-filteredDoubledFrom taps k ring [] = []
-filteredDoubledFrom taps k ring (x ∷ xs) = sumDoubled taps (put taps k x ring) (slot_of taps k) (length taps) ∷ filteredDoubledFrom taps (suc k) (put taps k x ring) xs
+unfoldable pub filtered_doubled_from : List Float → ℕ → List Float → List Float → List Float
+filtered_doubled_from taps k ring [] = []
+filtered_doubled_from taps k ring (x ∷ xs) = sum_doubled taps (put taps k x ring) (slot_of taps k) (length taps) ∷ filtered_doubled_from taps (suc k) (put taps k x ring) xs
 
-abbrev pub filteredDoubled : List Float → List Float → List Float
-filteredDoubled taps row = filteredDoubledFrom taps 0 (replicate 256 nought) row
+abbrev pub filtered_doubled : List Float → List Float → List Float
+filtered_doubled taps row = filtered_doubled_from taps 0 (replicate 256 nought) row

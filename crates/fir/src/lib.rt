@@ -1,6 +1,6 @@
 // Rows filtered by taps: the Rust's `pulse/fir.rs` at one lane.
 ghost use Rattle.std.specs.Prelude.{◌≡◌};
-ghost use Rattle.fir.specs.Fir.{Fir, firFits};
+ghost use Rattle.fir.specs.Fir.{Fir, fir_fits};
 
 use quant::refusal::Answer;
 use ring::filter;
@@ -23,7 +23,7 @@ pub fn fir(rows: usize, i: &mut [f64], q: &mut [f64], taps: &[f64]) -> Answer
 
 // Rows that fit, and 1 to 256 taps.
 fn fits(rows: usize, i: usize, q: usize, taps: usize) -> bool
-    ensures { result ≡ firFits rows i q taps }
+    ensures { result ≡ fir_fits rows i q taps }
 {
     if !rows_fit(rows, i, q) {
         return false;

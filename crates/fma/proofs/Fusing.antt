@@ -155,29 +155,29 @@ third-zero (fin s m e) (fin t n d) (fin u w k) f g h q =
     product-alone s t u m n w e d k (mul-pos (mul-pos (ltb→lt 0 m f) (up_pos e)) (mul-pos (ltb→lt 0 n g) (up_pos d))) (is_zero u w k q)
 
 -- ---- where something is not finite
-pub third-wild : (x y z : Float) → T (finite x) → T (finite y) → false ≡ finite z → z ≡ fma binary64 x y z
+pub third_wild : (x y z : Float) → T (finite x) → T (finite y) → false ≡ finite z → z ≡ fma binary64 x y z
 unfolding fma
-third-wild nan y z f g h = absurd f
-third-wild (inf s) y z f g h = absurd f
-third-wild (fin s m e) nan z f g h = absurd g
-third-wild (fin s m e) (inf t) z f g h = absurd g
-third-wild (fin s m e) (fin t n d) nan f g h = refl
-third-wild (fin s m e) (fin t n d) (inf u) f g h = refl
-third-wild (fin s m e) (fin t n d) (fin u w k) f g h = absurd (true≢false (sym h))
+third_wild nan y z f g h = absurd f
+third_wild (inf s) y z f g h = absurd f
+third_wild (fin s m e) nan z f g h = absurd g
+third_wild (fin s m e) (inf t) z f g h = absurd g
+third_wild (fin s m e) (fin t n d) nan f g h = refl
+third_wild (fin s m e) (fin t n d) (inf u) f g h = refl
+third_wild (fin s m e) (fin t n d) (fin u w k) f g h = absurd (true≢false (sym h))
 
-pub second-wild : (x y z : Float) → T (finite x) → false ≡ finite y → add binary64 (mul binary64 x y) z ≡ fma binary64 x y z
+pub second_wild : (x y z : Float) → T (finite x) → false ≡ finite y → add binary64 (mul binary64 x y) z ≡ fma binary64 x y z
 unfolding fma
-second-wild nan y z f h = absurd f
-second-wild (inf s) y z f h = absurd f
-second-wild (fin s m e) nan z f h = refl
-second-wild (fin s m e) (inf t) z f h = refl
-second-wild (fin s m e) (fin t n d) z f h = absurd (true≢false (sym h))
+second_wild nan y z f h = absurd f
+second_wild (inf s) y z f h = absurd f
+second_wild (fin s m e) nan z f h = refl
+second_wild (fin s m e) (inf t) z f h = refl
+second_wild (fin s m e) (fin t n d) z f h = absurd (true≢false (sym h))
 
-pub first-wild : (x y z : Float) → false ≡ finite x → add binary64 (mul binary64 x y) z ≡ fma binary64 x y z
+pub first_wild : (x y z : Float) → false ≡ finite x → add binary64 (mul binary64 x y) z ≡ fma binary64 x y z
 unfolding fma
-first-wild nan y z h = refl
-first-wild (inf s) y z h = refl
-first-wild (fin s m e) y z h = absurd (true≢false (sym h))
+first_wild nan y z h = refl
+first_wild (inf s) y z h = refl
+first_wild (fin s m e) y z h = absurd (true≢false (sym h))
 
 -- ---- the result is a double
 pub fma-fits : (x y z : Float) → T (fits binary64 (fma binary64 x y z))

@@ -1,20 +1,20 @@
 // What C, Rust and Python link: each function is one of the crates below, under a name of its own.
 ghost use Rattle.std.specs.Prelude.{◌≡◌, map};
 ghost use Rattle.std.specs.Float.{binary64};
-ghost use Rattle.executor.specs.Osc.{shiftedPhase, setPhaseTo, shiftedFreq, setFreqTo, swappedPhases};
+ghost use Rattle.executor.specs.Osc.{shifted_phase, set_phase_to, shifted_freq, set_freq_to, swapped_phases};
 ghost use Rattle.fir.specs.Fir.{Fir};
 ghost use Rattle.ieee.specs.Ceiling.{ceiling};
 ghost use Rattle.fma.specs.Fused.{fma};
 ghost use Rattle.host.specs.Coded.{Coded};
-ghost use Rattle.host.specs.Places.{index_of, place_of, refusedPlace};
+ghost use Rattle.host.specs.Places.{index_of, place_of, refused_place};
 ghost use Rattle.iir.specs.Iir.{Iir};
-ghost use Rattle.mix.specs.Part.{firstRow, secondRow};
+ghost use Rattle.mix.specs.Part.{first_row, second_row};
 ghost use Rattle.mix.specs.Plateau.{carried, real, imaginary};
 ghost use Rattle.mixer.specs.Mixer.{Mixer};
-ghost use Rattle.quant.specs.Aligned.{alignedOf, placed_of};
+ghost use Rattle.quant.specs.Aligned.{aligned_of, placed_of};
 ghost use Rattle.quant.specs.declared.refusal.Answer.{Answer};
-ghost use Rattle.spline.specs.Value.{valueIn};
-ghost use Rattle.trig.specs.Trig.{cosineOf, sineOf};
+ghost use Rattle.spline.specs.Value.{value_in};
+ghost use Rattle.trig.specs.Trig.{cosine_of, sine_of};
 
 use executor::osc::{Moved, OscState, Swapped};
 use quant::aligned::{Aligned, Placed, align, place};
@@ -38,14 +38,14 @@ pub extern "C" fn skierralu_ceil(x: f64) -> f64
 
 #[unsafe(no_mangle)]
 pub extern "C" fn skierralu_cos(x: f64) -> f64
-    ensures { result ≡ cosineOf x }
+    ensures { result ≡ cosine_of x }
 {
     trig::cosine(x)
 }
 
 #[unsafe(no_mangle)]
 pub extern "C" fn skierralu_sin(x: f64) -> f64
-    ensures { result ≡ sineOf x }
+    ensures { result ≡ sine_of x }
 {
     trig::sine(x)
 }
@@ -69,7 +69,7 @@ pub struct Place {
 
 #[unsafe(no_mangle)]
 pub extern "C" fn skierralu_align(time: Time, rate: Frequency, level: i32) -> Index
-    ensures { result ≡ index_of (alignedOf time.0 rate.0 level) }
+    ensures { result ≡ index_of (aligned_of time.0 rate.0 level) }
 {
     match align(time, rate, level) {
         Aligned::Index(a) => Index { code: 0, index: a },
@@ -82,7 +82,7 @@ pub extern "C" fn skierralu_align(time: Time, rate: Frequency, level: i32) -> In
 
 #[unsafe(no_mangle)]
 pub extern "C" fn skierralu_place(time: Time, rate: Frequency, level: i32) -> Place
-    ensures { result ≡ place_of (placed_of (alignedOf time.0 rate.0 level)) }
+    ensures { result ≡ place_of (placed_of (aligned_of time.0 rate.0 level)) }
 {
     match place(time, rate, level) {
         Placed::Start(start, offset) => Place {
@@ -97,7 +97,7 @@ pub extern "C" fn skierralu_place(time: Time, rate: Frequency, level: i32) -> Pl
 }
 
 fn nowhere(r: Refusal) -> Place
-    ensures { result ≡ refusedPlace r }
+    ensures { result ≡ refused_place r }
 {
     Place {
         code: number(r),
@@ -108,35 +108,35 @@ fn nowhere(r: Refusal) -> Place
 
 #[unsafe(no_mangle)]
 pub extern "C" fn skierralu_shift_phase(osc: OscState, by: Phase) -> Moved
-    ensures { result ≡ shiftedPhase osc by.0 }
+    ensures { result ≡ shifted_phase osc by.0 }
 {
     osc.shift_phase(by)
 }
 
 #[unsafe(no_mangle)]
 pub extern "C" fn skierralu_set_phase(osc: OscState, to: Phase, time: Time) -> Moved
-    ensures { result ≡ setPhaseTo osc to.0 time.0 }
+    ensures { result ≡ set_phase_to osc to.0 time.0 }
 {
     osc.set_phase(to, time)
 }
 
 #[unsafe(no_mangle)]
 pub extern "C" fn skierralu_shift_freq(osc: OscState, by: Frequency, time: Time) -> Moved
-    ensures { result ≡ shiftedFreq osc by.0 time.0 }
+    ensures { result ≡ shifted_freq osc by.0 time.0 }
 {
     osc.shift_freq(by, time)
 }
 
 #[unsafe(no_mangle)]
 pub extern "C" fn skierralu_set_freq(osc: OscState, to: Frequency, time: Time) -> Moved
-    ensures { result ≡ setFreqTo osc to.0 time.0 }
+    ensures { result ≡ set_freq_to osc to.0 time.0 }
 {
     osc.set_freq(to, time)
 }
 
 #[unsafe(no_mangle)]
 pub extern "C" fn skierralu_swap_phase(one: OscState, two: OscState, time: Time) -> Swapped
-    ensures { result ≡ swappedPhases one two time.0 }
+    ensures { result ≡ swapped_phases one two time.0 }
 {
     executor::osc::swap_phase(one, two, time)
 }
@@ -190,8 +190,8 @@ pub extern "C" fn skierralu_add_plateau(
     cos: f64,
     sin: f64,
 )
-    ensures i_after { i.new ≡ firstRow rows start count i.old q.old (carried real (record { re = re; im = im }) (record { re = cos; im = sin })) }
-    ensures q_after { q.new ≡ secondRow rows start count i.old q.old (carried imaginary (record { re = re; im = im }) (record { re = cos; im = sin })) }
+    ensures i_after { i.new ≡ first_row rows start count i.old q.old (carried real (record { re = re; im = im }) (record { re = cos; im = sin })) }
+    ensures q_after { q.new ≡ second_row rows start count i.old q.old (carried imaginary (record { re = re; im = im }) (record { re = cos; im = sin })) }
 {
     let carrier = Complex { re, im };
     let rotation = Complex { re: cos, im: sin };
@@ -201,7 +201,7 @@ pub extern "C" fn skierralu_add_plateau(
 // A spline's value at each point, in its place. The row has 72 numbers: degree, count of controls, 32 controls, 38 knots.
 #[unsafe(no_mangle)]
 pub extern "C" fn skierralu_spline(points: &mut [f64], row: &[f64])
-    ensures { points.new ≡ map (valueIn row.now) points.old }
+    ensures { points.new ≡ map (value_in row.now) points.old }
 {
     spline::over::over(points, row);
 }

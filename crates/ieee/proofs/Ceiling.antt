@@ -8,7 +8,7 @@ use lib.Ieee.Exact.{HasValue, round_exact}
 use lib.Ieee.Back.{round_whole}
 use lib.Ieee.Scale.{finite}
 use Rattle.exact.proofs.Value.{held, rescale, unique}
-use Rattle.ieee.specs.Ceiling.{wholeToward, ceiling, is_whole, LeastWhole, TowardPositive, CeilingAt}
+use Rattle.ieee.specs.Ceiling.{whole_toward, ceiling, is_whole, LeastWhole, TowardPositive, CeilingAt}
 use Rattle.ieee.proofs.Fractions.{toward, least-ceil, greatest-floor, toward-same, toward-whole, divided, no-larger, toward-le}
 use Rattle.ieee.proofs.Comparing.{AtMost, le-of-fractions, fractions-of-le}
 
@@ -21,24 +21,24 @@ whole-value s m k t =
     (lt_of_le_of_lt (le_of_eq (sym e)) (lt_of_lt_of_le (mul-lt-mul_of_pos_right (subst (λ (z : ℕ). m * 2 ^ k < z) (mul-one (2 ^ 1024)) (held s m (pos k) t).high) (pow_pos 1074)) (lit≤ tt)))
     (e ∙ sym (mul-one (m * 2 ^ (k + 1074))))
 
-own_value : (s : Bool) (m : ℕ) (e : ℤ) → T (fits binary64 (fin s m e)) → HasValue (ceiling (fin s m e)) s (wholeToward s (m * up e) (down e)) 1
+own_value : (s : Bool) (m : ℕ) (e : ℤ) → T (fits binary64 (fin s m e)) → HasValue (ceiling (fin s m e)) s (whole_toward s (m * up e) (down e)) 1
 unfolding ceiling
 own_value s m (pos k) t =
-    let w : wholeToward s (m * 2 ^ k) 1 ≡ m * 2 ^ k = ap (λ (z : ℕ). wholeToward s z 1) (sym (mul-one (m * 2 ^ k))) ∙ toward-whole s (m * 2 ^ k) 1 (pow_pos 0) in
+    let w : whole_toward s (m * 2 ^ k) 1 ≡ m * 2 ^ k = ap (λ (z : ℕ). whole_toward s z 1) (sym (mul-one (m * 2 ^ k))) ∙ toward-whole s (m * 2 ^ k) 1 (pow_pos 0) in
     subst (λ (n : ℕ). HasValue (round binary64 s n 1) s n 1) (sym w) (whole-value s m k t)
 own_value s m (negsuc k) t =
     let d = 2 ^ suc k in
-    round_whole binary64 s (wholeToward s (m * 1) d)
+    round_whole binary64 s (whole_toward s (m * 1) d)
     (le_trans (toward-le s (m * 1) d (pow_pos (suc k))) (le_trans (le_of_eq (mul-one m)) (le_of_lt (held s m (negsuc k) t).few)))
 
-pub value : (x : Float) (s : Bool) (a d : ℕ) → 0 < d → T (fits binary64 x) → HasValue x s a d → HasValue (ceiling x) s (wholeToward s a d) 1
+pub value : (x : Float) (s : Bool) (a d : ℕ) → 0 < d → T (fits binary64 x) → HasValue x s a d → HasValue (ceiling x) s (whole_toward s a d) 1
 value (fin t m e) s a d D f v =
-    subst (λ (u : Bool). HasValue (ceiling (fin t m e)) u (wholeToward u a d) 1) v.0
+    subst (λ (u : Bool). HasValue (ceiling (fin t m e)) u (whole_toward u a d) 1) v.0
     (subst (λ (n : ℕ). HasValue (ceiling (fin t m e)) t n 1) (toward-same t (m * up e) (down e) a d (down_pos e) D v.1) (own_value t m e f))
 
 -- the same with n's bounds, in plain whole numbers
 pub ceiling-at : (x : Float) (s : Bool) (a d : ℕ) → 0 < d → T (fits binary64 x) → HasValue x s a d → CeilingAt s a d (ceiling x)
-ceiling-at x s a d D f v = record { n = wholeToward s a d; value = value x s a d D f v; toward = toward s a d D }
+ceiling-at x s a d D f v = record { n = whole_toward s a d; value = value x s a d D f v; toward = toward s a d D }
 
 pub own-ceiling : (s : Bool) (m : ℕ) (e : ℤ) → T (fits binary64 (fin s m e)) → CeilingAt s (m * up e) (down e) (ceiling (fin s m e))
 own-ceiling s m e f = ceiling-at (fin s m e) s (m * up e) (down e) (down_pos e) f (refl, refl)
@@ -49,24 +49,24 @@ pub ceiling-fits : (x : Float) → T (fits binary64 (ceiling x))
 unfolding ceiling
 ceiling-fits nan = nan-fits binary64
 ceiling-fits (inf s) = inf-fits binary64 s
-ceiling-fits (fin s m e) = round-fits binary64 s (wholeToward s (m * up e) (down e)) 1
+ceiling-fits (fin s m e) = round-fits binary64 s (whole_toward s (m * up e) (down e)) 1
 
 pub finite-of-value : (x : Float) (s : Bool) (a d : ℕ) → HasValue x s a d → T (finite x)
 finite-of-value (fin t m e) s a d v = tt
 
 pub ceiling-finite : (x : Float) → T (fits binary64 x) → T (finite x) → T (finite (ceiling x))
-ceiling-finite (fin s m e) f t = finite-of-value (ceiling (fin s m e)) s (wholeToward s (m * up e) (down e)) 1 (own_value s m e f)
+ceiling-finite (fin s m e) f t = finite-of-value (ceiling (fin s m e)) s (whole_toward s (m * up e) (down e)) 1 (own_value s m e f)
 
 -- what has the ceiling's value is the ceiling
-pub is-ceiling : (x y : Float) (s : Bool) (a d : ℕ) → 0 < d → T (fits binary64 x) → T (fits binary64 y) → HasValue x s a d → HasValue y s (wholeToward s a d) 1 → y ≡ ceiling x
-is-ceiling x y s a d D f g v w = unique y (ceiling x) s (wholeToward s a d) 1 (pow_pos 0) g (ceiling-fits x) w (value x s a d D f v)
+pub is-ceiling : (x y : Float) (s : Bool) (a d : ℕ) → 0 < d → T (fits binary64 x) → T (fits binary64 y) → HasValue x s a d → HasValue y s (whole_toward s a d) 1 → y ≡ ceiling x
+is-ceiling x y s a d D f g v w = unique y (ceiling x) s (whole_toward s a d) 1 (pow_pos 0) g (ceiling-fits x) w (value x s a d D f v)
 
 -- ---- a whole number is its own ceiling
 pub whole-fixed : (x : Float) (s : Bool) (a d : ℕ) → 0 < d → T (fits binary64 x) → HasValue x s a d → a % d ≡ 0 → ceiling x ≡ x
 whole-fixed x s a d D f v h =
     let q : a / d * d ≡ a = divided a d h in
     sym (is-ceiling x x s a d D f f v
-    (subst (λ (n : ℕ). HasValue x s n 1) (sym (toward-whole s (a / d) d D) ∙ ap (λ (z : ℕ). wholeToward s z d) q)
+    (subst (λ (n : ℕ). HasValue x s n 1) (sym (toward-whole s (a / d) d D) ∙ ap (λ (z : ℕ). whole_toward s z d) q)
     (rescale x s a d (a / d) 1 D (q ∙ sym (mul-one a)) v)))
 
 too_large : (m p q : ℕ) → m < 2 ^ 53 → 2 ^ 52 * p ≤ m * 1 → p ≡ q * 2 → 0 < q → ⊥
@@ -113,7 +113,7 @@ least (fin s m e) f t =
     let x = fin s m e in
     let a = m * up e in
     let d = down e in
-    let n = wholeToward s a d in
+    let n = whole_toward s a d in
     let v = own_value s m e f in
     let o = toward s a d (down_pos e) in
     record {

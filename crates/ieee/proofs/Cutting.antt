@@ -6,7 +6,7 @@ use lib.Ieee.Exact.{HasValue}
 use lib.Ieee.Nearest.{div_same}
 use Rattle.ieee.specs.declared.cut.Cut.TheVariants.{Index, Below, Above}
 use Rattle.ieee.specs.Cut.{index_of, cut_of}
-use Rattle.ieee.specs.Ceiling.{wholeAbove, ceiling}
+use Rattle.ieee.specs.Ceiling.{whole_above, ceiling}
 use Rattle.ieee.proofs.Ceiling.{value}
 
 pub index-within : (w : ℕ) → w < 2 ^ 64 → index_of false w ≡ Index w
@@ -31,5 +31,5 @@ pub cut-natural : (x : Float) (n : ℕ) → HasValue x false n 1 → n < 2 ^ 64 
 cut-natural x n v h = cut-value x false n 1 (pow_pos 0) v ∙ ap (index_of false) (div-one n) ∙ index-within n h
 
 -- the ceiling of one
-pub cut-ceiling : (x : Float) (a d : ℕ) → 0 < d → T (fits binary64 x) → HasValue x false a d → wholeAbove a d < 2 ^ 64 → cut_of (ceiling x) ≡ Index (wholeAbove a d)
-cut-ceiling x a d D f v h = cut-natural (ceiling x) (wholeAbove a d) (value x false a d D f v) h
+pub cut-ceiling : (x : Float) (a d : ℕ) → 0 < d → T (fits binary64 x) → HasValue x false a d → whole_above a d < 2 ^ 64 → cut_of (ceiling x) ≡ Index (whole_above a d)
+cut-ceiling x a d D f v h = cut-natural (ceiling x) (whole_above a d) (value x false a d D f v) h

@@ -6,22 +6,22 @@ use Rattle.std.specs.Float.Ieee.{up, down, round, le}
 use Rattle.std.specs.Float.Ieee.Exact.{HasValue}
 
 -- the whole part of a / d
-abbrev pub wholePart : ℕ → ℕ → ℕ
-wholePart a d = a / d
+abbrev pub whole_part : ℕ → ℕ → ℕ
+whole_part a d = a / d
 
 -- the least whole number that is not below a / d
-abbrev pub wholeAbove : ℕ → ℕ → ℕ
-wholeAbove a d = (a + (d - 1)) / d
+abbrev pub whole_above : ℕ → ℕ → ℕ
+whole_above a d = (a + (d - 1)) / d
 
 -- the size of the ceiling of a / d, which is negative where s is true
-abbrev pub wholeToward : Bool → ℕ → ℕ → ℕ
-wholeToward true a d = wholePart a d
-wholeToward false a d = wholeAbove a d
+abbrev pub whole_toward : Bool → ℕ → ℕ → ℕ
+whole_toward true a d = whole_part a d
+whole_toward false a d = whole_above a d
 
 unfoldable pub ceiling : Float → Float
 ceiling nan = nan
 ceiling (inf s) = inf s
-ceiling (fin s m e) = round binary64 s (wholeToward s (m * up e) (down e)) 1
+ceiling (fin s m e) = round binary64 s (whole_toward s (m * up e) (down e)) 1
 
 -- ---- what is proved of it (proofs/Ceiling.antt)
 

@@ -3,8 +3,8 @@ use Rattle.std.specs.Prelude.{false, ℤ, pos, negsuc, ◌≤ℤ◌, Float}
 use Rattle.std.specs.Float.{binary64}
 use Rattle.std.specs.Float.Ieee.{up, down, round}
 
-unfoldable pub exp2Of : ℤ → Float
-exp2Of n = round binary64 false (up n) (down n)
+unfoldable pub exp2_of : ℤ → Float
+exp2_of n = round binary64 false (up n) (down n)
 
 -- where 2 ^ n is a value of binary64: from -1074 to 1023
 pub record Exponent (n : ℤ) : Type 0 where

@@ -1,11 +1,11 @@
 // 2 to the power of a whole number, from the bits.
 ghost use Rattle.std.specs.Prelude.{◌≡◌, pos, ◌+ℤ◌};
-ghost use Rattle.ieee.specs.Exp2.{exp2Of, Exponent};
+ghost use Rattle.ieee.specs.Exp2.{exp2_of, Exponent};
 
 // 2^n, rounded once. 2^-1074 is the smallest f64, half of it is a tie, which goes to 0, and from
 // 2^1024 on it is an infinity. The smallest normal f64 is 52 places above the smallest.
 pub fn exp2(n: i32) -> f64
-    ensures { result ≡ exp2Of n }
+    ensures { result ≡ exp2_of n }
 {
     if n < -1074 {
         return 0.0;

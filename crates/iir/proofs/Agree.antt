@@ -12,12 +12,12 @@ use lib.Ieee.Fits.{and_l, and_r}
 use lib.Ieee.Scale.{finite}
 use Rattle.exact.specs.Doubles.{nought}
 use Rattle.iir.specs.declared.biquad.Biquad.{Biquad}
-use Rattle.iir.specs.Section.{sectionAt, sectionsFrom, sectionsOf, finiteSection, finiteSections, ran}
+use Rattle.iir.specs.Section.{section_at, sections_from, sections_of, finite_section, finite_sections, ran}
 use Rattle.iir.specs.Filter.{cascade, pipeline}
 use Rattle.iir.specs.Flight.{through}
 use Rattle.iir.specs.Alike.{Alike, same, AlikeRows, ended, next}
-use Rattle.iir.proofs.Cascade.{passed, in-turn}
-use Rattle.iir.proofs.Pipeline.{ranAll, warmed, pipeline-cascade}
+use Rattle.iir.proofs.Cascade.{passed, in_turn}
+use Rattle.iir.proofs.Pipeline.{ran_all, warmed, pipeline-cascade}
 use Rattle.iir.proofs.Zeros.{alike-via, add-alike, sub_alike, zero-times, mul-alike}
 
 -- ---- two sections with the same finite numbers, and states that are alike
@@ -111,9 +111,9 @@ each true false r s t h = absurd h
 each false q r s t h = absurd h
 
 -- a section at rest takes zeros
-module _ (l : List Float) (k : ℕ) (h : T (finiteSection (sectionAt l k))) where
+module _ (l : List Float) (k : ℕ) (h : T (finite_section (section_at l k))) where
   abbrev b : Biquad
-  b = sectionAt l k
+  b = section_at l k
 
   rest-kin : Kin b b
   rest-kin =
@@ -145,7 +145,7 @@ module _ (l : List Float) (k : ℕ) (h : T (finiteSection (sectionAt l k))) wher
       }
 
   -- any number of zeros, from a state that is alike
-  rest-after : (c : Biquad) (xs : List Float) → Kin c b → Quiet xs → Kin (ranAll c xs) b × Quiet (through c xs)
+  rest-after : (c : Biquad) (xs : List Float) → Kin c b → Quiet xs → Kin (ran_all c xs) b × Quiet (through c xs)
   unfolding through
   rest-after c [] g q = (g, all_quiet)
   rest-after c (x ∷ xs) g (quiet-first z q) =
@@ -155,23 +155,23 @@ module _ (l : List Float) (k : ℕ) (h : T (finiteSection (sectionAt l k))) wher
 
 -- ---- the pipeline's start
 
-warmed-kin : (l : List Float) (n k : ℕ) (xs : List Float) → T (finiteSections (sectionsFrom l n k)) → Quiet xs → AllKin (warmed xs (sectionsFrom l n k)) (sectionsFrom l n k)
-unfolding sectionsFrom finiteSections
-warmed-kin l zero k xs h q = no_more
-warmed-kin l (suc n) k xs h q =
-    let b = sectionAt l k in
-    let fine = and_l (finiteSection b) (finiteSections (sectionsFrom l n (suc k))) h in
-    let others = and_r (finiteSection b) (finiteSections (sectionsFrom l n (suc k))) h in
+warmed_kin : (l : List Float) (n k : ℕ) (xs : List Float) → T (finite_sections (sections_from l n k)) → Quiet xs → AllKin (warmed xs (sections_from l n k)) (sections_from l n k)
+unfolding sections_from finite_sections
+warmed_kin l zero k xs h q = no_more
+warmed_kin l (suc n) k xs h q =
+    let b = section_at l k in
+    let fine = and_l (finite_section b) (finite_sections (sections_from l n (suc k))) h in
+    let others = and_r (finite_section b) (finite_sections (sections_from l n (suc k))) h in
     let g = rest-after l k fine b xs (rest-kin l k fine) q in
-    one_more g.0 (warmed-kin l n (suc k) (nought ∷ through b xs) others (quiet-first same g.1))
+    one_more g.0 (warmed_kin l n (suc k) (nought ∷ through b xs) others (quiet-first same g.1))
 
 pub same_rows : (xs : List Float) → AlikeRows xs xs
 same_rows [] = ended
 same_rows (x ∷ xs) = next same (same_rows xs)
 
 -- document 01: "with finite sections both are proved equal but for zero signs and NaN payloads"
-pub pipeline-alike : (l xs : List Float) → T (finiteSections (sectionsOf l)) → AlikeRows (pipeline (sectionsOf l) xs) (cascade (sectionsOf l) xs)
+pub pipeline-alike : (l xs : List Float) → T (finite_sections (sections_of l)) → AlikeRows (pipeline (sections_of l) xs) (cascade (sections_of l) xs)
 pipeline-alike l xs h =
-    let bs = sectionsOf l in
-    rw (pipeline-cascade bs xs, in-turn (warmed [] bs) xs, in-turn bs xs)
-    (passed-kin (warmed-kin l (length l / 6) 0 [] h all_quiet) (same_rows xs))
+    let bs = sections_of l in
+    rw (pipeline-cascade bs xs, in_turn (warmed [] bs) xs, in_turn bs xs)
+    (passed-kin (warmed_kin l (length l / 6) 0 [] h all_quiet) (same_rows xs))

@@ -12,36 +12,36 @@ use lib.Ieee.{Float}
 use Rattle.quant.specs.declared.refusal.Answer.{Answer}
 use Rattle.quant.specs.declared.refusal.Answer.TheVariants.{Done, Refused}
 use Rattle.quant.specs.declared.refusal.Refusal.TheVariants.{Malformed, WrongSize, WrongA0}
-use Rattle.rows.specs.Rows.{allFinite, answer_of}
+use Rattle.rows.specs.Rows.{all_finite, answer_of}
 use Rattle.rows.proofs.Finite.{finite-at}
 use Rattle.iir.specs.declared.biquad.Biquad.{Biquad}
-use Rattle.iir.specs.Section.{sectionsFrom, sectionsOf, a0sJudged, finiteSections}
+use Rattle.iir.specs.Section.{sections_from, sections_of, a0s_judged, finite_sections}
 use Rattle.iir.specs.Filter.{cascade, pipeline, filtered}
-use Rattle.iir.specs.Iir.{iirFits, firstRefusal, iirAnswer, Iir}
+use Rattle.iir.specs.Iir.{iir_fits, first_refusal, iir_answer, Iir}
 use Rattle.iir.specs.Alike.{AlikeRows}
 use Rattle.iir.specs.A0.{AtSection, Accepted}
-use Rattle.iir.proofs.Cascade.{in-turn}
+use Rattle.iir.proofs.Cascade.{in_turn}
 use Rattle.iir.proofs.Agree.{same_rows, pipeline-alike}
 use Rattle.iir.proofs.A0s.{A0sTold, none-wrong, first-wrong, told, none_is, first-is}
-use Rattle.iir.proofs.Left.{done-filters}
+use Rattle.iir.proofs.Left.{done_filters}
 
 -- ---- what is answered
 
 module _ (rows : ℕ) (i q l : List Float) where
   abbrev answered : Answer
-  answered = iirAnswer rows (length i) (length q) l
+  answered = iir_answer rows (length i) (length q) l
 
   -- the one way to each answer, in the order of the refusals
   pub data Way : Answer → Type 0 where
-    wrong_size : iirFits rows (length i) (length q) (length l) ≡ false → Way (Refused WrongSize 0)
-    malformed : iirFits rows (length i) (length q) (length l) ≡ true → allFinite l ≡ false → Way (Refused Malformed 0)
+    wrong_size : iir_fits rows (length i) (length q) (length l) ≡ false → Way (Refused WrongSize 0)
+    malformed : iir_fits rows (length i) (length q) (length l) ≡ true → all_finite l ≡ false → Way (Refused Malformed 0)
     at-section : (k : ℕ) → AtSection rows i q l k → Way (Refused WrongA0 k)
     accepted : Accepted rows i q l → Way (Done 0)
 
   pub way : Way answered
-  way = by (iirFits rows (length i) (length q) (length l)) (allFinite l) (a0sJudged l) refl refl (told l)
+  way = by (iir_fits rows (length i) (length q) (length l)) (all_finite l) (a0s_judged l) refl refl (told l)
     where
-      by : (fits fine : Bool) (a : Answer) → iirFits rows (length i) (length q) (length l) ≡ fits → allFinite l ≡ fine → A0sTold l a → Way (firstRefusal (answer_of fits fine) a)
+      by : (fits fine : Bool) (a : Answer) → iir_fits rows (length i) (length q) (length l) ≡ fits → all_finite l ≡ fine → A0sTold l a → Way (first_refusal (answer_of fits fine) a)
       by false fine a e f t = wrong_size e
       by true false a e f t = malformed e f
       by true true a e f (none-wrong each) = accepted (record { numbers = record { sizes = e; fine = f }; each = each })
@@ -61,8 +61,8 @@ module _ (rows : ℕ) (i q l : List Float) where
       back h = rw (h.numbers.sizes, h.numbers.fine) (first-is l k h.first)
 
   -- exactly when not at all
-  pub acceptance-told : (answered ≡ Done 0) ↔ Accepted rows i q l
-  acceptance-told = (to answered way, back)
+  pub acceptance_told : (answered ≡ Done 0) ↔ Accepted rows i q l
+  acceptance_told = (to answered way, back)
     where
       to : (a : Answer) → Way a → a ≡ Done 0 → Accepted rows i q l
       to a (wrong_size e) same = let z : ◌≡◌ {A = ℕ} 0 1 = cc in absurd (omega arith)
@@ -76,27 +76,27 @@ module _ (rows : ℕ) (i q l : List Float) where
 -- ---- what an accepted call leaves
 
 -- the numbers that sections run with are among the list's
-fine-from : (l : List Float) (n k : ℕ) → allFinite l ≡ true → 6 * (k + n) ≤ length l → T (finiteSections (sectionsFrom l n k))
-unfolding sectionsFrom finiteSections
+fine-from : (l : List Float) (n k : ℕ) → all_finite l ≡ true → 6 * (k + n) ≤ length l → T (finite_sections (sections_from l n k))
+unfolding sections_from finite_sections
 fine-from l zero k e h = tt
 fine-from l (suc n) k e h =
     rw (finite-at l (6 * k) e (omega arith), finite-at l (6 * k + 1) e (omega arith), finite-at l (6 * k + 2) e (omega arith), finite-at l (6 * k + 4) e (omega arith), finite-at l (6 * k + 5) e (omega arith))
     (fine-from l n (suc k) e (omega arith))
 
-pub fine-sections : (l : List Float) → allFinite l ≡ true → T (finiteSections (sectionsOf l))
+pub fine-sections : (l : List Float) → all_finite l ≡ true → T (finite_sections (sections_of l))
 fine-sections l e = fine-from l (length l / 6) 0 e (omega arith)
 
 filtered-alike : (bs : List Biquad) (xs : List Float) → AlikeRows (pipeline bs xs) (cascade bs xs) → AlikeRows (filtered bs xs) (cascade bs xs)
-filtered-alike [] xs h = rw (in-turn [] xs) (same_rows xs)
+filtered-alike [] xs h = rw (in_turn [] xs) (same_rows xs)
 filtered-alike (b ∷ bs) xs h = rw (eqb-suc-zero (length bs)) (go (leb (length (b ∷ bs)) 4))
   where
     go : (few : Bool) → AlikeRows (cond few (pipeline (b ∷ bs) xs) (cascade (b ∷ bs) xs)) (cascade (b ∷ bs) xs)
     go true = h
     go false = same_rows (cascade (b ∷ bs) xs)
 
-pub done-cascade : (rows : ℕ) (i q l i' q' : List Float) → Iir rows i q l (Done 0) i' q' → AlikeRows i' (cascade (sectionsOf l) i) × AlikeRows q' (cascade (sectionsOf l) q)
+pub done-cascade : (rows : ℕ) (i q l i' q' : List Float) → Iir rows i q l (Done 0) i' q' → AlikeRows i' (cascade (sections_of l) i) × AlikeRows q' (cascade (sections_of l) q)
 done-cascade rows i q l i' q' h =
-    let fine = fine-sections l ((acceptance-told rows i q l).0 (sym h.answer)).numbers.fine in
-    let left = done-filters rows i q l 0 i' q' h in
-    let bs = sectionsOf l in
+    let fine = fine-sections l ((acceptance_told rows i q l).0 (sym h.answer)).numbers.fine in
+    let left = done_filters rows i q l 0 i' q' h in
+    let bs = sections_of l in
     (rw left.0 (filtered-alike bs i (pipeline-alike l i fine)), rw left.1 (filtered-alike bs q (pipeline-alike l q fine)))

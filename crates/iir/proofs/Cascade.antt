@@ -24,9 +24,9 @@ first b bs [] = refl
 first b bs (x ∷ xs) =
     ap (λ (l : List Float). given (ran b x).y (cascaded bs (ran b x).y) ∷ l) (first (ran b x) (cascaded bs (ran b x).y) xs)
 
-pub in-turn : (bs : List Biquad) (xs : List Float) → cascade bs xs ≡ passed bs xs
-in-turn [] xs = none xs
-in-turn (b ∷ bs) xs = first b bs xs ∙ in-turn bs (through b xs)
+pub in_turn : (bs : List Biquad) (xs : List Float) → cascade bs xs ≡ passed bs xs
+in_turn [] xs = none xs
+in_turn (b ∷ bs) xs = first b bs xs ∙ in_turn bs (through b xs)
 
 passed-append : (bs cs : List Biquad) (xs : List Float) → passed (bs ++ cs) xs ≡ passed cs (passed bs xs)
 passed-append [] cs xs = refl
@@ -34,4 +34,4 @@ passed-append (b ∷ bs) cs xs = passed-append bs cs (through b xs)
 
 -- some of the sections, and then the others
 pub parts : (bs cs : List Biquad) (xs : List Float) → cascade (bs ++ cs) xs ≡ cascade cs (cascade bs xs)
-parts bs cs xs = rw (in-turn (bs ++ cs) xs, in-turn bs xs, in-turn cs (passed bs xs)) (passed-append bs cs xs)
+parts bs cs xs = rw (in_turn (bs ++ cs) xs, in_turn bs xs, in_turn cs (passed bs xs)) (passed-append bs cs xs)

@@ -13,7 +13,7 @@ use Rattle.iir.specs.declared.biquad.Biquad.{Biquad}
 use Rattle.iir.specs.Section.{ran}
 use Rattle.iir.specs.Filter.{given, pipelined, cascade}
 use Rattle.iir.specs.Flight.{through, onward}
-use Rattle.iir.proofs.Cascade.{in-turn}
+use Rattle.iir.proofs.Cascade.{in_turn}
 
 onward-turn : (b : Biquad) (bs : List Biquad) (x : Float) (xs : List Float) → onward b bs (x ∷ xs) ≡ given x (pipelined (b ∷ bs) x) ∷ onward (ran b x) (pipelined bs b.y) xs
 unfolding through onward given pipelined
@@ -28,28 +28,28 @@ none-through bs (x ∷ xs) h = absurd (omega arith)
 
 -- ---- the first samples, until every section but the last has one on its way
 
-pub two-launched : (a b : Biquad) (row : List Float) → 1 ≤ length row → onward (ran a (get_or row 0 nan)) (b ∷ []) (drop 1 row) ≡ cascade (a ∷ b ∷ []) row
+pub two_launched : (a b : Biquad) (row : List Float) → 1 ≤ length row → onward (ran a (get_or row 0 nan)) (b ∷ []) (drop 1 row) ≡ cascade (a ∷ b ∷ []) row
 unfolding through onward
-two-launched a b [] h = absurd (omega arith)
-two-launched a b (x ∷ xs) h = sym (in-turn (a ∷ b ∷ []) (x ∷ xs))
+two_launched a b [] h = absurd (omega arith)
+two_launched a b (x ∷ xs) h = sym (in_turn (a ∷ b ∷ []) (x ∷ xs))
 
-pub three-launched : (a b c : Biquad) (row : List Float) → 2 ≤ length row
+pub three_launched : (a b c : Biquad) (row : List Float) → 2 ≤ length row
     → let p = ran a (get_or row 0 nan) in onward (ran p (get_or row 1 nan)) (ran b p.y ∷ c ∷ []) (drop 2 row) ≡ cascade (a ∷ b ∷ c ∷ []) row
 unfolding through onward
-three-launched a b c [] h = absurd (omega arith)
-three-launched a b c (x ∷ []) h = absurd (omega arith)
-three-launched a b c (x ∷ y ∷ ys) h = sym (in-turn (a ∷ b ∷ c ∷ []) (x ∷ y ∷ ys))
+three_launched a b c [] h = absurd (omega arith)
+three_launched a b c (x ∷ []) h = absurd (omega arith)
+three_launched a b c (x ∷ y ∷ ys) h = sym (in_turn (a ∷ b ∷ c ∷ []) (x ∷ y ∷ ys))
 
-pub four-launched : (a b c d : Biquad) (row : List Float) → 3 ≤ length row
+pub four_launched : (a b c d : Biquad) (row : List Float) → 3 ≤ length row
     → let p = ran a (get_or row 0 nan) in
     let q = ran b p.y in
     let p' = ran p (get_or row 1 nan) in
     onward (ran p' (get_or row 2 nan)) (ran q p'.y ∷ ran c q.y ∷ d ∷ []) (drop 3 row) ≡ cascade (a ∷ b ∷ c ∷ d ∷ []) row
 unfolding through onward
-four-launched a b c d [] h = absurd (omega arith)
-four-launched a b c d (x ∷ []) h = absurd (omega arith)
-four-launched a b c d (x ∷ y ∷ []) h = absurd (omega arith)
-four-launched a b c d (x ∷ y ∷ z ∷ zs) h = sym (in-turn (a ∷ b ∷ c ∷ d ∷ []) (x ∷ y ∷ z ∷ zs))
+four_launched a b c d [] h = absurd (omega arith)
+four_launched a b c d (x ∷ []) h = absurd (omega arith)
+four_launched a b c d (x ∷ y ∷ []) h = absurd (omega arith)
+four_launched a b c d (x ∷ y ∷ z ∷ zs) h = sym (in_turn (a ∷ b ∷ c ∷ d ∷ []) (x ∷ y ∷ z ∷ zs))
 
 -- ---- the turns
 

@@ -5,7 +5,7 @@ use mathlib.Core.Path.{◌≡◌, refl, ap}
 use mathlib.Core.List.{List, [], ◌∷◌}
 use lib.ListN.{length}
 use lib.Ieee.{Float}
-use Rattle.iir.specs.Section.{sectionAt, sectionsFrom}
+use Rattle.iir.specs.Section.{section_at, sections_from}
 
 module _ (k : ℕ) where
   one_more : k + 1 ≡ suc k
@@ -20,19 +20,19 @@ module _ (k : ℕ) where
   four-more : k + 4 ≡ suc (suc (suc (suc k)))
   four-more = omega arith
 
-pub count-from : (l : List Float) (n k : ℕ) → length (sectionsFrom l n k) ≡ n
-unfolding sectionsFrom
+pub count-from : (l : List Float) (n k : ℕ) → length (sections_from l n k) ≡ n
+unfolding sections_from
 count-from l zero k = refl
 count-from l (suc n) k = ap suc (count-from l n (suc k))
 
 -- ---- of n sections those from k on
 
-pub all_from : (l : List Float) (n : ℕ) → sectionsFrom l (n - 0) 0 ≡ sectionsFrom l n 0
+pub all_from : (l : List Float) (n : ℕ) → sections_from l (n - 0) 0 ≡ sections_from l n 0
 all_from l n = let e : n - 0 ≡ n = omega arith in rw e
 
 module _ (l : List Float) (n k : ℕ) where
-  pub four-from : k + 4 ≤ n → sectionsFrom l (n - k) k ≡ sectionAt l k ∷ sectionAt l (k + 1) ∷ sectionAt l (k + 2) ∷ sectionAt l (k + 3) ∷ sectionsFrom l (n - (k + 4)) (k + 4)
-  unfolding sectionsFrom
+  pub four-from : k + 4 ≤ n → sections_from l (n - k) k ≡ section_at l k ∷ section_at l (k + 1) ∷ section_at l (k + 2) ∷ section_at l (k + 3) ∷ sections_from l (n - (k + 4)) (k + 4)
+  unfolding sections_from
   four-from h =
       let e : n - k ≡ suc (suc (suc (suc (n - (k + 4))))) = omega arith in
       rw (e, one_more k, two-more k, three-more k, four-more k)
@@ -40,10 +40,10 @@ module _ (l : List Float) (n k : ℕ) where
 -- ---- two or three
 
 module _ (l : List Float) (k : ℕ) where
-  pub two_from : sectionsFrom l 2 k ≡ sectionAt l k ∷ sectionAt l (k + 1) ∷ []
-  unfolding sectionsFrom
+  pub two_from : sections_from l 2 k ≡ section_at l k ∷ section_at l (k + 1) ∷ []
+  unfolding sections_from
   two_from = rw (one_more k)
 
-  pub three-from : sectionsFrom l 3 k ≡ sectionAt l k ∷ sectionAt l (k + 1) ∷ sectionAt l (k + 2) ∷ []
-  unfolding sectionsFrom
+  pub three-from : sections_from l 3 k ≡ section_at l k ∷ section_at l (k + 1) ∷ section_at l (k + 2) ∷ []
+  unfolding sections_from
   three-from = rw (one_more k, two-more k)

@@ -10,8 +10,8 @@ use Rattle.quant.specs.declared.refusal.Refusal.TheVariants.{WrongA0}
 use Rattle.iir.specs.declared.biquad.Biquad.{Biquad}
 
 -- the section whose six numbers stand at 6k; "state zero per row". Its a0 is apart: where a row is filtered it is 1
-abbrev pub sectionAt : List Float → ℕ → Biquad
-sectionAt l k =
+abbrev pub section_at : List Float → ℕ → Biquad
+section_at l k =
     record {
       b0 = get_or l (6 * k) nan;
       b1 = get_or l (6 * k + 1) nan;
@@ -24,13 +24,13 @@ sectionAt l k =
     }
 
 -- n sections from the k-th on
-unfoldable pub sectionsFrom : List Float → ℕ → ℕ → List Biquad
-sectionsFrom l zero k = []
-sectionsFrom l (suc n) k = sectionAt l k ∷ sectionsFrom l n (suc k)
+unfoldable pub sections_from : List Float → ℕ → ℕ → List Biquad
+sections_from l zero k = []
+sections_from l (suc n) k = section_at l k ∷ sections_from l n (suc k)
 
 -- all sections
-abbrev pub sectionsOf : List Float → List Biquad
-sectionsOf l = sectionsFrom l (length l / 6) 0
+abbrev pub sections_of : List Float → List Biquad
+sections_of l = sections_from l (length l / 6) 0
 
 -- a section after a sample: "y = b0*x + s1; s1 = (b1*x - a1*y) + s2; s2 = b2*x - a2*y", each operation rounded
 unfoldable pub ran : Biquad → Float → Biquad
@@ -49,22 +49,22 @@ ran b x =
 
 -- ---- 22
 
-abbrev pub a0At : List Float → ℕ → Float
-a0At l k = get_or l (6 * k + 3) nan
+abbrev pub a0_at : List Float → ℕ → Float
+a0_at l k = get_or l (6 * k + 3) nan
 
 -- of n sections from the k-th on the first whose a0 does not equal 1, with its number "from 0 as place"; `Done 0` where there is none
-unfoldable pub a0sFrom : List Float → ℕ → ℕ → Answer
-a0sFrom l zero k = Done 0
-a0sFrom l (suc n) k = cond (eq (a0At l k) one) (a0sFrom l n (suc k)) (Refused WrongA0 k)
+unfoldable pub a0s_from : List Float → ℕ → ℕ → Answer
+a0s_from l zero k = Done 0
+a0s_from l (suc n) k = cond (eq (a0_at l k) one) (a0s_from l n (suc k)) (Refused WrongA0 k)
 
-abbrev pub a0sJudged : List Float → Answer
-a0sJudged l = a0sFrom l (length l / 6) 0
+abbrev pub a0s_judged : List Float → Answer
+a0s_judged l = a0s_from l (length l / 6) 0
 
 -- ---- that the numbers of sections that run are finite: words of the law that the pipeline is the cascade
 
-abbrev pub finiteSection : Biquad → Bool
-finiteSection b = finite b.b0 && finite b.b1 && finite b.b2 && finite b.a1 && finite b.a2
+abbrev pub finite_section : Biquad → Bool
+finite_section b = finite b.b0 && finite b.b1 && finite b.b2 && finite b.a1 && finite b.a2
 
-unfoldable pub finiteSections : List Biquad → Bool
-finiteSections [] = true
-finiteSections (b ∷ bs) = finiteSection b && finiteSections bs
+unfoldable pub finite_sections : List Biquad → Bool
+finite_sections [] = true
+finite_sections (b ∷ bs) = finite_section b && finite_sections bs

@@ -1,6 +1,6 @@
 // A second-order section and its state. The Rust's `Biquad`, with the last output, which its `IirPipeline` keeps.
 ghost use Rattle.std.specs.Prelude.{◌≡◌, ◌+◌, ◌*◌, ◌≤◌, length};
-ghost use Rattle.iir.specs.Section.{ran, sectionAt, a0sJudged};
+ghost use Rattle.iir.specs.Section.{ran, section_at, a0s_judged};
 
 use quant::refusal::{Answer, Refusal};
 
@@ -37,7 +37,7 @@ impl Biquad {
 // Section k of the numbers, its state zero. The fourth of its six numbers, a0, is 1 where a row is filtered, so that nothing is divided by it.
 pub(crate) fn section(numbers: &[f64], k: usize) -> Biquad
     requires { 6 * k + 6 ≤ length numbers.now }
-    ensures { result ≡ sectionAt numbers.now k }
+    ensures { result ≡ section_at numbers.now k }
 {
     let at = 6 * k;
     Biquad {
@@ -54,7 +54,7 @@ pub(crate) fn section(numbers: &[f64], k: usize) -> Biquad
 
 // 22 at the first section, counted from 0, whose a0 does not equal 1; done where there is none.
 pub(crate) fn a0s_judged(numbers: &[f64]) -> Answer
-    ensures { result ≡ a0sJudged numbers.now }
+    ensures { result ≡ a0s_judged numbers.now }
 {
     let count = numbers.len() / 6;
     let mut k: usize = 0;

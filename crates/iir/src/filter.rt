@@ -1,6 +1,6 @@
 // A row through all sections of a list: none change it, one to four are the pipeline, more the cascade.
 ghost use Rattle.std.specs.Prelude.{◌≡◌, [], ◌∷◌, ◌+◌, ◌*◌, ◌≤◌, ◌<◌, length};
-ghost use Rattle.iir.specs.Section.{sectionsFrom, sectionsOf};
+ghost use Rattle.iir.specs.Section.{sections_from, sections_of};
 ghost use Rattle.iir.specs.Filter.{cascade, pipeline, filtered};
 
 use super::biquad::{Biquad, section};
@@ -8,8 +8,8 @@ use super::flight::{four, one, side_by_side, three, two};
 
 // Both rows of a channel. One section keeps a row waiting for it, so two rows of one length go through it side by side.
 pub(crate) fn filter_rows(i: &mut [f64], q: &mut [f64], numbers: &[f64])
-    ensures i_after { i.new ≡ filtered (sectionsOf numbers.now) i.old }
-    ensures q_after { q.new ≡ filtered (sectionsOf numbers.now) q.old }
+    ensures i_after { i.new ≡ filtered (sections_of numbers.now) i.old }
+    ensures q_after { q.new ≡ filtered (sections_of numbers.now) q.old }
 {
     if i.len() == q.len() {
         if numbers.len() / 6 == 1 {
@@ -22,7 +22,7 @@ pub(crate) fn filter_rows(i: &mut [f64], q: &mut [f64], numbers: &[f64])
 }
 
 fn filter(row: &mut [f64], numbers: &[f64])
-    ensures { row.new ≡ filtered (sectionsOf numbers.now) row.old }
+    ensures { row.new ≡ filtered (sections_of numbers.now) row.old }
 {
     let count = numbers.len() / 6;
     if count == 0 {
@@ -86,7 +86,7 @@ fn pipeline_of_four(row: &mut [f64], a: Biquad, b: Biquad, c: Biquad, d: Biquad)
 
 // Four sections at a time.
 fn in_cascade(row: &mut [f64], numbers: &[f64])
-    ensures { row.new ≡ cascade (sectionsOf numbers.now) row.old }
+    ensures { row.new ≡ cascade (sections_of numbers.now) row.old }
 {
     let count = numbers.len() / 6;
     let mut k: usize = 0;
@@ -106,7 +106,7 @@ fn in_cascade(row: &mut [f64], numbers: &[f64])
 // The sections from k on, of which three at most are left.
 fn rest_in_cascade(row: &mut [f64], numbers: &[f64], k: usize, left: usize)
     requires { (left < 4) × (6 * (k + left) ≤ length numbers.now) }
-    ensures { row.new ≡ cascade (sectionsFrom numbers.now left k) row.old }
+    ensures { row.new ≡ cascade (sections_from numbers.now left k) row.old }
 {
     if left == 0 {
         return;

@@ -1,6 +1,6 @@
 // Rows through second-order sections. The Rust's src/pulse/iir.rs.
 ghost use Rattle.std.specs.Prelude.{◌≡◌};
-ghost use Rattle.iir.specs.Iir.{iirFits, iirAnswer, Iir};
+ghost use Rattle.iir.specs.Iir.{iir_fits, iir_answer, Iir};
 
 pub mod biquad;
 mod filter;
@@ -26,7 +26,7 @@ pub fn iir(rows: usize, i: &mut [f64], q: &mut [f64], sections: &[f64]) -> Answe
 
 // Sizes by 13, then a number that is not finite by 2, then an a0 that is not 1 by 22.
 fn judged(rows: usize, i: usize, q: usize, sections: &[f64]) -> Answer
-    ensures { result ≡ iirAnswer rows i q sections.now }
+    ensures { result ≡ iir_answer rows i q sections.now }
 {
     if !sizes_fit(rows, i, q, sections.len()) {
         return answer(false, true);
@@ -38,7 +38,7 @@ fn judged(rows: usize, i: usize, q: usize, sections: &[f64]) -> Answer
 }
 
 fn sizes_fit(rows: usize, i: usize, q: usize, numbers: usize) -> bool
-    ensures { result ≡ iirFits rows i q numbers }
+    ensures { result ≡ iir_fits rows i q numbers }
 {
     both(both(rows_fit(rows, i, q), numbers % 6 == 0), numbers <= 96)
 }

@@ -15,7 +15,7 @@ use Rattle.decimal.specs.Number.{number_of}
 use Rattle.decimal.proofs.Places.{place-within, rest_part}
 use Rattle.fields.specs.Words.{words_of, first_word}
 use Rattle.fields.proofs.Splitting.{words-one, words_more}
-use Rattle.job.specs.List.{allNumbers, is_number, stopsAt}
+use Rattle.job.specs.List.{all_numbers, is_number, stops_at}
 
 broken : (t s : Bool) → not t ≡ true → t && s ≡ false
 broken true s e = absurd (true≢false (sym e))
@@ -25,14 +25,14 @@ kept : (t s : Bool) → not t ≡ false → t && s ≡ s
 kept true s e = refl
 kept false s e = absurd (true≢false e)
 
-one-stop : (left : ℕ) (w : List ℕ) (ws : List (List ℕ)) → stopsAt left w ≡ true → allNumbers (drop left (w ∷ ws)) ≡ false
-unfolding allNumbers stopsAt
-one-stop zero w ws e = broken (is_number (number_of w)) (allNumbers ws) e
+one-stop : (left : ℕ) (w : List ℕ) (ws : List (List ℕ)) → stops_at left w ≡ true → all_numbers (drop left (w ∷ ws)) ≡ false
+unfolding all_numbers stops_at
+one-stop zero w ws e = broken (is_number (number_of w)) (all_numbers ws) e
 one-stop (suc n) w ws e = absurd (true≢false (sym (rw (lt-ltb 0 (suc n) (zero-lt-suc n)) at e)))
 
-one_on : (left : ℕ) (w : List ℕ) (ws : List (List ℕ)) → stopsAt left w ≡ false → allNumbers (drop left (w ∷ ws)) ≡ allNumbers (drop (left - 1) ws)
-unfolding allNumbers stopsAt
-one_on zero w ws e = kept (is_number (number_of w)) (allNumbers ws) e
+one_on : (left : ℕ) (w : List ℕ) (ws : List (List ℕ)) → stops_at left w ≡ false → all_numbers (drop left (w ∷ ws)) ≡ all_numbers (drop (left - 1) ws)
+unfolding all_numbers stops_at
+one_on zero w ws e = kept (is_number (number_of w)) (all_numbers ws) e
 one_on (suc n) w ws e = let same : suc n - 1 ≡ n = omega arith in rw same
 
 cases : (a b : ℕ) → (a ≡ b) ⊎ (a ≡ b → ⊥)
@@ -68,24 +68,24 @@ module _ (line : List ℕ) (at left p : ℕ) (within : at ≤ length line) (plac
       same : (a p q : ℕ) → p ≡ q → a + suc q ≡ a + p + 1
       same a p q e = omega arith
 
-  pub numbers-stop : stopsAt left (take (at + p - at) (drop at line)) ≡ true → allNumbers (drop left (words_of (drop at line))) ≡ false
+  pub numbers-stop : stops_at left (take (at + p - at) (drop at line)) ≡ true → all_numbers (drop left (words_of (drop at line))) ≡ false
   numbers-stop e =
-      let stop : stopsAt left (first_word (drop at line)) ≡ true = rw first at e in
+      let stop : stops_at left (first_word (drop at line)) ≡ true = rw first at e in
       elim (cases (at + p) (length line)) [
         | inl z ↦ rw (last z) (one-stop left (first_word (drop at line)) [] stop)
         | inr n ↦ rw (more n) (one-stop left (first_word (drop at line)) (words_of (drop (at + p + 1) line)) stop)
       ]
 
-  pub numbers-last : stopsAt left (take (at + p - at) (drop at line)) ≡ false → at + p ≡ length line → allNumbers (drop left (words_of (drop at line))) ≡ true
-  unfolding allNumbers
+  pub numbers-last : stops_at left (take (at + p - at) (drop at line)) ≡ false → at + p ≡ length line → all_numbers (drop left (words_of (drop at line))) ≡ true
+  unfolding all_numbers
   numbers-last e z =
-      let go : stopsAt left (first_word (drop at line)) ≡ false = rw first at e in
-      rw (last z) (one_on left (first_word (drop at line)) [] go ∙ ap allNumbers (drop-nil (left - 1)))
+      let go : stops_at left (first_word (drop at line)) ≡ false = rw first at e in
+      rw (last z) (one_on left (first_word (drop at line)) [] go ∙ ap all_numbers (drop-nil (left - 1)))
 
-  pub numbers_on : stopsAt left (take (at + p - at) (drop at line)) ≡ false → (at + p ≡ length line → ⊥)
-      → allNumbers (drop (left - 1) (words_of (drop (at + p + 1) line))) ≡ allNumbers (drop left (words_of (drop at line)))
+  pub numbers_on : stops_at left (take (at + p - at) (drop at line)) ≡ false → (at + p ≡ length line → ⊥)
+      → all_numbers (drop (left - 1) (words_of (drop (at + p + 1) line))) ≡ all_numbers (drop left (words_of (drop at line)))
   numbers_on e n =
-      let go : stopsAt left (first_word (drop at line)) ≡ false = rw first at e in
+      let go : stops_at left (first_word (drop at line)) ≡ false = rw first at e in
       sym (rw (more n) (one_on left (first_word (drop at line)) (words_of (drop (at + p + 1) line)) go))
 
   pub end-within : at + p ≤ length line

@@ -9,10 +9,10 @@ use Rattle.fields.specs.Words.{words_of}
 use Rattle.job.specs.declared.line.Line.TheVariants.{Nothing}
 use Rattle.job.specs.Line.{line_of, setting_of}
 
-pub nothing-in : (line : List ℕ) → length line < 1 → line_of line ≡ Nothing
+pub nothing_in : (line : List ℕ) → length line < 1 → line_of line ≡ Nothing
 unfolding line_of
-nothing-in [] h = refl
-nothing-in (b ∷ bs) h = absurd (not-suc-le-zero (le_of_suc-le-suc h))
+nothing_in [] h = refl
+nothing_in (b ∷ bs) h = absurd (not-suc-le-zero (le_of_suc-le-suc h))
 
 pub remark : (line : List ℕ) → 1 ≤ length line → get_or line 0 0 ≡ 35 → line_of line ≡ Nothing
 unfolding line_of

@@ -5,14 +5,14 @@ use Rattle.decimal.specs.declared.digits.Digits.{Digits}
 use Rattle.decimal.specs.declared.digits.Digits.TheVariants as digits
 use Rattle.decimal.specs.declared.number.Number.{Number}
 use Rattle.decimal.specs.declared.number.Number.TheVariants as number
-use Rattle.fields.specs.Value.{wholeField, nameField}
-use Rattle.fields.specs.Words.{isWord}
+use Rattle.fields.specs.Value.{whole_field, name_field}
+use Rattle.fields.specs.Words.{is_word}
 use Rattle.job.specs.declared.line.Line.{Line}
 use Rattle.job.specs.declared.line.Line.TheVariants.{Syntax, Spline, Crosstalk, Sheet, Mixer, Iir, Fir}
 use Rattle.job.specs.Given as given
 use Rattle.job.specs.Given.{word}
-use Rattle.job.specs.Keys.{crosstalkWord, sheetWord, splineWord, mixerWord, iirWord, firWord}
-use Rattle.job.specs.Keys.{degreeKey, controlsKey, knotsKey}
+use Rattle.job.specs.Keys.{crosstalk_word, sheet_word, spline_word, mixer_word, iir_word, fir_word}
+use Rattle.job.specs.Keys.{degree_key, controls_key, knots_key}
 
 -- ---- words that are numbers
 
@@ -20,17 +20,17 @@ abbrev pub is_number : Number → Bool
 is_number (number.Double x) = true
 is_number number.Bad = false
 
-unfoldable pub allNumbers : List (List ℕ) → Bool
-allNumbers [] = true
-allNumbers (w ∷ ws) = is_number (number_of w) && allNumbers ws
+unfoldable pub all_numbers : List (List ℕ) → Bool
+all_numbers [] = true
+all_numbers (w ∷ ws) = is_number (number_of w) && all_numbers ws
 
 -- from word k on
-unfoldable pub numbersFrom : ℕ → List (List ℕ) → Bool
-numbersFrom k words = allNumbers (drop k words)
+unfoldable pub numbers_from : ℕ → List (List ℕ) → Bool
+numbers_from k words = all_numbers (drop k words)
 
 -- whether a word with so many left to pass over is to be a number and is none
-unfoldable pub stopsAt : ℕ → List ℕ → Bool
-stopsAt left w = cond (ltb 0 left) false (not (is_number (number_of w)))
+unfoldable pub stops_at : ℕ → List ℕ → Bool
+stops_at left w = cond (ltb 0 left) false (not (is_number (number_of w)))
 
 abbrev pub less_of : ℕ → ℕ
 less_of n = n - 1
@@ -38,51 +38,51 @@ less_of n = n - 1
 -- ---- the lines
 
 -- `mixer N N N N N N`
-unfoldable pub mixerOf : List (List ℕ) → Line
-mixerOf words = cond (eqb (length words) 7) (cond (numbersFrom 1 words) Mixer Syntax) Syntax
+unfoldable pub mixer_of : List (List ℕ) → Line
+mixer_of words = cond (eqb (length words) 7) (cond (numbers_from 1 words) Mixer Syntax) Syntax
 
 -- `WORD COUNT N..`: the count, if so many numbers stand behind it
-unfoldable pub countedOf : List (List ℕ) → Digits
-countedOf words =
+unfoldable pub counted_of : List (List ℕ) → Digits
+counted_of words =
     cond (ltb (length words) 2) digits.Bad
-    (given.whole digits.Bad (wholeField [] (word words 1)) (λ n.
-    cond (eqb (length words - 2) n) (cond (numbersFrom 2 words) (digits.Value n) digits.Bad) digits.Bad))
+    (given.whole digits.Bad (whole_field [] (word words 1)) (λ n.
+    cond (eqb (length words - 2) n) (cond (numbers_from 2 words) (digits.Value n) digits.Bad) digits.Bad))
 
-abbrev pub iirBy : Digits → Line
-iirBy (digits.Value n) = Iir n
-iirBy digits.Bad = Syntax
+abbrev pub iir_by : Digits → Line
+iir_by (digits.Value n) = Iir n
+iir_by digits.Bad = Syntax
 
-abbrev pub firBy : Digits → Line
-firBy (digits.Value n) = Fir n
-firBy digits.Bad = Syntax
+abbrev pub fir_by : Digits → Line
+fir_by (digits.Value n) = Fir n
+fir_by digits.Bad = Syntax
 
 -- `crosstalk N NAME.. FACTOR..`: N names, which may be any words, and N * N factors
-unfoldable pub crosstalkOf : List (List ℕ) → Line
-crosstalkOf words =
-    given.whole Syntax (wholeField [] (word words 1)) (λ n.
+unfoldable pub crosstalk_of : List (List ℕ) → Line
+crosstalk_of words =
+    given.whole Syntax (whole_field [] (word words 1)) (λ n.
     cond (ltb 511 n) Syntax
-    (cond (eqb (length words) (n * n + n + 2)) (cond (numbersFrom (n + 2) words) (Crosstalk n) Syntax) Syntax))
+    (cond (eqb (length words) (n * n + n + 2)) (cond (numbers_from (n + 2) words) (Crosstalk n) Syntax) Syntax))
 
 -- `sheet COUNT`
-unfoldable pub sheetOf : List (List ℕ) → Line
-sheetOf words = cond (eqb (length words) 2) (given.whole Syntax (wholeField [] (word words 1)) Sheet) Syntax
+unfoldable pub sheet_of : List (List ℕ) → Line
+sheet_of words = cond (eqb (length words) 2) (given.whole Syntax (whole_field [] (word words 1)) Sheet) Syntax
 
 -- `spline NAME degree=D controls=C knots=K N..`: C controls and K knots, from word 5 on
-unfoldable pub splineOf : List (List ℕ) → Line
-splineOf words =
+unfoldable pub spline_of : List (List ℕ) → Line
+spline_of words =
     cond (ltb (length words) 5) Syntax
-    (given.name Syntax (nameField [] (word words 1)) (λ n.
-    given.whole Syntax (wholeField degreeKey (word words 2)) (λ d.
-    given.whole Syntax (wholeField controlsKey (word words 3)) (λ c.
-    given.whole Syntax (wholeField knotsKey (word words 4)) (λ k.
-    cond (eqb (length words - 5) (c + k)) (cond (numbersFrom 5 words) (Spline n d c k) Syntax) Syntax)))))
+    (given.name Syntax (name_field [] (word words 1)) (λ n.
+    given.whole Syntax (whole_field degree_key (word words 2)) (λ d.
+    given.whole Syntax (whole_field controls_key (word words 3)) (λ c.
+    given.whole Syntax (whole_field knots_key (word words 4)) (λ k.
+    cond (eqb (length words - 5) (c + k)) (cond (numbers_from 5 words) (Spline n d c k) Syntax) Syntax)))))
 
 unfoldable pub list_of : List (List ℕ) → Line
 list_of words =
-    cond (isWord mixerWord (word words 0)) (mixerOf words)
-    (cond (isWord iirWord (word words 0)) (iirBy (countedOf words))
-    (cond (isWord firWord (word words 0)) (firBy (countedOf words))
-    (cond (isWord crosstalkWord (word words 0)) (crosstalkOf words)
-    (cond (isWord sheetWord (word words 0)) (sheetOf words)
-    (cond (isWord splineWord (word words 0)) (splineOf words)
+    cond (is_word mixer_word (word words 0)) (mixer_of words)
+    (cond (is_word iir_word (word words 0)) (iir_by (counted_of words))
+    (cond (is_word fir_word (word words 0)) (fir_by (counted_of words))
+    (cond (is_word crosstalk_word (word words 0)) (crosstalk_of words)
+    (cond (is_word sheet_word (word words 0)) (sheet_of words)
+    (cond (is_word spline_word (word words 0)) (spline_of words)
     Syntax)))))

@@ -1,7 +1,7 @@
 // The seven commands, each with its start and span.
 ghost use Rattle.std.specs.Prelude.{◌≡◌};
 ghost use Rattle.fields.specs.Words.{words_of};
-ghost use Rattle.job.specs.Command.{commandOf, step_of, playOf, shiftPhaseBy, setPhaseBy, shiftFreqBy, setFreqBy, swapOf, barrierOf};
+ghost use Rattle.job.specs.Command.{command_of, step_of, play_of, shift_phase_by, set_phase_by, shift_freq_by, set_freq_by, swap_of, barrier_of};
 
 use super::line::Line;
 use super::list::list_line;
@@ -13,7 +13,7 @@ use fields::words::{count, is_word};
 use quant::quantity::{Amplitude, Frequency, Phase, Time};
 
 pub(crate) fn command(line: &[u8]) -> Line
-    ensures { result ≡ commandOf (words_of line.now) }
+    ensures { result ≡ command_of (words_of line.now) }
 {
     if is_word(line, 0, b"play") {
         return play(line);
@@ -47,7 +47,7 @@ fn step(line: &[u8]) -> Line
 }
 
 fn shift_phase(t: Turn) -> Line
-    ensures { result ≡ shiftPhaseBy t }
+    ensures { result ≡ shift_phase_by t }
 {
     match t {
         Turn::By(n, x, start, span) => Line::Command(Arranged {
@@ -60,7 +60,7 @@ fn shift_phase(t: Turn) -> Line
 }
 
 fn set_phase(t: Turn) -> Line
-    ensures { result ≡ setPhaseBy t }
+    ensures { result ≡ set_phase_by t }
 {
     match t {
         Turn::By(n, x, start, span) => Line::Command(Arranged {
@@ -73,7 +73,7 @@ fn set_phase(t: Turn) -> Line
 }
 
 fn shift_freq(t: Turn) -> Line
-    ensures { result ≡ shiftFreqBy t }
+    ensures { result ≡ shift_freq_by t }
 {
     match t {
         Turn::By(n, x, start, span) => Line::Command(Arranged {
@@ -86,7 +86,7 @@ fn shift_freq(t: Turn) -> Line
 }
 
 fn set_freq(t: Turn) -> Line
-    ensures { result ≡ setFreqBy t }
+    ensures { result ≡ set_freq_by t }
 {
     match t {
         Turn::By(n, x, start, span) => Line::Command(Arranged {
@@ -100,7 +100,7 @@ fn set_freq(t: Turn) -> Line
 
 // `swap_phase a=NAME b=NAME start=N span=N`.
 fn swap(line: &[u8]) -> Line
-    ensures { result ≡ swapOf (words_of line.now) }
+    ensures { result ≡ swap_of (words_of line.now) }
 {
     if count(line) != 5 {
         return Line::Syntax;
@@ -126,7 +126,7 @@ fn swap(line: &[u8]) -> Line
 
 // `barrier start=N span=N`.
 fn barrier(line: &[u8]) -> Line
-    ensures { result ≡ barrierOf (words_of line.now) }
+    ensures { result ≡ barrier_of (words_of line.now) }
 {
     if count(line) != 3 {
         return Line::Syntax;
@@ -144,7 +144,7 @@ fn barrier(line: &[u8]) -> Line
 
 // `play ch=NAME shape=NAME amp=N width=N plateau=N drag=N freq=N phase=N flex=0|1 start=N span=N`.
 fn play(line: &[u8]) -> Line
-    ensures { result ≡ playOf (words_of line.now) }
+    ensures { result ≡ play_of (words_of line.now) }
 {
     if count(line) != 12 {
         return Line::Syntax;

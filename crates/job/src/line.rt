@@ -1,7 +1,7 @@
 // A line, by the word that it begins with. The job text's table, in its order.
 ghost use Rattle.std.specs.Prelude.{◌≡◌};
 ghost use Rattle.fields.specs.Words.{words_of};
-ghost use Rattle.job.specs.Line.{line_of, setting_of, actionOf, tables_of, channelOf, shape_of, rows_of, sampleOf};
+ghost use Rattle.job.specs.Line.{line_of, setting_of, action_of, tables_of, channel_of, shape_of, rows_of, sample_of};
 
 use super::command::command;
 use commands::command::Arranged;
@@ -84,7 +84,7 @@ fn setting(line: &[u8]) -> Line
 
 // The words that stand alone; any other line is a command or a list.
 fn action(line: &[u8]) -> Line
-    ensures { result ≡ actionOf (words_of line.now) }
+    ensures { result ≡ action_of (words_of line.now) }
 {
     if count(line) != 1 {
         return command(line);
@@ -121,7 +121,7 @@ fn tables(line: &[u8]) -> Line
 
 // `channel NAME base=N delta=N phase=N`.
 fn channel(line: &[u8]) -> Line
-    ensures { result ≡ channelOf (words_of line.now) }
+    ensures { result ≡ channel_of (words_of line.now) }
 {
     if count(line) != 5 {
         return Line::Syntax;
@@ -185,7 +185,7 @@ fn rows(line: &[u8]) -> Line
 
 // `sample NAME rate=N delay=N level=INTEGER`.
 fn sample(line: &[u8]) -> Line
-    ensures { result ≡ sampleOf (words_of line.now) }
+    ensures { result ≡ sample_of (words_of line.now) }
 {
     if count(line) != 5 {
         return Line::Syntax;

@@ -2,7 +2,7 @@
 // lines behind the line by `job_sheet`.
 ghost use Rattle.std.specs.Prelude.{◌≡◌};
 ghost use Rattle.fields.specs.Words.{words_of};
-ghost use Rattle.job.specs.List.{list_of, mixerOf, countedOf, iirBy, firBy, crosstalkOf, sheetOf, splineOf, numbersFrom, stopsAt, less_of};
+ghost use Rattle.job.specs.List.{list_of, mixer_of, counted_of, iir_by, fir_by, crosstalk_of, sheet_of, spline_of, numbers_from, stops_at, less_of};
 
 use super::line::Line;
 use decimal::digits::{Digits, place};
@@ -36,7 +36,7 @@ pub(crate) fn list_line(line: &[u8]) -> Line
 
 // `mixer N N N N N N`.
 fn mixer(line: &[u8]) -> Line
-    ensures { result ≡ mixerOf (words_of line.now) }
+    ensures { result ≡ mixer_of (words_of line.now) }
 {
     if count(line) != 7 {
         return Line::Syntax;
@@ -48,7 +48,7 @@ fn mixer(line: &[u8]) -> Line
 }
 
 fn iir(count: Digits) -> Line
-    ensures { result ≡ iirBy count }
+    ensures { result ≡ iir_by count }
 {
     match count {
         Digits::Value(n) => Line::Iir(n),
@@ -57,7 +57,7 @@ fn iir(count: Digits) -> Line
 }
 
 fn fir(count: Digits) -> Line
-    ensures { result ≡ firBy count }
+    ensures { result ≡ fir_by count }
 {
     match count {
         Digits::Value(n) => Line::Fir(n),
@@ -67,7 +67,7 @@ fn fir(count: Digits) -> Line
 
 // `WORD COUNT N..`: the count, if so many numbers stand behind it.
 fn counted(line: &[u8]) -> Digits
-    ensures { result ≡ countedOf (words_of line.now) }
+    ensures { result ≡ counted_of (words_of line.now) }
 {
     if count(line) < 2 {
         return Digits::Bad;
@@ -87,7 +87,7 @@ fn counted(line: &[u8]) -> Digits
 
 // `crosstalk N NAME.. FACTOR..`. More than 511 names have more factors than a job has bytes.
 fn crosstalk(line: &[u8]) -> Line
-    ensures { result ≡ crosstalkOf (words_of line.now) }
+    ensures { result ≡ crosstalk_of (words_of line.now) }
 {
     let said = whole_in(line, 1, b"");
     let Digits::Value(n) = said else {
@@ -108,7 +108,7 @@ fn crosstalk(line: &[u8]) -> Line
 
 // `sheet COUNT`.
 fn sheet(line: &[u8]) -> Line
-    ensures { result ≡ sheetOf (words_of line.now) }
+    ensures { result ≡ sheet_of (words_of line.now) }
 {
     if count(line) != 2 {
         return Line::Syntax;
@@ -122,7 +122,7 @@ fn sheet(line: &[u8]) -> Line
 
 // `spline NAME degree=D controls=C knots=K N..`: C controls, then K knots. Compared one after the other: no sum has to fit.
 fn spline(line: &[u8]) -> Line
-    ensures { result ≡ splineOf (words_of line.now) }
+    ensures { result ≡ spline_of (words_of line.now) }
 {
     if count(line) < 5 {
         return Line::Syntax;
@@ -158,7 +158,7 @@ fn spline(line: &[u8]) -> Line
 
 // Whether every word from word k on is a number.
 pub fn all_numbers(line: &[u8], k: usize) -> bool
-    ensures { result ≡ numbersFrom k (words_of line.now) }
+    ensures { result ≡ numbers_from k (words_of line.now) }
 {
     let mut at: usize = 0;
     let mut left = k;
@@ -178,7 +178,7 @@ pub fn all_numbers(line: &[u8], k: usize) -> bool
 
 // Whether a word is to be a number, since none is left to pass over, and is none.
 fn stops(left: usize, word: &[u8]) -> bool
-    ensures { result ≡ stopsAt left word.now }
+    ensures { result ≡ stops_at left word.now }
 {
     if 0 < left {
         return false;

@@ -6,14 +6,14 @@ use Rattle.job_sheet.specs.declared.first.First.{First}
 use Rattle.job_sheet.specs.declared.first.First.TheVariants.{Bytes, Fewer}
 
 -- how many bytes the first so many lines have: up to and with so many line feeds (10), or to the end
-unfoldable pub linesBytes : ℕ → List ℕ → ℕ
-linesBytes zero text = 0
-linesBytes (suc more) [] = 0
-linesBytes (suc more) (b ∷ bs) = suc (cond (eqb b 10) (linesBytes more bs) (linesBytes (suc more) bs))
+unfoldable pub lines_bytes : ℕ → List ℕ → ℕ
+lines_bytes zero text = 0
+lines_bytes (suc more) [] = 0
+lines_bytes (suc more) (b ∷ bs) = suc (cond (eqb b 10) (lines_bytes more bs) (lines_bytes (suc more) bs))
 
 -- the first so many lines
 abbrev pub first_lines : ℕ → List ℕ → List ℕ
-first_lines count text = take (linesBytes count text) text
+first_lines count text = take (lines_bytes count text) text
 
 unfoldable pub first_of : ℕ → List ℕ → First
-first_of count text = cond (leb count (length (lines_of text))) (Bytes (linesBytes count text)) Fewer
+first_of count text = cond (leb count (length (lines_of text))) (Bytes (lines_bytes count text)) Fewer

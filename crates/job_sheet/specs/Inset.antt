@@ -5,7 +5,7 @@ use Rattle.std.specs.Prelude.{ℕ, ◌≤◌, ◌≡◌, List, Float, length, ta
 use Rattle.naming.specs.declared.Name.{Name}
 use Rattle.quant.specs.declared.refusal.Answer.{Answer}
 use Rattle.quant.specs.declared.refusal.Answer.TheVariants.{Done, Refused}
-use Rattle.sheet.specs.Sheet.{outcome, answer_of, names_of, matrixOf}
+use Rattle.sheet.specs.Sheet.{outcome, answer_of, names_of, matrix_of}
 use Rattle.crosstalk.specs.declared.names.Crosstalk.{Crosstalk}
 use Rattle.job_sheet.specs.declared.first.First.{First}
 use Rattle.job_sheet.specs.declared.first.First.TheVariants as first
@@ -14,13 +14,13 @@ use Rattle.job_sheet.specs.declared.Taken.{Taken}
 use Rattle.job_sheet.specs.First.{first_of}
 
 -- what was read becomes the crosstalk; a refused sheet leaves it
-abbrev pub crosstalkAfter : Crosstalk → Answer → List Name → Crosstalk
-crosstalkAfter c (Done count) names = record { count = count; names = names }
-crosstalkAfter c (Refused why line) names = c
+abbrev pub crosstalk_after : Crosstalk → Answer → List Name → Crosstalk
+crosstalk_after c (Done count) names = record { count = count; names = names }
+crosstalk_after c (Refused why line) names = c
 
 -- so many lines and bytes were read as a sheet
 abbrev pub sheeted : ℕ → ℕ → Crosstalk → Answer → List Name → Taken
-sheeted lines bytes c answer names = record { inset = Sheet answer; crosstalk = crosstalkAfter c answer names; lines = lines; bytes = bytes }
+sheeted lines bytes c answer names = record { inset = Sheet answer; crosstalk = crosstalk_after c answer names; lines = lines; bytes = bytes }
 
 -- nothing was
 abbrev pub fewer : Crosstalk → Taken
@@ -32,14 +32,14 @@ taken_of behind count c numbers (first.Bytes n) = let o = outcome (take n behind
 taken_of behind count c numbers first.Fewer = fewer c
 
 -- the factors afterwards
-unfoldable pub factorsAfter : List ℕ → List Float → First → List Float
-factorsAfter behind before (first.Bytes n) = matrixOf (outcome (take n behind) (length before)) before
-factorsAfter behind before first.Fewer = before
+unfoldable pub factors_after : List ℕ → List Float → First → List Float
+factors_after behind before (first.Bytes n) = matrix_of (outcome (take n behind) (length before)) before
+factors_after behind before first.Fewer = before
 
 -- what `take_sheet` answers and leaves
 pub record Took (behind : List ℕ) (count : ℕ) (c : Crosstalk) (before : List Float) (r : Taken) (after : List Float) : Type 0 where
   pub taken : r ≡ taken_of behind count c (length before) (first_of count behind)
-  pub left : after ≡ factorsAfter behind before (first_of count behind)
+  pub left : after ≡ factors_after behind before (first_of count behind)
 
 -- the lines and the bytes that were gone over are lines and bytes of what is behind, and each line has a byte
 pub record Within (r : Taken) (behind : List ℕ) : Type 0 where

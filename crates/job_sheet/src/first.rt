@@ -1,6 +1,6 @@
 // The first lines of a text, with their line feeds.
 ghost use Rattle.std.specs.Prelude.{◌≡◌, ◌+◌, ◌<◌, length, drop};
-ghost use Rattle.job_sheet.specs.First.{linesBytes, first_of};
+ghost use Rattle.job_sheet.specs.First.{lines_bytes, first_of};
 
 use lines::text::line_end;
 
@@ -31,7 +31,7 @@ pub(crate) fn first_lines(text: &[u8], count: u64) -> First
 // Where what is behind the line at a place starts.
 fn behind_line(text: &[u8], at: usize) -> usize
     requires { at < length text.now }
-    ensures { result ≡ at + linesBytes 1 (drop at text.now) }
+    ensures { result ≡ at + lines_bytes 1 (drop at text.now) }
 {
     let end = line_end(text, at);
     if end < text.len() {

@@ -1,8 +1,8 @@
 -- The numbers of a line. Assumes nothing.
 use Rattle.std.specs.Prelude.{ℕ, ◌+◌, cond, List, eqb, get_or}
-use Rattle.hex.specs.declared.Word.{Word}
-use Rattle.hex.specs.declared.Word.TheVariants.{Bad}
-use Rattle.hex.specs.Hex.{word_at}
+use Rattle.hexadecimal.specs.declared.Word.{Word}
+use Rattle.hexadecimal.specs.declared.Word.TheVariants.{Bad}
+use Rattle.hexadecimal.specs.Hex.{word_at}
 
 -- the number after the space (32) at a place
 unfoldable pub number_at : List ℕ → ℕ → Word

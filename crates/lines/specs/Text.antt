@@ -12,6 +12,6 @@ lines_of [] = []
 lines_of (b ∷ bs) = cond (eqb b 10) ([] ∷ lines_of bs) (before b (lines_of bs))
 
 -- how many bytes the first line has
-unfoldable pub lineLength : List ℕ → ℕ
-lineLength [] = 0
-lineLength (b ∷ bs) = cond (eqb b 10) 0 (suc (lineLength bs))
+unfoldable pub line_length : List ℕ → ℕ
+line_length [] = 0
+line_length (b ∷ bs) = cond (eqb b 10) 0 (suc (line_length bs))

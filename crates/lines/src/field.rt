@@ -4,7 +4,7 @@ ghost use Rattle.std.specs.Float.{binary64};
 ghost use Rattle.std.specs.Float.Ieee.{nan_bits, of_bits};
 ghost use Rattle.lines.specs.Field.{number_at};
 
-use hex::Word;
+use hexadecimal::Word;
 
 // The number after the space at a place of a line.
 pub fn number_at(line: &[u8], at: usize) -> Word
@@ -14,7 +14,7 @@ pub fn number_at(line: &[u8], at: usize) -> Word
         return Word::Bad;
     }
     if line[at] == b' ' {
-        return hex::read(line, at + 1);
+        return hexadecimal::read(line, at + 1);
     }
     Word::Bad
 }

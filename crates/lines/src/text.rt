@@ -1,6 +1,6 @@
 // A text as lines, and the room that it is read into.
 ghost use Rattle.std.specs.Prelude.{◌≡◌, ◌+◌, length, drop, replicate};
-ghost use Rattle.lines.specs.Text.{lineLength};
+ghost use Rattle.lines.specs.Text.{line_length};
 
 // Room for a list: 1 MiB. A list that fills it may have been cut, and is not judged.
 pub fn room() -> [u8; 1048576]
@@ -12,7 +12,7 @@ pub fn room() -> [u8; 1048576]
 
 // Where the line that starts at `at` ends: at its line feed, or at the end of the text. Past that end it is `at` itself.
 pub fn line_end(text: &[u8], at: usize) -> usize
-    ensures { result ≡ at + lineLength (drop at text.now) }
+    ensures { result ≡ at + line_length (drop at text.now) }
 {
     let mut i = at;
     while i < text.len() {

@@ -34,17 +34,17 @@ use Rattle.quant.specs.contracts.quantity.Time as Q
 use Rattle.quant.proofs.quantity.Time.TheLaws as Q'
 use Rattle.pulse.specs.declared.list.Pulse.{Pulse}
 use Rattle.pulse.proofs.Lent.{Row, Own}
-use Rattle.pulse.proofs.Records.{spell, IsRecord, has-record, has_word}
+use Rattle.pulse.proofs.Records.{spell, IsRecord, has_record, has_word}
 use Rattle.pulse.specs.contracts.list.Pulse as P
 use Rattle.tables.specs.declared.Tables.{Tables}
 use Rattle.tables.specs.contracts.Tables as U
 use Rattle.tables.proofs.Tables.TheLaws as U'
-use Rattle.tables.proofs.Walked.{valU, IsTables, has-tables}
+use Rattle.tables.proofs.Walked.{val_u, IsTables, has-tables}
 use Rattle.merge.specs.declared.taking.Taking.{Taking}
 use Rattle.merge.specs.declared.work.Ends.{Ends}
 use Rattle.merge.specs.declared.work.Span.{Span}
-use Rattle.merge.specs.Work.{noEnds, sizesFit}
-use Rattle.merge.specs.Keep.{listsIn, span_of, withEnd}
+use Rattle.merge.specs.Work.{no_ends, sizes_fit}
+use Rattle.merge.specs.Keep.{lists_in, span_of, with_end}
 use Rattle.merge.specs.contracts.taking.Taking as L
 use Rattle.merge.proofs.taking.Taking.TheLaws as L'
 use Rattle.merge.specs.contracts.work.Ends as E
@@ -64,29 +64,29 @@ use Rattle.merge.specs.contracts.work.keep as keep
 abbrev pub Rows : Type 0
 Rows = List (List Float)
 
-abbrev pub slicesP : Lifetime → Ty
-slicesP ℓ = slice_ty (ty_ref ℓ imm (pointee (P.the_row).written))
+abbrev pub slices_p : Lifetime → Ty
+slices_p ℓ = slice_ty (ty_ref ℓ imm (pointee (P.the_row).written))
 
-abbrev pub refW : Ty
-refW = ty_ref erased mut (pointee Row.written)
+abbrev pub ref_w : Ty
+ref_w = ty_ref erased mut (pointee Row.written)
 
-abbrev pub sliceW : Lifetime → Ty
-sliceW ℓ = slice_ty (ty_ref ℓ mut (pointee Row.written))
+abbrev pub slice_w : Lifetime → Ty
+slice_w ℓ = slice_ty (ty_ref ℓ mut (pointee Row.written))
 
-abbrev pub refM : Ty
-refM = ty_ref erased mut (pointee usize.written)
+abbrev pub ref_m : Ty
+ref_m = ty_ref erased mut (pointee usize.written)
 
-abbrev pub sliceM : Lifetime → Ty
-sliceM ℓ = slice_ty (ty_ref ℓ mut (pointee usize.written))
+abbrev pub slice_m : Lifetime → Ty
+slice_m ℓ = slice_ty (ty_ref ℓ mut (pointee usize.written))
 
-abbrev pub valQ : Time → Val
-valQ = LL.val Q.the_type Q'.the_laws
+abbrev pub val_q : Time → Val
+val_q = LL.val Q.the_type Q'.the_laws
 
 abbrev pub IsTime : Time → Type 0
-IsTime t = Is Q.the_row t (valQ t ∷ [])
+IsTime t = Is Q.the_row t (val_q t ∷ [])
 
-abbrev pub valL : Taking → Val
-valL = LL.val L.the_type L'.the_laws
+abbrev pub val_l : Taking → Val
+val_l = LL.val L.the_type L'.the_laws
 
 abbrev pub val_e : Ends → Val
 val_e = LL.val E.the_type E'.the_laws
@@ -95,7 +95,7 @@ abbrev pub val_s : Span → Val
 val_s = LL.val S.the_type S'.the_laws
 
 abbrev pub IsTaking : Taking → Type 0
-IsTaking u = Is L.the_row u (valL u ∷ [])
+IsTaking u = Is L.the_row u (val_l u ∷ [])
 
 abbrev pub IsEnds : Ends → Type 0
 IsEnds e = Is E.the_row e (val_e e ∷ [])
@@ -104,27 +104,27 @@ abbrev pub IsSpan : Span → Type 0
 IsSpan s = Is S.the_row s (val_s s ∷ [])
 
 module _ {M : Type 1} {𝓤 : Ura M} (𝓛 : Logic 𝓤) where
-  pub typedQ : (t : Time) → IsTime t → T (has_ty Q'.mir (valQ t)) × WT (valQ t)
-  typedQ t g = ((LL.lawful Q.the_type Q'.the_laws 𝓛).typed t (valQ t ∷ []) g).0
+  pub typed_q : (t : Time) → IsTime t → T (has_ty Q'.mir (val_q t)) × WT (val_q t)
+  typed_q t g = ((LL.lawful Q.the_type Q'.the_laws 𝓛).typed t (val_q t ∷ []) g).0
 
-  pub typedL : (u : Taking) → IsTaking u → T (has_ty L'.mir (valL u)) × WT (valL u)
-  typedL u g = ((LL.lawful L.the_type L'.the_laws 𝓛).typed u (valL u ∷ []) g).0
+  pub typed_l : (u : Taking) → IsTaking u → T (has_ty L'.mir (val_l u)) × WT (val_l u)
+  typed_l u g = ((LL.lawful L.the_type L'.the_laws 𝓛).typed u (val_l u ∷ []) g).0
 
-  pub typedE : (e : Ends) → IsEnds e → T (has_ty E'.mir (val_e e)) × WT (val_e e)
-  typedE e g = ((LL.lawful E.the_type E'.the_laws 𝓛).typed e (val_e e ∷ []) g).0
+  pub typed_e : (e : Ends) → IsEnds e → T (has_ty E'.mir (val_e e)) × WT (val_e e)
+  typed_e e g = ((LL.lawful E.the_type E'.the_laws 𝓛).typed e (val_e e ∷ []) g).0
 
-  pub typedS : (s : Span) → IsSpan s → T (has_ty S'.mir (val_s s)) × WT (val_s s)
-  typedS s g = ((LL.lawful S.the_type S'.the_laws 𝓛).typed s (val_s s ∷ []) g).0
+  pub typed_s : (s : Span) → IsSpan s → T (has_ty S'.mir (val_s s)) × WT (val_s s)
+  typed_s s g = ((LL.lawful S.the_type S'.the_laws 𝓛).typed s (val_s s ∷ []) g).0
 
 module _ {M : Type 1} {𝓤 : Ura M} {𝓛 : Logic 𝓤} {K : Type 0} {Γ : List (Item 𝓤)} {G : Goal 𝓤 𝓛.H} where
-  pub has-taking : K → (u : Taking) → IsTaking u → Step K 𝓛 (‵ ((L.the_row).own_val u (valL u ∷ [])) ∷ Γ) G Γ G
-  has-taking k u g = owned k L.the_row (Is L.the_row) (LL.makes L.the_type L'.the_plain 𝓛) u (valL u ∷ []) g
+  pub has-taking : K → (u : Taking) → IsTaking u → Step K 𝓛 (‵ ((L.the_row).own_val u (val_l u ∷ [])) ∷ Γ) G Γ G
+  has-taking k u g = owned k L.the_row (Is L.the_row) (LL.makes L.the_type L'.the_plain 𝓛) u (val_l u ∷ []) g
 
   pub has-ends : K → (e : Ends) → IsEnds e → Step K 𝓛 (‵ ((E.the_row).own_val e (val_e e ∷ [])) ∷ Γ) G Γ G
   has-ends k e g = owned k E.the_row (Is E.the_row) (LL.makes E.the_type E'.the_plain 𝓛) e (val_e e ∷ []) g
 
-  pub has-time : K → (t : Time) → IsTime t → Step K 𝓛 (‵ ((Q.the_row).own_val t (valQ t ∷ [])) ∷ Γ) G Γ G
-  has-time k t g = owned k Q.the_row (Is Q.the_row) (LL.makes Q.the_type Q'.the_plain 𝓛) t (valQ t ∷ []) g
+  pub has-time : K → (t : Time) → IsTime t → Step K 𝓛 (‵ ((Q.the_row).own_val t (val_q t ∷ [])) ∷ Γ) G Γ G
+  has-time k t g = owned k Q.the_row (Is Q.the_row) (LL.makes Q.the_type Q'.the_plain 𝓛) t (val_q t ∷ []) g
 
 -- what is passed on of a span, the tables and what takes part
 module _ (s : Span) (g : IsSpan s) where
@@ -135,14 +135,14 @@ module _ (s : Span) (g : IsSpan s) where
   count_fits = (LL.owed S.the_type S'.the_laws s (val_s s ∷ []) g).1.0.1
 
 pub time-of : (u : Tables) → IsTables u → IsTime u.time
-time-of u g = (LL.owed U.the_type U'.the_laws u (valU u ∷ []) g).1.0
+time-of u g = (LL.owed U.the_type U'.the_laws u (val_u u ∷ []) g).1.0
 
 module _ (u : Taking) (g : IsTaking u) where
   pub eight-places : length u.places ≡ 8
-  eight-places = sym (length-map u.places _) ∙ (LL.owed L.the_type L'.the_laws u (valL u ∷ []) g).1.0.1.0.1
+  eight-places = sym (length-map u.places _) ∙ (LL.owed L.the_type L'.the_laws u (val_l u ∷ []) g).1.0.1.0.1
 
   pub eight-factors : length u.factors ≡ 8
-  eight-factors = sym (length-map u.factors _) ∙ (LL.owed L.the_type L'.the_laws u (valL u ∷ []) g).1.1.0.1.0.1
+  eight-factors = sym (length-map u.factors _) ∙ (LL.owed L.the_type L'.the_laws u (val_l u ∷ []) g).1.1.0.1.0.1
 
 -- ---- contracts, what each binds, and what it asks
 
@@ -171,21 +171,21 @@ module _ {M : Type 1} {𝓤 : Ura M} (𝓛 : Logic 𝓤) (mem : Memory → SProp
   Sums = triple_of 𝓛 sum-list.signature (sum-list.spec 𝓛 mem run)
 
   -- what the calls of plain values answer
-  pub none_told : (r : Ends) → ent 𝓤 (ensured 𝓛 no-ends.ended (no-ends.clauses 𝓛 mem run) tt tt tt r) (fact 𝓤 (r ≡ noEnds))
-  none_told r = ex_e 𝓤 _ (λ ws. snd∗ 𝓤 (sem 𝓛 (lasts no-ends.ended tt tt ws)) (fact 𝓤 (r ≡ noEnds)))
+  pub none_told : (r : Ends) → ent 𝓤 (ensured 𝓛 no-ends.ended (no-ends.clauses 𝓛 mem run) tt tt tt r) (fact 𝓤 (r ≡ no_ends))
+  none_told r = ex_e 𝓤 _ (λ ws. snd∗ 𝓤 (sem 𝓛 (lasts no-ends.ended tt tt ws)) (fact 𝓤 (r ≡ no_ends)))
 
-  pub fit-told : (i j k : ℕ) (r : Bool) → ent 𝓤 (ensured 𝓛 sizes-fit.ended (sizes-fit.clauses 𝓛 mem run) tt (i, (j, (k, tt))) tt r) (fact 𝓤 (r ≡ sizesFit i j k))
-  fit-told i j k r = ex_e 𝓤 _ (λ ws. snd∗ 𝓤 (sem 𝓛 (lasts sizes-fit.ended tt (i, (j, (k, tt))) ws)) (fact 𝓤 (r ≡ sizesFit i j k)))
+  pub fit-told : (i j k : ℕ) (r : Bool) → ent 𝓤 (ensured 𝓛 sizes-fit.ended (sizes-fit.clauses 𝓛 mem run) tt (i, (j, (k, tt))) tt r) (fact 𝓤 (r ≡ sizes_fit i j k))
+  fit-told i j k r = ex_e 𝓤 _ (λ ws. snd∗ 𝓤 (sem 𝓛 (lasts sizes-fit.ended tt (i, (j, (k, tt))) ws)) (fact 𝓤 (r ≡ sizes_fit i j k)))
 
-  pub count-told : (u : Taking) (r : ℕ) → ent 𝓤 (ensured 𝓛 lists-in.ended (lists-in.clauses 𝓛 mem run) tt (u, tt) tt r) (fact 𝓤 (r ≡ listsIn u))
-  count-told u r = ex_e 𝓤 _ (λ ws. snd∗ 𝓤 (sem 𝓛 (lasts lists-in.ended tt (u, tt) ws)) (fact 𝓤 (r ≡ listsIn u)))
+  pub count-told : (u : Taking) (r : ℕ) → ent 𝓤 (ensured 𝓛 lists-in.ended (lists-in.clauses 𝓛 mem run) tt (u, tt) tt r) (fact 𝓤 (r ≡ lists_in u))
+  count-told u r = ex_e 𝓤 _ (λ ws. snd∗ 𝓤 (sem 𝓛 (lasts lists-in.ended tt (u, tt) ws)) (fact 𝓤 (r ≡ lists_in u)))
 
   pub span-told : (t : Tables) (u : Taking) (k : ℕ) (r : Span) → ent 𝓤 (ensured 𝓛 Span-of.ended (Span-of.clauses 𝓛 mem run) tt (t, (u, (k, tt))) tt r)
       (fact 𝓤 (r ≡ span_of t (get_or u.places k 0)))
   span-told t u k r = ex_e 𝓤 _ (λ ws. snd∗ 𝓤 (sem 𝓛 (lasts Span-of.ended tt (t, (u, (k, tt))) ws)) (fact 𝓤 (r ≡ span_of t (get_or u.places k 0))))
 
-  pub end-told : (e : Ends) (k at : ℕ) (r : Ends) → ent 𝓤 (ensured 𝓛 with-end.ended (with-end.clauses 𝓛 mem run) tt (e, (k, (at, tt))) tt r) (fact 𝓤 (r ≡ withEnd e k at))
-  end-told e k at r = ex_e 𝓤 _ (λ ws. snd∗ 𝓤 (sem 𝓛 (lasts with-end.ended tt (e, (k, (at, tt))) ws)) (fact 𝓤 (r ≡ withEnd e k at)))
+  pub end-told : (e : Ends) (k at : ℕ) (r : Ends) → ent 𝓤 (ensured 𝓛 with-end.ended (with-end.clauses 𝓛 mem run) tt (e, (k, (at, tt))) tt r) (fact 𝓤 (r ≡ with_end e k at))
+  end-told e k at r = ex_e 𝓤 _ (λ ws. snd∗ 𝓤 (sem 𝓛 (lasts with-end.ended tt (e, (k, (at, tt))) ws)) (fact 𝓤 (r ≡ with_end e k at)))
 
   module _ where
     abbrev pub to_none : NoEnds.Ghost
@@ -201,13 +201,13 @@ module _ {M : Type 1} {𝓤 : Ura M} (𝓛 : Logic 𝓤) (mem : Memory → SProp
     goes-fit i j k gi gj gk = qed 𝓛 [] ∵ nothing ! $ has_word ! k gk $ fjoin ! $ has_word ! j gj $ fjoin ! $ has_word ! i gi $ fjoin ! $ nothing ! $ join ! $ frame ! $ done !
 
     abbrev pub to-count : Taking → Counts.Ghost
-    to-count u = ((tt, tt, tt, (u, tt), (valL u ∷ [], tt)), tt)
+    to-count u = ((tt, tt, tt, (u, tt), (val_l u ∷ [], tt)), tt)
 
     pub goes-count : (u : Taking) → IsTaking u → ent 𝓤 (emp 𝓤) (Counts.pre (to-count u))
     goes-count u g = qed 𝓛 [] ∵ nothing ! $ has-taking ! u g $ fjoin ! $ nothing ! $ join ! $ frame ! $ done !
 
     abbrev pub to-find : Tables → Taking → ℕ → Finds.Ghost
-    to-find t u k = ((tt, tt, tt, (t, (u, (k, tt))), (valU t ∷ [], (valL u ∷ [], (vint w64 k ∷ [], tt)))), tt)
+    to-find t u k = ((tt, tt, tt, (t, (u, (k, tt))), (val_u t ∷ [], (val_l u ∷ [], (vint w64 k ∷ [], tt)))), tt)
 
     pub goes-find : (t : Tables) (u : Taking) (k : ℕ) → k < 8 → IsTables t → IsTaking u → k < 2 ^ 64 → ent 𝓤 (emp 𝓤) (Finds.pre (to-find t u k))
     goes-find t u k less gt gu gk = qed 𝓛 [] ∵ says ! less $ nothing ! $ frame ! $ nothing ! $ has_word ! k gk $ fjoin ! $ has-taking ! u gu $ fjoin ! $ has-tables ! t gt $ fjoin ! $ done !
@@ -220,11 +220,11 @@ module _ {M : Type 1} {𝓤 : Ura M} (𝓛 : Logic 𝓤) (mem : Memory → SProp
 
   -- with the rows at (b₁, o₁) and the marks at (b₂, o₂), lent for ν₁ and ν₂ under the names δ₁ and δ₂
   module _ (b₁ o₁ n₁ b₂ o₂ n₂ ν₁ ν₂ : ℕ) (δ₁ δ₂ : GName) (ys : Rows) (ms : List ℕ) where
-    abbrev pub lentW : Bor Rows
-    lentW = record { ref_ptr = (b₁, o₁); now = ys }
+    abbrev pub lent_w : Bor Rows
+    lent_w = record { ref_ptr = (b₁, o₁); now = ys }
 
-    abbrev pub lentM : Bor (List ℕ)
-    lentM = record { ref_ptr = (b₂, o₂); now = ms }
+    abbrev pub lent_m : Bor (List ℕ)
+    lent_m = record { ref_ptr = (b₂, o₂); now = ms }
 
     abbrev pub to-keep : ℕ → ℕ → Pulse → Time → Keeps.Ghost
     to-keep from at p t = (
@@ -232,8 +232,8 @@ module _ {M : Type 1} {𝓤 : Ura M} (𝓛 : Logic 𝓤) (mem : Memory → SProp
         (ν₁ ∷ [], (ν₂ ∷ [], tt)),
         (full_share, (full_share, tt)),
         tt,
-        (lentW, (lentM, (from, (at, (p, (t, tt)))))),
-        (slice_val (b₁, o₁) n₁ ∷ [], (slice_val (b₂, o₂) n₂ ∷ [], (vint w64 from ∷ [], (vint w64 at ∷ [], (spell p, (valQ t ∷ [], tt)))))),
+        (lent_w, (lent_m, (from, (at, (p, (t, tt)))))),
+        (slice_val (b₁, o₁) n₁ ∷ [], (slice_val (b₂, o₂) n₂ ∷ [], (vint w64 from ∷ [], (vint w64 at ∷ [], (spell p, (val_q t ∷ [], tt)))))),
       ),
       tt,
     )
@@ -246,16 +246,16 @@ module _ {M : Type 1} {𝓤 : Ura M} (𝓛 : Logic 𝓤) (mem : Memory → SProp
         says ! (h, hw, hm) $ split ! $ move ! (2 ∷ []) $ split ! $
         -- [ν₁; ν₂; rows; marks]
         nothing ! $ move ! (2 ∷ 0 ∷ []) $ join ! $ move ! (1 ∷ 0 ∷ []) $ join ! $ frame ! $
-        nothing ! $ has-time ! t gt $ fjoin ! $ has-record ! p gp $ fjoin ! $ has_word ! at ga $ fjoin ! $ has_word ! from gf $ fjoin ! $ move ! (2 ∷ 0 ∷ []) $ fjoin ! $ move ! (1 ∷ 0 ∷ []) $
+        nothing ! $ has-time ! t gt $ fjoin ! $ has_record ! p gp $ fjoin ! $ has_word ! at ga $ fjoin ! $ has_word ! from gf $ fjoin ! $ move ! (2 ∷ 0 ∷ []) $ fjoin ! $ move ! (1 ∷ 0 ∷ []) $
         fjoin ! $ done !
 
     -- with the records at (b₀, o₀) too, shared for κ₀ under the name γ₀
     module _ (b₀ o₀ : ℕ) (κ₀ : Lft) (q₀ : Share) (γ₀ : GName) (ps : List Pulse) where
-      abbrev refP : Bor (List Pulse)
-      refP = record { ref_ptr = (b₀, o₀); now = ps }
+      abbrev ref_p : Bor (List Pulse)
+      ref_p = record { ref_ptr = (b₀, o₀); now = ps }
 
-      abbrev ownP : Fml
-      ownP = (ShrSlice (named 0) κ₀ P.the_row).own_val refP (slice_val (b₀, o₀) (length ps) ∷ [])
+      abbrev own_p : Fml
+      own_p = (ShrSlice (named 0) κ₀ P.the_row).own_val ref_p (slice_val (b₀, o₀) (length ps) ∷ [])
 
       abbrev pub to-sum : ℕ → ℕ → Time → ℕ → Sums.Ghost
       to-sum from count t at = (
@@ -263,18 +263,18 @@ module _ {M : Type 1} {𝓤 : Ura M} (𝓛 : Logic 𝓤) (mem : Memory → SProp
           (κ₀, (ν₁ ∷ [], (ν₂ ∷ [], tt))),
           (q₀, (full_share, (full_share, tt))),
           tt,
-          (refP, (from, (count, (t, (lentW, (lentM, (at, tt))))))),
-          (slice_val (b₀, o₀) (length ps) ∷ [], (vint w64 from ∷ [], (vint w64 count ∷ [], (valQ t ∷ [], (slice_val (b₁, o₁) n₁ ∷ [], (slice_val (b₂, o₂) n₂ ∷ [], (vint w64 at ∷ [], tt))))))),
+          (ref_p, (from, (count, (t, (lent_w, (lent_m, (at, tt))))))),
+          (slice_val (b₀, o₀) (length ps) ∷ [], (vint w64 from ∷ [], (vint w64 count ∷ [], (val_q t ∷ [], (slice_val (b₁, o₁) n₁ ∷ [], (slice_val (b₂, o₂) n₂ ∷ [], (vint w64 at ∷ [], tt))))))),
         ),
         tt,
       )
 
       pub goes-sum : (from count : ℕ) (t : Time) (at : ℕ) → from + count ≤ length ps → at + count ≤ length ys → at + count ≤ length ms → from < 2 ^ 64 → count < 2 ^ 64 → IsTime t → at < 2 ^ 64
-          → ent 𝓤 (sep 𝓤 (sep 𝓤 (sem 𝓛 ownP) (A.lft κ₀ q₀)) (sep 𝓤 (sep 𝓤 (sem 𝓛 (Own Row b₁ o₁ n₁ (ν₁ ∷ []) δ₁ ys)) (sem 𝓛 (Own usize b₂ o₂ n₂ (ν₂ ∷ []) δ₂ ms)))
+          → ent 𝓤 (sep 𝓤 (sep 𝓤 (sem 𝓛 own_p) (A.lft κ₀ q₀)) (sep 𝓤 (sep 𝓤 (sem 𝓛 (Own Row b₁ o₁ n₁ (ν₁ ∷ []) δ₁ ys)) (sem 𝓛 (Own usize b₂ o₂ n₂ (ν₂ ∷ []) δ₂ ms)))
           (sep 𝓤 (A.lft (ν₁ ∷ []) full_share) (A.lft (ν₂ ∷ []) full_share))))
           (Sums.pre (to-sum from count t at))
       goes-sum from count t at hp hw hm gf gc gt ga =
-          qed 𝓛 ((‵ ownP ⊛ ‵ (flft κ₀ q₀)) ∷ (‵ (Own Row b₁ o₁ n₁ (ν₁ ∷ []) δ₁ ys) ⊛ ‵ (Own usize b₂ o₂ n₂ (ν₂ ∷ []) δ₂ ms)) ∷ (‵ (flft (ν₁ ∷ []) full_share) ⊛ ‵ (flft (ν₂ ∷ []) full_share)) ∷ []) ∵
+          qed 𝓛 ((‵ own_p ⊛ ‵ (flft κ₀ q₀)) ∷ (‵ (Own Row b₁ o₁ n₁ (ν₁ ∷ []) δ₁ ys) ⊛ ‵ (Own usize b₂ o₂ n₂ (ν₂ ∷ []) δ₂ ms)) ∷ (‵ (flft (ν₁ ∷ []) full_share) ⊛ ‵ (flft (ν₂ ∷ []) full_share)) ∷ []) ∵
           says ! (hp, hw, hm) $ split ! $ move ! (3 ∷ []) $ split ! $
           -- [ν₁; ν₂; records; κ₀; rows and marks]
           nothing ! $ move ! (2 ∷ 0 ∷ []) $ join ! $ move ! (1 ∷ 0 ∷ []) $ join ! $ move ! (2 ∷ 0 ∷ []) $ join ! $ frame ! $ move ! (1 ∷ []) $ split ! $

@@ -16,10 +16,10 @@ use Rattle.pulse.specs.declared.list.Pulse.{Pulse}
 use Rattle.tables.specs.declared.Tables.{Tables}
 use Rattle.merge.specs.declared.taking.Taking.{Taking}
 use Rattle.merge.specs.declared.work.Ends.{Ends}
-use Rattle.merge.specs.Sum.{togetherInBin, summed}
-use Rattle.merge.specs.Taking.{Part, recordsOf, list_of, zipped, parts_in}
-use Rattle.merge.specs.Work.{rowOfPulse, mark_of, over, Laid, laid, laidOn, lists_of, inOne, endsFrom, noEnds, sizesFit, Gathered, gathered, gatheredOf}
-use Rattle.merge.specs.Keep.{listsIn, span_of, withEnd}
+use Rattle.merge.specs.Sum.{together_in_bin, summed}
+use Rattle.merge.specs.Taking.{Part, records_of, list_of, zipped, parts_in}
+use Rattle.merge.specs.Work.{row_of_pulse, mark_of, over, Laid, laid, laid_on, lists_of, in_one, ends_from, no_ends, sizes_fit, Gathered, gathered, gathered_of}
+use Rattle.merge.specs.Keep.{lists_in, span_of, with_end}
 use Rattle.merge.proofs.Callees.{Rows, IsEnds}
 use Rattle.merge.proofs.Kept.{summed-length}
 use Rattle.merge.proofs.Over.{over-nil, over-cons, over-append}
@@ -41,16 +41,16 @@ length_taken n l e = either (ltb n 8) refl where
 
 -- ---- rows, marks and ends in two runs
 
-rows_append : (xs ys : List Pulse) → map rowOfPulse (xs ++ ys) ≡ map rowOfPulse xs ++ map rowOfPulse ys
+rows_append : (xs ys : List Pulse) → map row_of_pulse (xs ++ ys) ≡ map row_of_pulse xs ++ map row_of_pulse ys
 rows_append [] ys = refl
-rows_append (x ∷ xs) ys = ap (λ (l : Rows). rowOfPulse x ∷ l) (rows_append xs ys)
+rows_append (x ∷ xs) ys = ap (λ (l : Rows). row_of_pulse x ∷ l) (rows_append xs ys)
 
 marks-append : (xs ys : List Pulse) → map mark_of (xs ++ ys) ≡ map mark_of xs ++ map mark_of ys
 marks-append [] ys = refl
 marks-append (x ∷ xs) ys = ap (λ (l : List ℕ). mark_of x ∷ l) (marks-append xs ys)
 
-length-ends : (at : ℕ) (ls : List (List Pulse)) → length (endsFrom at ls) ≡ length ls
-unfolding endsFrom
+length-ends : (at : ℕ) (ls : List (List Pulse)) → length (ends_from at ls) ≡ length ls
+unfolding ends_from
 length-ends at [] = refl
 length-ends at (l ∷ ls) = ap suc (length-ends (at + length l) ls)
 
@@ -63,42 +63,42 @@ drop-replicate (suc n) (suc m) x = let e : suc m - suc n ≡ m - n = omega arith
 
 module _ (ls : List (List Pulse)) (k at : ℕ) (rows : Rows) (marks ends : List ℕ) where
   abbrev pub still : Gathered
-  still = gathered (over at (map rowOfPulse (inOne (drop k ls))) rows) (over at (map mark_of (inOne (drop k ls))) marks) (record { ends = over k (endsFrom at (drop k ls)) ends })
+  still = gathered (over at (map row_of_pulse (in_one (drop k ls))) rows) (over at (map mark_of (in_one (drop k ls))) marks) (record { ends = over k (ends_from at (drop k ls)) ends })
 
   pub ended : length ls ≤ k → gathered rows marks (record { ends = ends }) ≡ still
-  unfolding inOne endsFrom
+  unfolding in_one ends_from
   ended h = rw (drop_of_length-le ls h, over-nil at rows, over-nil at marks, over-nil k ends)
 
-  module _ (l : List Pulse) (rest : drop k ls ≡ l ∷ drop (k + 1) ls) (r : ℕ) (zs : Rows) (us : List ℕ) (lays : laid zs us r ≡ laidOn l at rows marks)
+  module _ (l : List Pulse) (rest : drop k ls ≡ l ∷ drop (k + 1) ls) (r : ℕ) (zs : Rows) (us : List ℕ) (lays : laid zs us r ≡ laid_on l at rows marks)
       (fits-w : at + length l ≤ length rows) (fits-m : at + length l ≤ length marks) (fits-e : k < length ends) where
     is-r : r ≡ at + length l
     is-r = ap (λ (w : Laid). w.at) lays
 
-    is-zs : zs ≡ over at (map rowOfPulse l) rows
+    is-zs : zs ≡ over at (map row_of_pulse l) rows
     is-zs = ap (λ (w : Laid). w.rows) lays
 
     is_us : us ≡ over at (map mark_of l) marks
     is_us = ap (λ (w : Laid). w.marks) lays
 
-    long-w : at + length (map rowOfPulse l) ≡ at + length l
-    long-w = rw (length-map l rowOfPulse)
+    long-w : at + length (map row_of_pulse l) ≡ at + length l
+    long-w = rw (length-map l row_of_pulse)
 
     long-m : at + length (map mark_of l) ≡ at + length l
     long-m = rw (length-map l mark_of)
 
-    rows_on : over at (map rowOfPulse (l ++ inOne (drop (k + 1) ls))) rows ≡ over (at + length l) (map rowOfPulse (inOne (drop (k + 1) ls))) (over at (map rowOfPulse l) rows)
-    rows_on = rw (rows_append l (inOne (drop (k + 1) ls)), over-append at (map rowOfPulse l) (map rowOfPulse (inOne (drop (k + 1) ls))) rows (rw long-w fits-w), long-w)
+    rows_on : over at (map row_of_pulse (l ++ in_one (drop (k + 1) ls))) rows ≡ over (at + length l) (map row_of_pulse (in_one (drop (k + 1) ls))) (over at (map row_of_pulse l) rows)
+    rows_on = rw (rows_append l (in_one (drop (k + 1) ls)), over-append at (map row_of_pulse l) (map row_of_pulse (in_one (drop (k + 1) ls))) rows (rw long-w fits-w), long-w)
 
-    marks-on : over at (map mark_of (l ++ inOne (drop (k + 1) ls))) marks ≡ over (at + length l) (map mark_of (inOne (drop (k + 1) ls))) (over at (map mark_of l) marks)
-    marks-on = rw (marks-append l (inOne (drop (k + 1) ls)), over-append at (map mark_of l) (map mark_of (inOne (drop (k + 1) ls))) marks (rw long-m fits-m), long-m)
+    marks-on : over at (map mark_of (l ++ in_one (drop (k + 1) ls))) marks ≡ over (at + length l) (map mark_of (in_one (drop (k + 1) ls))) (over at (map mark_of l) marks)
+    marks-on = rw (marks-append l (in_one (drop (k + 1) ls)), over-append at (map mark_of l) (map mark_of (in_one (drop (k + 1) ls))) marks (rw long-m fits-m), long-m)
 
-    pub turned : gathered (over r (map rowOfPulse (inOne (drop (k + 1) ls))) zs) (over r (map mark_of (inOne (drop (k + 1) ls))) us)
-        (record { ends = over (k + 1) (endsFrom r (drop (k + 1) ls)) (set ends k r) }) ≡ still
-    unfolding inOne endsFrom
-    turned = rw (rest, rows_on, marks-on, over-cons k (at + length l) (endsFrom (at + length l) (drop (k + 1) ls)) ends fits-e, is-r, is-zs, is_us)
+    pub turned : gathered (over r (map row_of_pulse (in_one (drop (k + 1) ls))) zs) (over r (map mark_of (in_one (drop (k + 1) ls))) us)
+        (record { ends = over (k + 1) (ends_from r (drop (k + 1) ls)) (set ends k r) }) ≡ still
+    unfolding in_one ends_from
+    turned = rw (rest, rows_on, marks-on, over-cons k (at + length l) (ends_from (at + length l) (drop (k + 1) ls)) ends fits-e, is-r, is-zs, is_us)
 
 -- at the start nothing is noted
-pub from-none : (ls : List (List Pulse)) → over 0 (endsFrom 0 ls) (replicate 8 0) ≡ endsFrom 0 ls ++ replicate (8 - length ls) 0
+pub from-none : (ls : List (List Pulse)) → over 0 (ends_from 0 ls) (replicate 8 0) ≡ ends_from 0 ls ++ replicate (8 - length ls) 0
 unfolding over
 from-none ls = let e : 0 + length ls ≡ length ls = omega arith in rw (length-ends 0 ls, e, drop-replicate (length ls) 8 0)
 
@@ -107,7 +107,7 @@ pub record Sizes (i j k : ℕ) : Type 0 where
   pub rows : j ≡ 8192
   pub marks : k ≡ 8192
 
-pub sizes : (i j k : ℕ) → sizesFit i j k ≡ true → Sizes i j k
+pub sizes : (i j k : ℕ) → sizes_fit i j k ≡ true → Sizes i j k
 sizes i j k e = go (eqb i 8192) (eqb j 8192) (eqb k 8192) refl refl refl e where
   go : (a b c : Bool) → eqb i 8192 ≡ a → eqb j 8192 ≡ b → eqb k 8192 ≡ c → (a && b && c) ≡ true → Sizes i j k
   go true true true x y z h = record { pulses = eqb-true i 8192 x; rows = eqb-true j 8192 y; marks = eqb-true k 8192 z }
@@ -122,18 +122,18 @@ module _ (t : Tables) (taking : Taking) (ps : List Pulse) where
   lists = lists_of t ps (parts_in taking)
 
   -- the place of list k's channel
-  abbrev pub placeAt : ℕ → ℕ
-  placeAt k = get_or taking.places k 0
+  abbrev pub place_at : ℕ → ℕ
+  place_at k = get_or taking.places k 0
 
   module _ (lp : length taking.places ≡ 8) (lf : length taking.factors ≡ 8) where
     lists-are : lists ≡ map (list_of t ps) (take taking.count taking.places)
     lists-are = zipped-places (list_of t ps) (take taking.count taking.places) (take taking.count taking.factors)
         (omega (arith, length_taken taking.count taking.places lp, length_taken taking.count taking.factors lf))
 
-    pub lists-long : length lists ≡ listsIn taking
+    pub lists-long : length lists ≡ lists_in taking
     lists-long = rw lists-are (length-map (take taking.count taking.places) (list_of t ps) ∙ length_taken taking.count taking.places lp)
 
-    pub list_at : (k : ℕ) → k < listsIn taking → drop k lists ≡ list_of t ps (placeAt k) ∷ drop (k + 1) lists
+    pub list_at : (k : ℕ) → k < lists_in taking → drop k lists ≡ list_of t ps (place_at k) ∷ drop (k + 1) lists
     list_at k h =
         let some : k < length lists = rw lists-long h in
         let less : k < taking.count = within k h in
@@ -145,8 +145,8 @@ module _ (t : Tables) (taking : Taking) (ps : List Pulse) where
           either true e x = x
           either false e x = let least : 8 ≤ taking.count = ltb-false taking.count 8 e in omega arith
 
-pub at-most-8 : (t : Taking) → listsIn t ≤ 8
-at-most-8 t = either (ltb t.count 8) refl where
+pub at-most_8 : (t : Taking) → lists_in t ≤ 8
+at-most_8 t = either (ltb t.count 8) refl where
   either : (b : Bool) → ltb t.count 8 ≡ b → cond b t.count 8 ≤ 8
   either true e = let less : t.count < 8 = ltb-true t.count 8 e in omega arith
   either false e = omega arith
@@ -158,14 +158,14 @@ pub record Upto (t : Tables) (taking : Taking) (ps : List Pulse) (rows : Rows) (
   pub ms : List ℕ
   pub es : Ends
   pub good : IsEnds es
-  pub within : k ≤ listsIn taking
+  pub within : k ≤ lists_in taking
   pub near : at ≤ 1024 * k
   pub long-w : length ys ≡ length rows
   pub long-m : length ms ≡ length marks
   pub long-e : length es.ends ≡ 8
-  pub left : still (lists t taking ps) k at ys ms es.ends ≡ gatheredOf t (parts_in taking) ps rows marks
+  pub left : still (lists t taking ps) k at ys ms es.ends ≡ gathered_of t (parts_in taking) ps rows marks
 
-unfoldable pub begun : (t : Tables) (taking : Taking) (ps : List Pulse) (rows : Rows) (marks : List ℕ) (es : Ends) → IsEnds es → es ≡ noEnds → sizesFit (length ps) (length rows)
+unfoldable pub begun : (t : Tables) (taking : Taking) (ps : List Pulse) (rows : Rows) (marks : List ℕ) (es : Ends) → IsEnds es → es ≡ no_ends → sizes_fit (length ps) (length rows)
     (length marks) ≡ true → Upto t taking ps rows marks
 begun t taking ps rows marks es g e fit =
     record {
@@ -186,37 +186,37 @@ begun t taking ps rows marks es g e fit =
 module _ (t : Tables) (taking : Taking) (ps : List Pulse) (rows : Rows) (marks : List ℕ) (lp : length taking.places ≡ 8) (lf : length taking.factors ≡ 8)
     (long : Sizes (length ps) (length rows) (length marks)) (u : Upto t taking ps rows marks) where
   abbrev pub place : ℕ
-  place = placeAt t taking ps u.k
+  place = place_at t taking ps u.k
 
-  pub over-all : listsIn taking ≤ u.k → gathered u.ys u.ms u.es ≡ gatheredOf t (parts_in taking) ps rows marks
+  pub over-all : lists_in taking ≤ u.k → gathered u.ys u.ms u.es ≡ gathered_of t (parts_in taking) ps rows marks
   over-all h = ended (lists t taking ps) u.k u.at u.ys u.ms u.es.ends (rw (lists-long t taking ps lp lf) h) ∙ u.left
 
-  module _ (less : u.k < listsIn taking) where
+  module _ (less : u.k < lists_in taking) where
     pub eighth : u.k < 8
-    eighth = omega (arith, at-most-8 taking)
+    eighth = omega (arith, at-most_8 taking)
 
     -- what `sum_list` asks
     pub record Asked : Type 0 where
-      pub in-pulses : (span_of t place).from + (span_of t place).count ≤ length ps
+      pub in_pulses : (span_of t place).from + (span_of t place).count ≤ length ps
       pub in_rows : u.at + (span_of t place).count ≤ length u.ys
-      pub in-marks : u.at + (span_of t place).count ≤ length u.ms
+      pub in_marks : u.at + (span_of t place).count ≤ length u.ms
 
     pub asked : Asked
     asked =
         let s = spans t ps long.pulses place in
         record {
-          in-pulses = omega (arith, s.within, long.pulses);
+          in_pulses = omega (arith, s.within, long.pulses);
           in_rows = omega (arith, s.most, u.near, u.long-w, long.rows, eighth);
-          in-marks = omega (arith, s.most, u.near, u.long-m, long.marks, eighth);
+          in_marks = omega (arith, s.most, u.near, u.long-m, long.marks, eighth);
         }
 
-    unfoldable pub next : (r : ℕ) (zs : Rows) (us : List ℕ) (es : Ends) → laid zs us r ≡ laidOn (summed t.time.0 (take (span_of t place).count (drop (span_of t place).from ps))) u.at u.ys
+    unfoldable pub next : (r : ℕ) (zs : Rows) (us : List ℕ) (es : Ends) → laid zs us r ≡ laid_on (summed t.time.0 (take (span_of t place).count (drop (span_of t place).from ps))) u.at u.ys
         u.ms → length zs ≡ length u.ys → length us ≡ length u.ms
-        → es ≡ withEnd u.es u.k r → IsEnds es → Upto t taking ps rows marks
+        → es ≡ with_end u.es u.k r → IsEnds es → Upto t taking ps rows marks
     next r zs us es lays lz lu ee g =
         let s = spans t ps long.pulses place in
-        let lays-l : laid zs us r ≡ laidOn (list_of t ps place) u.at u.ys u.ms = rw s.same at lays in
-        let short : length (list_of t ps place) ≤ length (recordsOf t ps place) = summed-length (togetherInBin t.time.0) (recordsOf t ps place) in
+        let lays-l : laid zs us r ≡ laid_on (list_of t ps place) u.at u.ys u.ms = rw s.same at lays in
+        let short : length (list_of t ps place) ≤ length (records_of t ps place) = summed-length (together_in_bin t.time.0) (records_of t ps place) in
         let few : length (list_of t ps place) ≤ 1024 = omega (arith, s.fits, s.most) in
         let is-r : r ≡ u.at + length (list_of t ps place) = ap (λ (w : Laid). w.at) lays-l in
         let fits-w : u.at + length (list_of t ps place) ≤ length u.ys = omega (arith, u.near, u.long-w, long.rows, eighth) in

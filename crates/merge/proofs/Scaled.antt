@@ -6,7 +6,7 @@ use lib.Ieee.{binary64, fits}
 use Rattle.exact.specs.Doubles.{one}
 use Rattle.exact.proofs.Unit.{times-one}
 use Rattle.pulse.specs.declared.list.Pulse.{Pulse}
-use Rattle.merge.specs.Sum.{scaledP}
+use Rattle.merge.specs.Sum.{scaled_p}
 
 -- amp and drag are numbers of binary64, as every f64 of the code is
 pub record Fitting (p : Pulse) : Type 0 where
@@ -19,9 +19,9 @@ abbrev pub AllFitting : List Pulse → Type 0
 AllFitting [] = Unit {0}
 AllFitting (p ∷ ps) = Fitting p × AllFitting ps
 
-pub scaled-one : (p : Pulse) → Fitting p → scaledP one p ≡ p
+pub scaled-one : (p : Pulse) → Fitting p → scaled_p one p ≡ p
 scaled-one p f = rw (times-one p.amp.re f.amp-re, times-one p.amp.im f.amp-im, times-one p.drag.re f.drag-re, times-one p.drag.im f.drag-im)
 
-pub scaled-by-one : (ps : List Pulse) → AllFitting ps → map (scaledP one) ps ≡ ps
+pub scaled-by-one : (ps : List Pulse) → AllFitting ps → map (scaled_p one) ps ≡ ps
 scaled-by-one [] f = refl
 scaled-by-one (p ∷ ps) f = λ i. scaled-one p f.0 i ∷ scaled-by-one ps f.1 i

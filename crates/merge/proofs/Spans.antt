@@ -10,9 +10,9 @@ use lib.ListN.{length, take, drop, length-drop, drop_of_length-le}
 use lib.Seq.{take-take, take_all, take-nil, length-take-le}
 use Rattle.pulse.specs.declared.list.Pulse.{Pulse}
 use Rattle.tables.specs.declared.Tables.{Tables}
-use Rattle.tables.specs.Tables.{channelAt}
+use Rattle.tables.specs.Tables.{channel_at}
 use Rattle.merge.specs.declared.work.Span.{Span}
-use Rattle.merge.specs.Taking.{recordsOf}
+use Rattle.merge.specs.Taking.{records_of}
 use Rattle.merge.specs.Keep.{span, span_of}
 
 pub record Spans (s : Span) (ps records : List Pulse) : Type 0 where
@@ -45,11 +45,11 @@ module _ (t : Tables) (ps : List Pulse) (long : length ps ≡ 8192) (i : ℕ) wh
       let empty : take c (take 1024 rest) ≡ [] = rw (gone, take-nil {A = Pulse} 1024) (take-nil c) in
       record { within = omega arith; most = omega arith; same = sym empty; fits = rw empty (omega arith) }
 
-  pub spans : Spans (span_of t i) ps (recordsOf t ps i)
+  pub spans : Spans (span_of t i) ps (records_of t ps i)
   spans = either (ltb i 8) refl where
     c : ℕ
-    c = (channelAt t i).pulses
+    c = (channel_at t i).pulses
 
-    either : (b : Bool) → ltb i 8 ≡ b → Spans (cond b (span (1024 * i) (cond (ltb c 1024) c 1024)) (span 0 0)) ps (recordsOf t ps i)
+    either : (b : Bool) → ltb i 8 ≡ b → Spans (cond b (span (1024 * i) (cond (ltb c 1024) c 1024)) (span 0 0)) ps (records_of t ps i)
     either true e = some c (ltb-true i 8 e) (ltb c 1024) refl
     either false e = nowhere c (ltb-false i 8 e)

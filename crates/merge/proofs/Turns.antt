@@ -1,4 +1,4 @@
--- The loop of `sum_list`: what is left after record k is `keptAll` of the records from k on, so that a turn is one `keptIn`. Assumes nothing.
+-- The loop of `sum_list`: what is left after record k is `kept_all` of the records from k on, so that a turn is one `kept_in`. Assumes nothing.
 use Prim.Native.Nat.{ℕ, suc, ◌+◌, ◌-◌, ◌<◌, ◌≤◌}
 use native.Mathlib.Numerals.{add-one}
 use native.Mathlib.Omega.{arith}
@@ -11,9 +11,9 @@ use lib.ListN.{length, get_or, take, drop, length-drop}
 use lib.Seq.{drop-cons, length-take-le}
 use Rattle.pulse.specs.declared.list.Pulse.{Pulse}
 use Rattle.pulse.proofs.Placed.{none}
-use Rattle.merge.specs.Sum.{togetherInBin, summed}
-use Rattle.merge.specs.Work.{Laid, laid, laidOn}
-use Rattle.merge.specs.Keep.{lastIn, keptIn, keptAll}
+use Rattle.merge.specs.Sum.{together_in_bin, summed}
+use Rattle.merge.specs.Work.{Laid, laid, laid_on}
+use Rattle.merge.specs.Keep.{last_in, kept_in, kept_all}
 use Rattle.merge.proofs.Callees.{Rows}
 use Rattle.merge.proofs.Kept.{kept-summed}
 
@@ -22,9 +22,9 @@ pub record Grown (n r : ℕ) : Type 0 where
   pub least : n ≤ r
   pub most : r ≤ n + 1
 
-pub grown : (from : ℕ) (t : Float) (p : Pulse) (ys : Rows) (ms : List ℕ) (n r : ℕ) (zs : Rows) (us : List ℕ) → laid zs us r ≡ keptIn from t p (laid ys ms n) → Grown n r
-unfolding keptIn
-grown from t p ys ms n r zs us e = either (ltb from n && togetherInBin t (lastIn (laid ys ms n)) p) _ _ _ _ (ap (λ (w : Laid). w.at) e)
+pub grown : (from : ℕ) (t : Float) (p : Pulse) (ys : Rows) (ms : List ℕ) (n r : ℕ) (zs : Rows) (us : List ℕ) → laid zs us r ≡ kept_in from t p (laid ys ms n) → Grown n r
+unfolding kept_in
+grown from t p ys ms n r zs us e = either (ltb from n && together_in_bin t (last_in (laid ys ms n)) p) _ _ _ _ (ap (λ (w : Laid). w.at) e)
   where
     either : (b : Bool) (x y : Rows) (u v : List ℕ) → r ≡ (cond b (laid x u n) (laid y v (n + 1))).at → Grown n r
     either true x y u v h = record { least = omega arith; most = omega arith }
@@ -46,7 +46,7 @@ module _ (ps : List Pulse) (from count : ℕ) (t : Float) (ws : Rows) (marks : L
     pub long-m : length ms ≡ length marks
     pub room-w : used + (end - k) ≤ length ws
     pub room-m : used + (end - k) ≤ length marks
-    pub left : keptAll at t (take (end - k) (drop k ps)) (laid ys ms used) ≡ laidOn (summed t (take count (drop from ps))) at ws marks
+    pub left : kept_all at t (take (end - k) (drop k ps)) (laid ys ms used) ≡ laid_on (summed t (take count (drop from ps))) at ws marks
 
   unfoldable pub begin : end ≤ length ps → at + count ≤ length ws → at + count ≤ length marks → Upto
   begin hp hw hm =
@@ -67,8 +67,8 @@ module _ (ps : List Pulse) (from count : ℕ) (t : Float) (ws : Rows) (marks : L
       }
 
   unfoldable pub next : end ≤ length ps → (u : Upto) (r : ℕ) (zs : Rows) (us : List ℕ) → u.k < end → length zs ≡ length u.ys → length us ≡ length u.ms
-      → laid zs us r ≡ keptIn at t (get_or ps u.k none) (laid u.ys u.ms u.used) → Upto
-  unfolding keptAll
+      → laid zs us r ≡ kept_in at t (get_or ps u.k none) (laid u.ys u.ms u.used) → Upto
+  unfolding kept_all
   next hp u r zs us less lz lu e =
       let more : end - u.k ≡ suc (end - (u.k + 1)) = omega arith in
       let grow = grown at t (get_or ps u.k none) u.ys u.ms u.used r zs us e in
@@ -86,6 +86,6 @@ module _ (ps : List Pulse) (from count : ℕ) (t : Float) (ws : Rows) (marks : L
         left = rw (e, add-one u.k) (rw (more, drop-cons ps u.k none (omega arith), add-one u.k) at u.left);
       }
 
-  pub at-end : (u : Upto) → end ≤ u.k → laid u.ys u.ms u.used ≡ laidOn (summed t (take count (drop from ps))) at ws marks
-  unfolding keptAll
+  pub at-end : (u : Upto) → end ≤ u.k → laid u.ys u.ms u.used ≡ laid_on (summed t (take count (drop from ps))) at ws marks
+  unfolding kept_all
   at-end u h = let over : end - u.k ≡ 0 = omega arith in rw over at u.left

@@ -15,10 +15,10 @@ against x none = some (0, x)
 against x (some (k, y)) = cond (lt y.time.0 x.time.0) (some (suc k, y)) (some (0, x))
 
 -- the place of the list whose head comes next, and the head
-unfoldable pub bestFrom : List (List Pulse) → Option (ℕ × Pulse)
-bestFrom [] = none
-bestFrom ([] ∷ ls) = passed (bestFrom ls)
-bestFrom ((x ∷ l) ∷ ls) = against x (bestFrom ls)
+unfoldable pub best_from : List (List Pulse) → Option (ℕ × Pulse)
+best_from [] = none
+best_from ([] ∷ ls) = passed (best_from ls)
+best_from ((x ∷ l) ∷ ls) = against x (best_from ls)
 
 -- the lists without the head of list k
 unfoldable pub popped : ℕ → List (List Pulse) → List (List Pulse)

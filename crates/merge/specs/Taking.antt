@@ -3,7 +3,7 @@ use Rattle.std.specs.Prelude.{ℕ, ◌*◌, ◌-◌, List, [], ◌∷◌, ◌++�
 use Rattle.exact.specs.Doubles.{nought}
 use Rattle.pulse.specs.declared.list.Pulse.{Pulse}
 use Rattle.tables.specs.declared.Tables.{Tables}
-use Rattle.tables.specs.Tables.{channelAt}
+use Rattle.tables.specs.Tables.{channel_at}
 use Rattle.merge.specs.declared.taking.Taking.{Taking}
 use Rattle.merge.specs.Sum.{summed}
 
@@ -15,28 +15,28 @@ pub record Part : Type 0 where
 abbrev pub part : ℕ → Float → Part
 part i f = record { place = i; factor = f }
 
-abbrev pub placeOfPart : Part → ℕ
-placeOfPart p = p.place
+abbrev pub place_of_part : Part → ℕ
+place_of_part p = p.place
 
-abbrev pub factorOfPart : Part → Float
-factorOfPart p = p.factor
+abbrev pub factor_of_part : Part → Float
+factor_of_part p = p.factor
 
 -- at most eight lists in the two arrays, the rest 0
 unfoldable pub packed : List Part → Taking
 packed ps =
     record {
       count = length ps;
-      places = map placeOfPart ps ++ replicate (8 - length ps) 0;
-      factors = map factorOfPart ps ++ replicate (8 - length ps) nought;
+      places = map place_of_part ps ++ replicate (8 - length ps) 0;
+      factors = map factor_of_part ps ++ replicate (8 - length ps) nought;
     }
 
 -- the records of channel i: 1,024 places a channel, of which the first so many are there
-abbrev pub recordsOf : Tables → List Pulse → ℕ → List Pulse
-recordsOf t pulses i = take (channelAt t i).pulses (take 1024 (drop (1024 * i) pulses))
+abbrev pub records_of : Tables → List Pulse → ℕ → List Pulse
+records_of t pulses i = take (channel_at t i).pulses (take 1024 (drop (1024 * i) pulses))
 
 -- channel i's list, summed with the tables' tolerance
 abbrev pub list_of : Tables → List Pulse → ℕ → List Pulse
-list_of t pulses i = summed t.time.0 (recordsOf t pulses i)
+list_of t pulses i = summed t.time.0 (records_of t pulses i)
 
 -- the lists that the two arrays hold; a count over 8 has the 8 that are there
 unfoldable pub zipped : List ℕ → List Float → List Part

@@ -6,8 +6,8 @@ use Rattle.merge.specs.declared.work.Ends.{Ends}
 use Rattle.merge.specs.Taking.{Part, list_of}
 
 -- time, amp and drag
-abbrev pub rowOfPulse : Pulse → List Float
-rowOfPulse p = p.time.0 ∷ p.amp.re ∷ p.amp.im ∷ p.drag.re ∷ p.drag.im ∷ []
+abbrev pub row_of_pulse : Pulse → List Float
+row_of_pulse p = p.time.0 ∷ p.amp.re ∷ p.amp.im ∷ p.drag.re ∷ p.drag.im ∷ []
 
 abbrev pub mark_of : Pulse → ℕ
 mark_of p = p.bin
@@ -26,37 +26,37 @@ abbrev pub laid : List (List Float) → List ℕ → ℕ → Laid
 laid rows marks at = record { rows = rows; marks = marks; at = at }
 
 -- some pulses from `at` on
-abbrev pub laidOn : List Pulse → ℕ → List (List Float) → List ℕ → Laid
-laidOn ps at rows marks = laid (over at (map rowOfPulse ps) rows) (over at (map mark_of ps) marks) (at + length ps)
+abbrev pub laid_on : List Pulse → ℕ → List (List Float) → List ℕ → Laid
+laid_on ps at rows marks = laid (over at (map row_of_pulse ps) rows) (over at (map mark_of ps) marks) (at + length ps)
 
 -- the summed lists that take part, in order
 abbrev pub lists_of : Tables → List Pulse → List Part → List (List Pulse)
 lists_of t pulses parts = map (λ p. list_of t pulses p.place) parts
 
 -- one behind the other
-unfoldable pub inOne : List (List Pulse) → List Pulse
-inOne [] = []
-inOne (l ∷ ls) = l ++ inOne ls
+unfoldable pub in_one : List (List Pulse) → List Pulse
+in_one [] = []
+in_one (l ∷ ls) = l ++ in_one ls
 
 -- where each ends
-unfoldable pub endsFrom : ℕ → List (List Pulse) → List ℕ
-endsFrom at [] = []
-endsFrom at (l ∷ ls) = (at + length l) ∷ endsFrom (at + length l) ls
+unfoldable pub ends_from : ℕ → List (List Pulse) → List ℕ
+ends_from at [] = []
+ends_from at (l ∷ ls) = (at + length l) ∷ ends_from (at + length l) ls
 
-abbrev pub endsOf : List (List Pulse) → Ends
-endsOf ls = record { ends = endsFrom 0 ls ++ replicate (8 - length ls) 0 }
+abbrev pub ends_of : List (List Pulse) → Ends
+ends_of ls = record { ends = ends_from 0 ls ++ replicate (8 - length ls) 0 }
 
 -- where list k begins: where the one before it ends
-abbrev pub beginOf : Ends → ℕ → ℕ
-beginOf e zero = 0
-beginOf e (suc k) = get_or e.ends k 0
+abbrev pub begin_of : Ends → ℕ → ℕ
+begin_of e zero = 0
+begin_of e (suc k) = get_or e.ends k 0
 
-abbrev pub noEnds : Ends
-noEnds = record { ends = replicate 8 0 }
+abbrev pub no_ends : Ends
+no_ends = record { ends = replicate 8 0 }
 
 -- 1,024 records, rows and marks for each of eight lists
-abbrev pub sizesFit : ℕ → ℕ → ℕ → Bool
-sizesFit pulses rows marks = eqb pulses 8192 && eqb rows 8192 && eqb marks 8192
+abbrev pub sizes_fit : ℕ → ℕ → ℕ → Bool
+sizes_fit pulses rows marks = eqb pulses 8192 && eqb rows 8192 && eqb marks 8192
 
 pub record Gathered : Type 0 where
   pub rows : List (List Float)
@@ -67,9 +67,9 @@ abbrev pub gathered : List (List Float) → List ℕ → Ends → Gathered
 gathered rows marks ends = record { rows = rows; marks = marks; ends = ends }
 
 -- all of them from the first row on; with another size nothing is written
-abbrev pub gatheredOf : Tables → List Part → List Pulse → List (List Float) → List ℕ → Gathered
-gatheredOf t parts pulses rows marks =
+abbrev pub gathered_of : Tables → List Part → List Pulse → List (List Float) → List ℕ → Gathered
+gathered_of t parts pulses rows marks =
     let ls = lists_of t pulses parts in
-    cond (sizesFit (length pulses) (length rows) (length marks))
-    (gathered (over 0 (map rowOfPulse (inOne ls)) rows) (over 0 (map mark_of (inOne ls)) marks) (endsOf ls))
-    (gathered rows marks noEnds)
+    cond (sizes_fit (length pulses) (length rows) (length marks))
+    (gathered (over 0 (map row_of_pulse (in_one ls)) rows) (over 0 (map mark_of (in_one ls)) marks) (ends_of ls))
+    (gathered rows marks no_ends)

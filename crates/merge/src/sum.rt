@@ -1,6 +1,6 @@
 // Two pulses: whether they fall together, their sum, and a pulse times a factor. The Rust's `approx_eq!` and `PulseAmplitude`.
 ghost use Rattle.std.specs.Prelude.{◌≡◌};
-ghost use Rattle.merge.specs.Sum.{nearTo, plusP, scaledP};
+ghost use Rattle.merge.specs.Sum.{near_to, plus_p, scaled_p};
 
 use pulse::list::Pulse;
 use quant::judge::both;
@@ -8,7 +8,7 @@ use quant::quantity::Time;
 
 // Equal times, or times within the tolerance of each other. A difference that overflows is over the tolerance.
 pub fn is_near(a: Time, b: Time, tolerance: Time) -> bool
-    ensures { result ≡ nearTo tolerance.0 a.0 b.0 }
+    ensures { result ≡ near_to tolerance.0 a.0 b.0 }
 {
     if a.0 == b.0 {
         return true;
@@ -19,7 +19,7 @@ pub fn is_near(a: Time, b: Time, tolerance: Time) -> bool
 
 // The kept pulse with another added: its time stays.
 pub fn plus(kept: Pulse, p: Pulse) -> Pulse
-    ensures { result ≡ plusP kept p }
+    ensures { result ≡ plus_p kept p }
 {
     let time = kept.time;
     let amp = kept.amp;
@@ -33,7 +33,7 @@ pub fn plus(kept: Pulse, p: Pulse) -> Pulse
 }
 
 pub fn scaled(p: Pulse, factor: f64) -> Pulse
-    ensures { result ≡ scaledP factor p }
+    ensures { result ≡ scaled_p factor p }
 {
     let time = p.time;
     let amp = p.amp;

@@ -1,10 +1,10 @@
 // The summed lists in lent work rows: a row of five numbers for each pulse (time, amp, drag), and beside it the place of its bin.
 // `sum_lists` and `sum_list` take a slice of records and are proved by hand; all else is covered.
 ghost use Rattle.std.specs.Prelude.{◌≡◌, ◌+◌, ◌<◌, ◌≤◌, length, get_or, take, drop};
-ghost use Rattle.merge.specs.Sum.{togetherInBin, summed};
+ghost use Rattle.merge.specs.Sum.{together_in_bin, summed};
 ghost use Rattle.merge.specs.Taking.{parts_in};
-ghost use Rattle.merge.specs.Work.{rowOfPulse, laid, laidOn, sizesFit, gathered, gatheredOf, noEnds};
-ghost use Rattle.merge.specs.Keep.{pulseIn, keptIn, listsIn, span_of, withEnd};
+ghost use Rattle.merge.specs.Work.{row_of_pulse, laid, laid_on, sizes_fit, gathered, gathered_of, no_ends};
+ghost use Rattle.merge.specs.Keep.{pulse_in, kept_in, lists_in, span_of, with_end};
 
 use super::sum::{is_near, plus};
 use super::taking::Taking;
@@ -35,7 +35,7 @@ pub fn sum_lists(
     work: &mut [[f64; 5]],
     marks: &mut [usize],
 ) -> Ends
-    ensures { gathered work.new marks.new result ≡ gatheredOf t (parts_in taking) pulses.now work.old marks.old }
+    ensures { gathered work.new marks.new result ≡ gathered_of t (parts_in taking) pulses.now work.old marks.old }
 {
     let mut ends = no_ends();
     if !sizes_fit(pulses.len(), work.len(), marks.len()) {
@@ -64,7 +64,7 @@ pub(crate) fn sum_list(
     at: usize,
 ) -> usize
     requires { (from + count ≤ length pulses.now) × (at + count ≤ length work.old) × (at + count ≤ length marks.old) }
-    ensures { laid work.new marks.new result ≡ laidOn (summed tolerance.0 (take count (drop from pulses.now))) at work.old marks.old }
+    ensures { laid work.new marks.new result ≡ laid_on (summed tolerance.0 (take count (drop from pulses.now))) at work.old marks.old }
 {
     let end = from + count;
     let mut k = from;
@@ -87,7 +87,7 @@ pub(crate) fn keep(
     tolerance: Time,
 ) -> usize
     requires { (from ≤ at) × (at < length work.old) × (at < length marks.old) }
-    ensures { laid work.new marks.new result ≡ keptIn from tolerance.0 p (laid work.old marks.old at) }
+    ensures { laid work.new marks.new result ≡ kept_in from tolerance.0 p (laid work.old marks.old at) }
 {
     if from < at {
         let last = at - 1;
@@ -103,13 +103,13 @@ pub(crate) fn keep(
 }
 
 fn falls(kept: Pulse, p: Pulse, tolerance: Time) -> bool
-    ensures { result ≡ togetherInBin tolerance.0 kept p }
+    ensures { result ≡ together_in_bin tolerance.0 kept p }
 {
     both(kept.bin == p.bin, is_near(kept.time, p.time, tolerance))
 }
 
 fn row_of(p: Pulse) -> [f64; 5]
-    ensures { result ≡ rowOfPulse p }
+    ensures { result ≡ row_of_pulse p }
 {
     let amp = p.amp;
     let drag = p.drag;
@@ -118,7 +118,7 @@ fn row_of(p: Pulse) -> [f64; 5]
 
 // The pulse that a row and its mark stand for.
 fn pulse_in(row: [f64; 5], mark: usize) -> Pulse
-    ensures { result ≡ pulseIn row mark }
+    ensures { result ≡ pulse_in row mark }
 {
     Pulse {
         bin: mark,
@@ -135,20 +135,20 @@ fn pulse_in(row: [f64; 5], mark: usize) -> Pulse
 }
 
 pub(crate) fn sizes_fit(pulses: usize, rows: usize, marks: usize) -> bool
-    ensures { result ≡ sizesFit pulses rows marks }
+    ensures { result ≡ sizes_fit pulses rows marks }
 {
     both(both(pulses == 8192, rows == 8192), marks == 8192)
 }
 
 pub(crate) fn no_ends() -> Ends
-    ensures { result ≡ noEnds }
+    ensures { result ≡ no_ends }
 {
     Ends { ends: [0; 8] }
 }
 
 // A count over 8 has the 8 that are there.
 pub(crate) fn lists_in(taking: Taking) -> usize
-    ensures { result ≡ listsIn taking }
+    ensures { result ≡ lists_in taking }
 {
     if taking.count < 8 {
         return taking.count;
@@ -180,7 +180,7 @@ pub(crate) fn span_of(t: Tables, taking: Taking, k: usize) -> Span
 
 pub(crate) fn with_end(ends: Ends, k: usize, at: usize) -> Ends
     requires { k < 8 }
-    ensures { result ≡ withEnd ends k at }
+    ensures { result ≡ with_end ends k at }
 {
     let mut e = ends;
     e.ends[k] = at;

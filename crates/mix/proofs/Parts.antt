@@ -9,10 +9,10 @@ use lib.ListN.{length}
 use lib.Ieee.{Float}
 use borrow.Author.Tests.{leb-true, le-leb}
 use borrow.Rule.Slice.PartMut.{mid_of, put_mid, Post-is}
-use Rattle.mix.specs.Part.{holds, partFits, onPart, firstRow, secondRow}
+use Rattle.mix.specs.Part.{holds, part_fits, on_part, first_row, second_row}
 
 -- ---- a part that fits
-module _ (rows i q s n : ℕ) (fit : partFits rows i q s n ≡ true) where
+module _ (rows i q s n : ℕ) (fit : part_fits rows i q s n ≡ true) where
   one-fits : (one two h k : Bool) → cond one h (cond two (h && k) false) ≡ true → h ≡ true
   one-fits true two h k e = e
   one-fits false true true k e = refl
@@ -38,15 +38,15 @@ module _ (rows i q s n : ℕ) (fit : partFits rows i q s n ≡ true) where
     second_holds = leb-true (s + n) q both-rows.1
 
 -- a part of one row, and of two rows of one length
-pub fits_one : (i q s n : ℕ) → s + n ≤ i → partFits 1 i q s n ≡ true
+pub fits_one : (i q s n : ℕ) → s + n ≤ i → part_fits 1 i q s n ≡ true
 fits_one i q s n h = le-leb (s + n) i h
 
-pub fits-two : (i s n : ℕ) → s + n ≤ i → partFits 2 i i s n ≡ true
+pub fits-two : (i s n : ℕ) → s + n ≤ i → part_fits 2 i i s n ≡ true
 fits-two i s n h = rw (le-leb (s + n) i h)
 
 -- a part is lent, and comes back as f of it
-put_back : (s n : ℕ) (f : List Float → List Float) (row ys : List Float) → ys ≡ f (mid_of s (s + n - s) row) → put_mid s (s + n - s) row ys ≡ onPart s n f row
-unfolding onPart
+put_back : (s n : ℕ) (f : List Float → List Float) (row ys : List Float) → ys ≡ f (mid_of s (s + n - s) row) → put_mid s (s + n - s) row ys ≡ on_part s n f row
+unfolding on_part
 put_back s n f row ys e =
     let before : s ≤ s + n = omega arith in
     let count : s + n - s ≡ n = omega arith in
@@ -54,13 +54,13 @@ put_back s n f row ys e =
 
 -- ---- the rows afterwards
 module _ (rows s n : ℕ) (i q : List Float) (f g : List Float → List Float) where
-  pub stays : partFits rows (length i) (length q) s n ≡ false → (i ≡ firstRow rows s n i q f) × (q ≡ secondRow rows s n i q g)
+  pub stays : part_fits rows (length i) (length q) s n ≡ false → (i ≡ first_row rows s n i q f) × (q ≡ second_row rows s n i q g)
   stays e = (rw e, rw e)
 
-  module _ (fit : partFits rows (length i) (length q) s n ≡ true) where
-    pub one-row : rows ≡ 1 → (ys : List Float) → ys ≡ f (mid_of s (s + n - s) i) → (put_mid s (s + n - s) i ys ≡ firstRow rows s n i q f) × (q ≡ secondRow rows s n i q g)
+  module _ (fit : part_fits rows (length i) (length q) s n ≡ true) where
+    pub one-row : rows ≡ 1 → (ys : List Float) → ys ≡ f (mid_of s (s + n - s) i) → (put_mid s (s + n - s) i ys ≡ first_row rows s n i q f) × (q ≡ second_row rows s n i q g)
     one-row one ys e = (rw fit (put_back s n f i ys e), rw (fit, one))
 
     pub two-rows : eqb rows 1 ≡ false → (ys zs : List Float) → ys ≡ f (mid_of s (s + n - s) i) → zs ≡ g (mid_of s (s + n - s) q)
-        → (put_mid s (s + n - s) i ys ≡ firstRow rows s n i q f) × (put_mid s (s + n - s) q zs ≡ secondRow rows s n i q g)
+        → (put_mid s (s + n - s) i ys ≡ first_row rows s n i q f) × (put_mid s (s + n - s) q zs ≡ second_row rows s n i q g)
     two-rows not-one ys zs e h = (rw fit (put_back s n f i ys e), rw (fit, are-two rows (length i) (length q) s n fit not-one) (put_back s n g q zs h))

@@ -11,31 +11,31 @@ use lib.Seq.{get_or-take, get_or-drop, get_or-append-add, length-take-le}
 use lib.Ieee.{Float, nan, binary64, add}
 use Rattle.exact.specs.Doubles.{nought}
 use Rattle.quant.specs.declared.complex.Complex.{Complex}
-use Rattle.quant.specs.Complex.{timesC}
-use Rattle.mix.specs.Plateau.{carried, carrierAfter}
-use Rattle.mix.specs.Envelope.{waveOf, shaped, shapedBy}
-use Rattle.mix.specs.Part.{holds, onPart, secondRow}
+use Rattle.quant.specs.Complex.{times_c}
+use Rattle.mix.specs.Plateau.{carried, carrier_after}
+use Rattle.mix.specs.Envelope.{wave_of, shaped, shaped_by}
+use Rattle.mix.specs.Part.{holds, on_part, second_row}
 
 -- ---- the carrier, and the samples of a part
 
 -- the first step may be taken at once
-pub carrier-first : (n : ℕ) (z d : Complex) → carrierAfter (suc n) z d ≡ carrierAfter n (timesC z d) d
-unfolding carrierAfter
+pub carrier-first : (n : ℕ) (z d : Complex) → carrier_after (suc n) z d ≡ carrier_after n (times_c z d) d
+unfolding carrier_after
 carrier-first zero z d = refl
-carrier-first (suc n) z d = ap (λ (y : Complex). timesC y d) (carrier-first n z d)
+carrier-first (suc n) z d = ap (λ (y : Complex). times_c y d) (carrier-first n z d)
 
 pub carried-length : (part : Complex → Float) (z d : Complex) (xs : List Float) → length (carried part z d xs) ≡ length xs
 unfolding carried
 carried-length part z d [] = refl
-carried-length part z d (x ∷ xs) = ap suc (carried-length part (timesC z d) d xs)
+carried-length part z d (x ∷ xs) = ap suc (carried-length part (times_c z d) d xs)
 
 pub carried-at : (part : Complex → Float) (z d : Complex) (xs : List Float) (k : ℕ) → k < length xs
-    → get_or (carried part z d xs) k nan ≡ add binary64 (get_or xs k nan) (part (carrierAfter k z d))
-unfolding carried carrierAfter
+    → get_or (carried part z d xs) k nan ≡ add binary64 (get_or xs k nan) (part (carrier_after k z d))
+unfolding carried carrier_after
 carried-at part z d [] k h = absurd (not-suc-le-zero h)
 carried-at part z d (x ∷ xs) zero h = refl
 carried-at part z d (x ∷ xs) (suc k) h =
-    carried-at part (timesC z d) d xs k (le_of_suc-le-suc h)
+    carried-at part (times_c z d) d xs k (le_of_suc-le-suc h)
     ∙ ap (λ (y : Complex). add binary64 (get_or xs k nan) (part y)) (sym (carrier-first k z d))
 
 pub shaped-length : (part : Complex → Float) (amp drag d : Complex) (left : Float) (es : List Float) (z : Complex) (xs : List Float)
@@ -43,21 +43,21 @@ pub shaped-length : (part : Complex → Float) (amp drag d : Complex) (left : Fl
 unfolding shaped
 shaped-length part amp drag d left [] z xs = refl
 shaped-length part amp drag d left (e ∷ es) z [] = refl
-shaped-length part amp drag d left (e ∷ es) z (x ∷ xs) = ap suc (shaped-length part amp drag d e es (timesC z d) xs)
+shaped-length part amp drag d left (e ∷ es) z (x ∷ xs) = ap suc (shaped-length part amp drag d e es (times_c z d) xs)
 
 -- the neighbours of point k: the one before it, where `left` stands before the first, and the one after it, where 0.0 stands behind the last
-abbrev pub wave-at : Complex → Complex → Float → List Float → Complex → Complex → ℕ → Complex
-wave-at amp drag left es z d k = waveOf (carrierAfter k z d) amp drag (get_or (left ∷ es) k nought) (get_or es k nought) (get_or es (suc k) nought)
+abbrev pub wave_at : Complex → Complex → Float → List Float → Complex → Complex → ℕ → Complex
+wave_at amp drag left es z d k = wave_of (carrier_after k z d) amp drag (get_or (left ∷ es) k nought) (get_or es k nought) (get_or es (suc k) nought)
 
 pub shaped-at : (part : Complex → Float) (amp drag d : Complex) (left : Float) (es : List Float) (z : Complex) (xs : List Float) (k : ℕ) → k < length xs → k < length es
-    → get_or (shaped part amp drag d left es z xs) k nan ≡ add binary64 (get_or xs k nan) (part (wave-at amp drag left es z d k))
-unfolding shaped carrierAfter
+    → get_or (shaped part amp drag d left es z xs) k nan ≡ add binary64 (get_or xs k nan) (part (wave_at amp drag left es z d k))
+unfolding shaped carrier_after
 shaped-at part amp drag d left [] z xs k h g = absurd (not-suc-le-zero g)
 shaped-at part amp drag d left (e ∷ es) z [] k h g = absurd (not-suc-le-zero h)
 shaped-at part amp drag d left (e ∷ es) z (x ∷ xs) zero h g = refl
 shaped-at part amp drag d left (e ∷ es) z (x ∷ xs) (suc k) h g =
-    shaped-at part amp drag d e es (timesC z d) xs k (le_of_suc-le-suc h) (le_of_suc-le-suc g)
-    ∙ ap (λ (y : Complex). add binary64 (get_or xs k nan) (part (waveOf y amp drag (get_or (e ∷ es) k nought) (get_or es k nought) (get_or es (suc k) nought)))) (sym (carrier-first k z d))
+    shaped-at part amp drag d e es (times_c z d) xs k (le_of_suc-le-suc h) (le_of_suc-le-suc g)
+    ∙ ap (λ (y : Complex). add binary64 (get_or xs k nan) (part (wave_of y amp drag (get_or (e ∷ es) k nought) (get_or es k nought) (get_or es (suc k) nought)))) (sym (carrier-first k z d))
 
 -- ---- a part within a row
 
@@ -72,24 +72,24 @@ module _ (s n : ℕ) (f : List Float → List Float) (row : List Float) (fits : 
   abbrev rest : List Float
   rest = drop (s + n) row
 
-  pub before-part : (k : ℕ) → k < s → get_or (onPart s n f row) k nan ≡ get_or row k nan
-  unfolding onPart
+  pub before-part : (k : ℕ) → k < s → get_or (on_part s n f row) k nan ≡ get_or row k nan
+  unfolding on_part
   before-part k h =
       let front : length (take s row) ≡ s = length-take-le s row (omega arith) in
       get_or-append (take s row) (changed ++ rest) nan k (omega (arith, front)) ∙ get_or-take s row k nan h
 
-  from_start : (k : ℕ) → get_or (onPart s n f row) (s + k) nan ≡ get_or (changed ++ rest) k nan
-  unfolding onPart
+  from_start : (k : ℕ) → get_or (on_part s n f row) (s + k) nan ≡ get_or (changed ++ rest) k nan
+  unfolding on_part
   from_start k = past (take s row) (changed ++ rest) s k (length-take-le s row (omega arith))
 
-  in-part : (k : ℕ) → k < n → get_or (onPart s n f row) (s + k) nan ≡ get_or changed k nan
-  in-part k h = from_start k ∙ get_or-append changed rest nan k (omega (arith, same))
+  in_part : (k : ℕ) → k < n → get_or (on_part s n f row) (s + k) nan ≡ get_or changed k nan
+  in_part k h = from_start k ∙ get_or-append changed rest nan k (omega (arith, same))
 
-  pub behind-part : (k : ℕ) → s + n ≤ k → get_or (onPart s n f row) k nan ≡ get_or row k nan
+  pub behind-part : (k : ℕ) → s + n ≤ k → get_or (on_part s n f row) k nan ≡ get_or row k nan
   behind-part k h =
       let j = k - (s + n) in
       let at : s + (n + j) ≡ k = omega arith in
-      ap (λ (m : ℕ). get_or (onPart s n f row) m nan) (sym at)
+      ap (λ (m : ℕ). get_or (on_part s n f row) m nan) (sym at)
       ∙ from_start (n + j)
       ∙ past changed rest n j same
       ∙ get_or-drop (s + n) row j nan
@@ -106,29 +106,29 @@ module _ (part : Complex → Float) (z d : Complex) (s n : ℕ) (row : List Floa
   plateau-length : length (carried part z d (take n (drop s row))) ≡ n
   plateau-length = carried-length part z d (take n (drop s row)) ∙ part_length s n row fits
 
-  pub plateau-at : (k : ℕ) → k < n → get_or (onPart s n (carried part z d) row) (s + k) nan ≡ add binary64 (get_or row (s + k) nan) (part (carrierAfter k z d))
+  pub plateau-at : (k : ℕ) → k < n → get_or (on_part s n (carried part z d) row) (s + k) nan ≡ add binary64 (get_or row (s + k) nan) (part (carrier_after k z d))
   plateau-at k h =
-      in-part s n (carried part z d) row fits plateau-length k h
+      in_part s n (carried part z d) row fits plateau-length k h
       ∙ carried-at part z d (take n (drop s row)) k (omega (arith, part_length s n row fits))
-      ∙ ap (λ (x : Float). add binary64 x (part (carrierAfter k z d))) (part_at s n row k h)
+      ∙ ap (λ (x : Float). add binary64 x (part (carrier_after k z d))) (part_at s n row k h)
 
-  pub plateau-before : (k : ℕ) → k < s → get_or (onPart s n (carried part z d) row) k nan ≡ get_or row k nan
+  pub plateau-before : (k : ℕ) → k < s → get_or (on_part s n (carried part z d) row) k nan ≡ get_or row k nan
   plateau-before k h = before-part s n (carried part z d) row fits plateau-length k h
 
-  pub plateau-behind : (k : ℕ) → s + n ≤ k → get_or (onPart s n (carried part z d) row) k nan ≡ get_or row k nan
+  pub plateau-behind : (k : ℕ) → s + n ≤ k → get_or (on_part s n (carried part z d) row) k nan ≡ get_or row k nan
   plateau-behind k h = behind-part s n (carried part z d) row fits plateau-length k h
 
 -- on a row of zeros
 pub plateau-on-zeros : (part : Complex → Float) (z d : Complex) (len s n k : ℕ) → s + n ≤ len → k < n
-    → get_or (onPart s n (carried part z d) (replicate len nought)) (s + k) nan ≡ add binary64 nought (part (carrierAfter k z d))
+    → get_or (on_part s n (carried part z d) (replicate len nought)) (s + k) nan ≡ add binary64 nought (part (carrier_after k z d))
 plateau-on-zeros part z d len s n k fits h =
     plateau-at part z d s n (replicate len nought) (simp length-replicate fits) k h
-    ∙ ap (λ (x : Float). add binary64 x (part (carrierAfter k z d))) (get_or-replicate len (s + k) nought nan (omega arith))
+    ∙ ap (λ (x : Float). add binary64 x (part (carrier_after k z d))) (get_or-replicate len (s + k) nought nan (omega arith))
 
 -- ---- sample k of an envelope of n points
 module _ (part : Complex → Float) (amp drag d : Complex) (points : List Float) (z : Complex) (s : ℕ) (row : List Float) (fits : s + length points ≤ length row) where
   abbrev f : List Float → List Float
-  f xs = shapedBy part amp drag d points z xs
+  f xs = shaped_by part amp drag d points z xs
 
   abbrev n : ℕ
   n = length points
@@ -136,18 +136,18 @@ module _ (part : Complex → Float) (amp drag d : Complex) (points : List Float)
   envelope-length : length (f (take n (drop s row))) ≡ n
   envelope-length = shaped-length part amp drag d nought points z (take n (drop s row)) ∙ part_length s n row fits
 
-  pub envelope-at : (k : ℕ) → k < n → get_or (onPart s n f row) (s + k) nan ≡ add binary64 (get_or row (s + k) nan) (part (wave-at amp drag nought points z d k))
+  pub envelope-at : (k : ℕ) → k < n → get_or (on_part s n f row) (s + k) nan ≡ add binary64 (get_or row (s + k) nan) (part (wave_at amp drag nought points z d k))
   envelope-at k h =
-      in-part s n f row fits envelope-length k h
+      in_part s n f row fits envelope-length k h
       ∙ shaped-at part amp drag d nought points z (take n (drop s row)) k (omega (arith, part_length s n row fits)) h
-      ∙ ap (λ (x : Float). add binary64 x (part (wave-at amp drag nought points z d k))) (part_at s n row k h)
+      ∙ ap (λ (x : Float). add binary64 x (part (wave_at amp drag nought points z d k))) (part_at s n row k h)
 
-  pub envelope-before : (k : ℕ) → k < s → get_or (onPart s n f row) k nan ≡ get_or row k nan
+  pub envelope-before : (k : ℕ) → k < s → get_or (on_part s n f row) k nan ≡ get_or row k nan
   envelope-before k h = before-part s n f row fits envelope-length k h
 
-  pub envelope-behind : (k : ℕ) → s + n ≤ k → get_or (onPart s n f row) k nan ≡ get_or row k nan
+  pub envelope-behind : (k : ℕ) → s + n ≤ k → get_or (on_part s n f row) k nan ≡ get_or row k nan
   envelope-behind k h = behind-part s n f row fits envelope-length k h
 
 -- ---- one row: the second stays, whatever it holds
-pub second-stays : (s n : ℕ) (i q : List Float) (g : List Float → List Float) → secondRow 1 s n i q g ≡ q
+pub second-stays : (s n : ℕ) (i q : List Float) (g : List Float → List Float) → second_row 1 s n i q g ≡ q
 second-stays s n i q g = rw (and-false (holds (length i) s n))

@@ -9,9 +9,9 @@ use lib.Seq.{drop-cons, drop-set-lt, get_or-drop, take_all, take-suc-set, append
 use lib.Ieee.{Float, nan, binary64, add}
 use Rattle.exact.specs.Doubles.{nought}
 use Rattle.quant.specs.declared.complex.Complex.{Complex}
-use Rattle.quant.specs.Complex.{timesC}
+use Rattle.quant.specs.Complex.{times_c}
 use Rattle.mix.specs.Plateau.{carried}
-use Rattle.mix.specs.Envelope.{waveOf, shaped}
+use Rattle.mix.specs.Envelope.{wave_of, shaped}
 
 -- k samples of the row are laid, and with the rest they make up `all`
 pub record Laid (all row₀ row : List Float) (k : ℕ) (rest : List Float) : Type 0 where
@@ -40,11 +40,11 @@ landed all row₀ row k rest h none laid = rw (none, take_all k row h, append-ni
 -- ---- a plateau
 module _ (part : Complex → Float) (all row₀ row : List Float) (k : ℕ) (z d : Complex) where
   pub plateau-turn : k < length row → Laid all row₀ row k (carried part z d (drop k row))
-      → let row' = set row k (add binary64 (get_or row k nan) (part z)) in Laid all row₀ row' (k + 1) (carried part (timesC z d) d (drop (k + 1) row'))
+      → let row' = set row k (add binary64 (get_or row k nan) (part z)) in Laid all row₀ row' (k + 1) (carried part (times_c z d) d (drop (k + 1) row'))
   unfolding carried
   plateau-turn h laid =
       rw (add-one k)
-      (stored all row₀ row k (add binary64 (get_or row k nan) (part z)) (carried part (timesC z d) d) h
+      (stored all row₀ row k (add binary64 (get_or row k nan) (part z)) (carried part (times_c z d) d) h
       (rw (drop-cons row k nan h) at laid))
 
   pub plateau-end : length row ≤ k → Laid all row₀ row k (carried part z d (drop k row)) → row ≡ all
@@ -55,13 +55,13 @@ module _ (part : Complex → Float) (all row₀ row : List Float) (k : ℕ) (z d
 module _ (part : Complex → Float) (amp drag d : Complex) (points all row₀ row : List Float) (k : ℕ) (left : Float) (z : Complex) where
   pub envelope-turn : (here right : Float) → here ≡ get_or points k nought → right ≡ get_or points (k + 1) nought → k < length row → k < length points
       → Laid all row₀ row k (shaped part amp drag d left (drop k points) z (drop k row))
-      → let row' = set row k (add binary64 (get_or row k nan) (part (waveOf z amp drag left here right))) in
-      Laid all row₀ row' (k + 1) (shaped part amp drag d here (drop (k + 1) points) (timesC z d) (drop (k + 1) row'))
+      → let row' = set row k (add binary64 (get_or row k nan) (part (wave_of z amp drag left here right))) in
+      Laid all row₀ row' (k + 1) (shaped part amp drag d here (drop (k + 1) points) (times_c z d) (drop (k + 1) row'))
   unfolding shaped
   envelope-turn here right e f h g laid =
       let next : get_or (drop (suc k) points) 0 nought ≡ get_or points (suc k) nought = get_or-drop (suc k) points 0 nought ∙ ap (λ (j : ℕ). get_or points j nought) (omega arith) in
       rw (e, f, add-one k)
-      (stored all row₀ row k (add binary64 (get_or row k nan) (part (waveOf z amp drag left (get_or points k nought) (get_or points (suc k) nought)))) (shaped part amp drag d (get_or points k nought) (drop (suc k) points) (timesC z d)) h
+      (stored all row₀ row k (add binary64 (get_or row k nan) (part (wave_of z amp drag left (get_or points k nought) (get_or points (suc k) nought)))) (shaped part amp drag d (get_or points k nought) (drop (suc k) points) (times_c z d)) h
       (rw (drop-cons row k nan h, drop-cons points k nought g, next) at laid))
 
   pub envelope-end : length row ≤ k → length points ≤ k → Laid all row₀ row k (shaped part amp drag d left (drop k points) z (drop k row)) → row ≡ all

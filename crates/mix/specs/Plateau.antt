@@ -3,7 +3,7 @@ use Rattle.std.specs.Prelude.{ℕ, zero, suc, List, [], ◌∷◌, Float}
 use Rattle.std.specs.Float.{binary64}
 use Rattle.std.specs.Float.Ieee.{add}
 use Rattle.quant.specs.declared.complex.Complex.{Complex}
-use Rattle.quant.specs.Complex.{timesC}
+use Rattle.quant.specs.Complex.{times_c}
 
 -- the part that the I row takes, and the part that the Q row takes
 abbrev pub real : Complex → Float
@@ -15,11 +15,11 @@ imaginary z = z.im
 -- samples with a part of the carrier z added to each; z is multiplied by d after each sample
 unfoldable pub carried : (Complex → Float) → Complex → Complex → List Float → List Float
 carried part z d [] = []
-carried part z d (x ∷ xs) = add binary64 x (part z) ∷ carried part (timesC z d) d xs
+carried part z d (x ∷ xs) = add binary64 x (part z) ∷ carried part (times_c z d) d xs
 
 -- ---- what is proved of it (proofs/Samples.antt)
 
 -- the carrier z after n samples: times d, n times, in order
-unfoldable pub carrierAfter : ℕ → Complex → Complex → Complex
-carrierAfter zero z d = z
-carrierAfter (suc n) z d = timesC (carrierAfter n z d) d
+unfoldable pub carrier_after : ℕ → Complex → Complex → Complex
+carrier_after zero z d = z
+carrier_after (suc n) z d = times_c (carrier_after n z d) d

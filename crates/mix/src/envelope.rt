@@ -2,7 +2,7 @@
 ghost use Rattle.std.specs.Prelude.{◌≡◌, length, get_or};
 ghost use Rattle.exact.specs.Doubles.{nought};
 ghost use Rattle.mix.specs.Plateau.{real, imaginary};
-ghost use Rattle.mix.specs.Envelope.{waveOf, shapedBy};
+ghost use Rattle.mix.specs.Envelope.{wave_of, shaped_by};
 
 use quant::complex::Complex;
 
@@ -18,8 +18,8 @@ pub(crate) fn envelope_rows(
     rotation: Complex,
 )
     requires { (length i.old ≡ length points.now) × (length q.old ≡ length points.now) }
-    ensures i_after { i.new ≡ shapedBy real amp drag rotation points.now carrier i.old }
-    ensures q_after { q.new ≡ shapedBy imaginary amp drag rotation points.now carrier q.old }
+    ensures i_after { i.new ≡ shaped_by real amp drag rotation points.now carrier i.old }
+    ensures q_after { q.new ≡ shaped_by imaginary amp drag rotation points.now carrier q.old }
 {
     if i.len() < 1 {
         return;
@@ -68,7 +68,7 @@ pub(crate) fn wave(
     here: f64,
     right: f64,
 ) -> Complex
-    ensures { result ≡ waveOf z amp drag left here right }
+    ensures { result ≡ wave_of z amp drag left here right }
 {
     let slope = (right - left) / 2.0;
     z.mul(amp.scale(here).add(drag.scale(slope)))

@@ -1,8 +1,8 @@
 // One pulse added onto the rows of a channel, sample by sample, under a turning carrier. The Rust's `mix_add_plateau` and `mix_add_envelope`.
 ghost use Rattle.std.specs.Prelude.{◌≡◌, length};
-ghost use Rattle.mix.specs.Part.{firstRow, secondRow};
+ghost use Rattle.mix.specs.Part.{first_row, second_row};
 ghost use Rattle.mix.specs.Plateau.{carried, real, imaginary};
-ghost use Rattle.mix.specs.Envelope.{shapedBy};
+ghost use Rattle.mix.specs.Envelope.{shaped_by};
 
 mod envelope;
 mod one_row;
@@ -26,8 +26,8 @@ pub fn add_plateau(
     carrier: Complex,
     rotation: Complex,
 )
-    ensures i_after { i.new ≡ firstRow rows start count i.old q.old (carried real carrier rotation) }
-    ensures q_after { q.new ≡ secondRow rows start count i.old q.old (carried imaginary carrier rotation) }
+    ensures i_after { i.new ≡ first_row rows start count i.old q.old (carried real carrier rotation) }
+    ensures q_after { q.new ≡ second_row rows start count i.old q.old (carried imaginary carrier rotation) }
 {
     if !part_fits(rows, i.len(), q.len(), start, count) {
         return;
@@ -52,8 +52,8 @@ pub fn add_envelope(
     carrier: Complex,
     rotation: Complex,
 )
-    ensures i_after { i.new ≡ firstRow rows start (length points.now) i.old q.old (shapedBy real amp drag rotation points.now carrier) }
-    ensures q_after { q.new ≡ secondRow rows start (length points.now) i.old q.old (shapedBy imaginary amp drag rotation points.now carrier) }
+    ensures i_after { i.new ≡ first_row rows start (length points.now) i.old q.old (shaped_by real amp drag rotation points.now carrier) }
+    ensures q_after { q.new ≡ second_row rows start (length points.now) i.old q.old (shaped_by imaginary amp drag rotation points.now carrier) }
 {
     let count = points.len();
     if !part_fits(rows, i.len(), q.len(), start, count) {

@@ -1,7 +1,7 @@
 // One row takes only the I part: the loops of `plateau` and `envelope` without the second row.
 ghost use Rattle.std.specs.Prelude.{◌≡◌, length};
 ghost use Rattle.mix.specs.Plateau.{carried, real};
-ghost use Rattle.mix.specs.Envelope.{shapedBy};
+ghost use Rattle.mix.specs.Envelope.{shaped_by};
 
 use super::envelope::{point, wave};
 use quant::complex::Complex;
@@ -27,7 +27,7 @@ pub(crate) fn envelope_row(
     rotation: Complex,
 )
     requires { length i.old ≡ length points.now }
-    ensures { i.new ≡ shapedBy real amp drag rotation points.now carrier i.old }
+    ensures { i.new ≡ shaped_by real amp drag rotation points.now carrier i.old }
 {
     let mut z = carrier;
     let mut left: f64 = 0.0;

@@ -9,20 +9,20 @@ use lib.Ieee.{Float, nan}
 use lib.ListN.{length, take, drop, get_or, length-take}
 use borrow.Author.Tests.{lt-ltb, le-ltb}
 use lib.Seq.{take-suc, take-add, get_or-take}
-use Rattle.pulse.specs.Bin.{sameRow, place_of}
+use Rattle.pulse.specs.Bin.{same_row, place_of}
 use Rattle.tables.specs.declared.Tables.{Tables}
 use Rattle.commands.specs.Play.{rows_of}
 use Rattle.merge.specs.declared.taking.Taking.{Taking}
 use Rattle.merge.specs.Taking.{Part, part, zipped, parts_in}
-use Rattle.mixdown.specs.Bins.{isAmong, all_rows}
+use Rattle.mixdown.specs.Bins.{is_among, all_rows}
 
 -- ---- among rows
 
-among-cons : (row r : List Float) (rs : List (List Float)) → isAmong row (r ∷ rs) ≡ (sameRow r row || isAmong row rs)
+among-cons : (row r : List Float) (rs : List (List Float)) → is_among row (r ∷ rs) ≡ (same_row r row || is_among row rs)
 unfolding place_of
-among-cons row r rs = go (sameRow r row)
+among-cons row r rs = go (same_row r row)
   where
-    go : (b : Bool) → ltb (cond b 0 (suc (place_of row rs))) (suc (length rs)) ≡ (b || isAmong row rs)
+    go : (b : Bool) → ltb (cond b 0 (suc (place_of row rs))) (suc (length rs)) ≡ (b || is_among row rs)
     go true = lt-ltb 0 (suc (length rs)) (omega arith)
     go false = leb-suc-suc (suc (place_of row rs)) (length rs)
 
@@ -30,14 +30,14 @@ or_assoc : (a b c : Bool) → (a || b || c) ≡ (a || (b || c))
 or_assoc true b c = refl
 or_assoc false b c = refl
 
-pub among_none : (row : List Float) → isAmong row [] ≡ false
+pub among_none : (row : List Float) → is_among row [] ≡ false
 among_none row = le-ltb (place_of row []) 0 (omega arith)
 
-pub among-append : (row : List Float) (xs ys : List (List Float)) → isAmong row (xs ++ ys) ≡ (isAmong row xs || isAmong row ys)
+pub among-append : (row : List Float) (xs ys : List (List Float)) → is_among row (xs ++ ys) ≡ (is_among row xs || is_among row ys)
 unfolding place_of
 among-append row [] ys = refl
 among-append row (x ∷ xs) ys =
-    among-cons row x (xs ++ ys) ∙ ap (λ (b : Bool). sameRow x row || b) (among-append row xs ys) ∙ sym (or_assoc (sameRow x row) (isAmong row xs) (isAmong row ys)) ∙ ap (λ (b : Bool). b || isAmong row ys) (sym (among-cons row x xs))
+    among-cons row x (xs ++ ys) ∙ ap (λ (b : Bool). same_row x row || b) (among-append row xs ys) ∙ sym (or_assoc (same_row x row) (is_among row xs) (is_among row ys)) ∙ ap (λ (b : Bool). b || is_among row ys) (sym (among-cons row x xs))
 
 -- ---- list by list
 module _ (t : Tables) (bins : List (List Float)) (row : List Float) where
@@ -50,7 +50,7 @@ module _ (t : Tables) (bins : List (List Float)) (row : List Float) where
   unfolding all_rows
   rows-one p = append-nil (rows_of t bins p.place)
 
-  pub among_first : (parts : List Part) → isAmong row (all_rows t bins (take 0 parts)) ≡ false
+  pub among_first : (parts : List Part) → is_among row (all_rows t bins (take 0 parts)) ≡ false
   unfolding all_rows
   among_first parts = among_none row
 
@@ -58,15 +58,15 @@ module _ (t : Tables) (bins : List (List Float)) (row : List Float) where
     abbrev here : List (List Float)
     here = rows_of t bins (get_or parts j d).place
 
-    pub among-suc : isAmong row (all_rows t bins (take (suc j) parts)) ≡ (isAmong row (all_rows t bins (take j parts)) || isAmong row here)
+    pub among-suc : is_among row (all_rows t bins (take (suc j) parts)) ≡ (is_among row (all_rows t bins (take j parts)) || is_among row here)
     among-suc =
-        ap (λ (ps : List Part). isAmong row (all_rows t bins ps)) (take-suc parts j d h) ∙ ap (isAmong row) (rows_append (take j parts) (get_or parts j d ∷ []) ∙ ap (λ (rs : List (List Float)). all_rows t bins (take j parts) ++ rs) (rows-one (get_or parts j d))) ∙ among-append row (all_rows t bins (take j parts)) here
+        ap (λ (ps : List Part). is_among row (all_rows t bins ps)) (take-suc parts j d h) ∙ ap (is_among row) (rows_append (take j parts) (get_or parts j d ∷ []) ∙ ap (λ (rs : List (List Float)). all_rows t bins (take j parts) ++ rs) (rows-one (get_or parts j d))) ∙ among-append row (all_rows t bins (take j parts)) here
 
-    pub among_later : (k : ℕ) → j < k → isAmong row (all_rows t bins (take j parts)) ≡ false → isAmong row here ≡ true → isAmong row (all_rows t bins (take k parts)) ≡ true
+    pub among_later : (k : ℕ) → j < k → is_among row (all_rows t bins (take j parts)) ≡ false → is_among row here ≡ true → is_among row (all_rows t bins (take k parts)) ≡ true
     among_later k under before found =
         let split : k ≡ suc j + (k - suc j) = omega arith in
-        let both : (isAmong row (all_rows t bins (take j parts)) || isAmong row here) ≡ true = rw (before, found) refl in
-        ap (λ (n : ℕ). isAmong row (all_rows t bins (take n parts))) split ∙ ap (λ (ps : List Part). isAmong row (all_rows t bins ps)) (take-add (suc j) (k - suc j) parts) ∙ ap (isAmong row) (rows_append (take (suc j) parts) _) ∙ among-append row (all_rows t bins (take (suc j) parts)) _ ∙ ap (λ (b : Bool). b || isAmong row (all_rows t bins (take (k - suc j) (drop (suc j) parts)))) (among-suc ∙ both)
+        let both : (is_among row (all_rows t bins (take j parts)) || is_among row here) ≡ true = rw (before, found) refl in
+        ap (λ (n : ℕ). is_among row (all_rows t bins (take n parts))) split ∙ ap (λ (ps : List Part). is_among row (all_rows t bins ps)) (take-add (suc j) (k - suc j) parts) ∙ ap (is_among row) (rows_append (take (suc j) parts) _) ∙ among-append row (all_rows t bins (take (suc j) parts)) _ ∙ ap (λ (b : Bool). b || is_among row (all_rows t bins (take (k - suc j) (drop (suc j) parts)))) (among-suc ∙ both)
 
 -- ---- the lists that take part
 

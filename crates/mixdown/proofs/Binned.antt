@@ -13,8 +13,8 @@ use Rattle.quant.specs.declared.refusal.Refusal.{Refusal}
 use Rattle.quant.specs.declared.settings.Settings.{Settings}
 use Rattle.pulse.specs.declared.bin.Bin.{Bin}
 use Rattle.pulse.specs.declared.list.Pulse.{Pulse}
-use Rattle.merge.specs.Sum.{plusP, scaledP, together, keptFrom, summedBy}
-use Rattle.merge.specs.Join.{joinedTwo, joined}
+use Rattle.merge.specs.Sum.{plus_p, scaled_p, together, kept_from, summed_by}
+use Rattle.merge.specs.Join.{joined_two, joined}
 use Rattle.placing.specs.declared.Judged.{Judged}
 use Rattle.placing.specs.declared.Judged.TheVariants as judgement
 use Rattle.placing.specs.Judged.{judged}
@@ -22,97 +22,97 @@ use Rattle.mixdown.specs.declared.runs.Run.{Run}
 use Rattle.mixdown.specs.declared.runs.Runs.{Runs}
 use Rattle.mixdown.specs.declared.runs.Picked.{Picked}
 use Rattle.mixdown.specs.declared.onto.Held.{Held}
-use Rattle.mixdown.specs.Runs.{ofMark, runIn, runsIn, movedOn}
-use Rattle.mixdown.specs.Sampled.{Rowed, Out, out, addedTo, unlessRefused, ranPulses}
+use Rattle.mixdown.specs.Runs.{of_mark, run_in, runs_in, moved_on}
+use Rattle.mixdown.specs.Sampled.{Rowed, Out, out, added_to, unless_refused, ran_pulses}
 use Rattle.mixdown.specs.Holding.{Holds, accepted}
-use Rattle.mixdown.proofs.Picks.{left, pulseOf, Picks, picked_next, picked_none}
+use Rattle.mixdown.proofs.Picks.{left, pulse_of, Picks, picked_next, picked_none}
 use Rattle.mixdown.proofs.Lengths.{i-length, q-length, scratch-length}
 
 -- ---- summing
 
 module _ (falls : Pulse → Pulse → Bool) (k x : Pulse) (ps : List Pulse) where
-  pub kept_near : falls k x ≡ true → keptFrom falls k (x ∷ ps) ≡ keptFrom falls (plusP k x) ps
-  unfolding keptFrom
+  pub kept_near : falls k x ≡ true → kept_from falls k (x ∷ ps) ≡ kept_from falls (plus_p k x) ps
+  unfolding kept_from
   kept_near e = rw e refl
 
-  pub kept-apart : falls k x ≡ false → keptFrom falls k (x ∷ ps) ≡ k ∷ keptFrom falls x ps
-  unfolding keptFrom
+  pub kept-apart : falls k x ≡ false → kept_from falls k (x ∷ ps) ≡ k ∷ kept_from falls x ps
+  unfolding kept_from
   kept-apart e = rw e refl
 
-  pub summed-first : summedBy falls (x ∷ ps) ≡ keptFrom falls x ps
-  unfolding summedBy
+  pub summed-first : summed_by falls (x ∷ ps) ≡ kept_from falls x ps
+  unfolding summed_by
   summed-first = refl
 
-pub kept-last : (falls : Pulse → Pulse → Bool) (k : Pulse) → keptFrom falls k [] ≡ k ∷ []
-unfolding keptFrom
+pub kept-last : (falls : Pulse → Pulse → Bool) (k : Pulse) → kept_from falls k [] ≡ k ∷ []
+unfolding kept_from
 kept-last falls k = refl
 
-pub summed-none : (falls : Pulse → Pulse → Bool) → summedBy falls [] ≡ []
-unfolding summedBy
+pub summed-none : (falls : Pulse → Pulse → Bool) → summed_by falls [] ≡ []
+unfolding summed_by
 summed-none falls = refl
 
 -- ---- running
 module _ (s : Settings) (b : Bin) (numbers : List Float) (rows : ℕ) where
-  pub ran-none : (n : ℕ) (st : Rowed) → ranPulses s b numbers rows [] n st ≡ out (answer.Done n) st
-  unfolding ranPulses
+  pub ran-none : (n : ℕ) (st : Rowed) → ran_pulses s b numbers rows [] n st ≡ out (answer.Done n) st
+  unfolding ran_pulses
   ran-none n st = refl
 
   module _ (p : Pulse) (ps : List Pulse) (n : ℕ) (st : Rowed) where
     abbrev j : Judged
     j = judged s b numbers p (length st.i)
 
-    pub ran_on : accepted j ≡ true → ranPulses s b numbers rows (p ∷ ps) n st ≡ ranPulses s b numbers rows ps (n + 1) (addedTo s b numbers rows j st)
-    unfolding ranPulses
-    ran_on e = go j e ∙ ap (λ (k : ℕ). ranPulses s b numbers rows ps k (addedTo s b numbers rows j st)) (sym (add-one n))
+    pub ran_on : accepted j ≡ true → ran_pulses s b numbers rows (p ∷ ps) n st ≡ ran_pulses s b numbers rows ps (n + 1) (added_to s b numbers rows j st)
+    unfolding ran_pulses
+    ran_on e = go j e ∙ ap (λ (k : ℕ). ran_pulses s b numbers rows ps k (added_to s b numbers rows j st)) (sym (add-one n))
       where
-        go : (d : Judged) → accepted d ≡ true → unlessRefused d n st (ranPulses s b numbers rows ps (suc n) (addedTo s b numbers rows j st)) ≡ ranPulses s b numbers rows ps (suc n) (addedTo s b numbers rows j st)
+        go : (d : Judged) → accepted d ≡ true → unless_refused d n st (ran_pulses s b numbers rows ps (suc n) (added_to s b numbers rows j st)) ≡ ran_pulses s b numbers rows ps (suc n) (added_to s b numbers rows j st)
         go (judgement.Plateau f) t = refl
         go (judgement.Shaped c) t = refl
         go (judgement.Refused r) t = absurd (true≢false (sym t))
 
-    pub ran-refused : (r : Refusal) → j ≡ judgement.Refused r → ranPulses s b numbers rows (p ∷ ps) n st ≡ out (answer.Refused r n) st
-    unfolding ranPulses
-    ran-refused r e = ap (λ (d : Judged). unlessRefused d n st (ranPulses s b numbers rows ps (suc n) (addedTo s b numbers rows j st))) e
+    pub ran-refused : (r : Refusal) → j ≡ judgement.Refused r → ran_pulses s b numbers rows (p ∷ ps) n st ≡ out (answer.Refused r n) st
+    unfolding ran_pulses
+    ran-refused r e = ap (λ (d : Judged). unless_refused d n st (ran_pulses s b numbers rows ps (suc n) (added_to s b numbers rows j st))) e
 
 -- ---- how many there are
 
-of-mark-length : (mark : ℕ) (ps : List Pulse) → length (ofMark mark ps) ≤ length ps
-unfolding ofMark
+of-mark-length : (mark : ℕ) (ps : List Pulse) → length (of_mark mark ps) ≤ length ps
+unfolding of_mark
 of-mark-length mark [] = omega arith
 of-mark-length mark (p ∷ ps) = go (eqb p.bin mark) (of-mark-length mark ps)
   where
-    go : (d : Bool) → length (ofMark mark ps) ≤ length ps → length (cond d (p ∷ ofMark mark ps) (ofMark mark ps)) ≤ suc (length ps)
+    go : (d : Bool) → length (of_mark mark ps) ≤ length ps → length (cond d (p ∷ of_mark mark ps) (of_mark mark ps)) ≤ suc (length ps)
     go true h = omega arith
     go false h = omega arith
 
-two-length : (xs ys : List Pulse) → length (joinedTwo xs ys) ≡ length xs + length ys
-unfolding joinedTwo
+two-length : (xs ys : List Pulse) → length (joined_two xs ys) ≡ length xs + length ys
+unfolding joined_two
 two-length [] ys = omega arith
 two-length (x ∷ xs) [] = omega arith
 two-length (x ∷ xs) (y ∷ ys) = go (lt y.time.0 x.time.0) (two-length (x ∷ xs) ys) (two-length xs (y ∷ ys))
   where
-    go : (d : Bool) → length (joinedTwo (x ∷ xs) ys) ≡ suc (length xs) + length ys → length (joinedTwo xs (y ∷ ys)) ≡ length xs + suc (length ys) → length (cond d (y ∷ joinedTwo (x ∷ xs) ys) (x ∷ joinedTwo xs (y ∷ ys))) ≡ suc (length xs) + suc (length ys)
+    go : (d : Bool) → length (joined_two (x ∷ xs) ys) ≡ suc (length xs) + length ys → length (joined_two xs (y ∷ ys)) ≡ length xs + suc (length ys) → length (cond d (y ∷ joined_two (x ∷ xs) ys) (x ∷ joined_two xs (y ∷ ys))) ≡ suc (length xs) + suc (length ys)
     go true e f = omega (arith, e)
     go false e f = omega (arith, f)
 
-run_length : (all : List Pulse) (r : Run) → length (runIn all r) ≤ length all
+run_length : (all : List Pulse) (r : Run) → length (run_in all r) ≤ length all
 run_length all r =
-    let a = length-map (ofMark r.mark (take (r.end - r.at) (drop r.at all))) (scaledP r.factor) in
+    let a = length-map (of_mark r.mark (take (r.end - r.at) (drop r.at all))) (scaled_p r.factor) in
     let b = of-mark-length r.mark (take (r.end - r.at) (drop r.at all)) in
     let c = length-take (r.end - r.at) (drop r.at all) in
     let d = length-drop r.at all in
     omega (arith, a, b, c, d)
 
-pub joined_length : (all : List Pulse) (rs : List Run) → length all ≤ 8192 → length (joined (map (runIn all) rs)) ≤ length rs * 8192
+pub joined_length : (all : List Pulse) (rs : List Run) → length all ≤ 8192 → length (joined (map (run_in all) rs)) ≤ length rs * 8192
 unfolding joined
 joined_length all [] h = omega arith
 joined_length all (r ∷ rs) h =
-    let a = two-length (runIn all r) (joined (map (runIn all) rs)) in
+    let a = two-length (run_in all r) (joined (map (run_in all) rs)) in
     let b = run_length all r in
     let c = joined_length all rs h in
     omega (arith, a, b, c, h)
 
-pub few : (all : List Pulse) (r : Runs) → length all ≤ 8192 → r.count ≤ 8 → length (joined (runsIn all r)) ≤ 65536
+pub few : (all : List Pulse) (r : Runs) → length all ≤ 8192 → r.count ≤ 8 → length (joined (runs_in all r)) ≤ 65536
 few all r h k =
     let a = joined_length all (take r.count r.runs) h in
     let b = length-take r.count r.runs in
@@ -121,7 +121,7 @@ few all r h k =
 -- ---- the loop: kept is not yet added, what r has left is not yet looked at
 
 abbrev pub todo : Settings → Bin → List Float → Float → List (List Float) → List ℕ → ℕ → Pulse → Runs → ℕ → Rowed → Out
-todo s b numbers tolerance work marks rows kept r n st = ranPulses s b numbers rows (keptFrom (together tolerance) kept (left work marks r)) n st
+todo s b numbers tolerance work marks rows kept r n st = ran_pulses s b numbers rows (kept_from (together tolerance) kept (left work marks r)) n st
 
 module _ (s : Settings) (b : Bin) (numbers : List Float) (tolerance : Float) (work : List (List Float)) (marks : List ℕ) (rows : ℕ) where
   pub record Going (all : Out) (st₀ st : Rowed) (r : Runs) (p : Picked) (kept : Pulse) (held : Held) (n : ℕ) : Type 0 where
@@ -136,19 +136,19 @@ module _ (s : Settings) (b : Bin) (numbers : List Float) (tolerance : Float) (wo
 -- one turn, from what holds before it
 module _ {s : Settings} {b : Bin} {numbers : List Float} {tolerance : Float} {work : List (List Float)} {marks : List ℕ} {rows : ℕ} {all : Out} {st₀ st : Rowed} {r : Runs} {p : Picked} {kept : Pulse} {held : Held} {n : ℕ} (g : Going s b numbers tolerance work marks rows all st₀ st r p kept held n) where
   abbrev x : Pulse
-  x = pulseOf work marks r p
+  x = pulse_of work marks r p
 
   abbrev verdict : Judged
   verdict = judged s b numbers kept (length st.i)
 
-  pub less : p.some ≡ true → (r' : Runs) → r' ≡ movedOn marks r p → length (left work marks r') < length (left work marks r)
+  pub less : p.some ≡ true → (r' : Runs) → r' ≡ moved_on marks r p → length (left work marks r') < length (left work marks r)
   less e r' is = rw is (let k = ap length (picked_next g.picks e) in omega (arith, k))
 
-  todo-next : p.some ≡ true → (r' : Runs) → r' ≡ movedOn marks r p → ranPulses s b numbers rows (keptFrom (together tolerance) kept (x ∷ left work marks r')) n st ≡ all
-  todo-next e r' is = rw is (ap (λ (ps : List Pulse). ranPulses s b numbers rows (keptFrom (together tolerance) kept ps) n st) (sym (picked_next g.picks e)) ∙ g.whole)
+  todo_next : p.some ≡ true → (r' : Runs) → r' ≡ moved_on marks r p → ran_pulses s b numbers rows (kept_from (together tolerance) kept (x ∷ left work marks r')) n st ≡ all
+  todo_next e r' is = rw is (ap (λ (ps : List Pulse). ran_pulses s b numbers rows (kept_from (together tolerance) kept ps) n st) (sym (picked_next g.picks e)) ∙ g.whole)
 
   -- the next falls together with the kept one
-  pub near-turn : p.some ≡ true → (r' : Runs) → r' ≡ movedOn marks r p → (p' : Picked) → Picks work marks r' p' → together tolerance kept x ≡ true → Going s b numbers tolerance work marks rows all st₀ st r' p' (plusP kept x) held n
+  pub near-turn : p.some ≡ true → (r' : Runs) → r' ≡ moved_on marks r p → (p' : Picked) → Picks work marks r' p' → together tolerance kept x ≡ true → Going s b numbers tolerance work marks rows all st₀ st r' p' (plus_p kept x) held n
   near-turn e r' is p' next near =
       record {
         same-i = g.same-i;
@@ -157,17 +157,17 @@ module _ {s : Settings} {b : Bin} {numbers : List Float} {tolerance : Float} {wo
         picks = next;
         holds = g.holds;
         few-added = let k = less e r' is in omega (arith, k, g.few-added);
-        whole = ap (λ (ps : List Pulse). ranPulses s b numbers rows ps n st) (sym (kept_near (together tolerance) kept x (left work marks r') near)) ∙ todo-next e r' is;
+        whole = ap (λ (ps : List Pulse). ran_pulses s b numbers rows ps n st) (sym (kept_near (together tolerance) kept x (left work marks r') near)) ∙ todo_next e r' is;
       }
 
   -- it does not: the kept one is added
-  apart-is : p.some ≡ true → (r' : Runs) → r' ≡ movedOn marks r p → together tolerance kept x ≡ false → ranPulses s b numbers rows (kept ∷ keptFrom (together tolerance) x (left work marks r')) n st ≡ all
-  apart-is e r' is apart = ap (λ (ps : List Pulse). ranPulses s b numbers rows ps n st) (sym (kept-apart (together tolerance) kept x (left work marks r') apart)) ∙ todo-next e r' is
+  apart-is : p.some ≡ true → (r' : Runs) → r' ≡ moved_on marks r p → together tolerance kept x ≡ false → ran_pulses s b numbers rows (kept ∷ kept_from (together tolerance) x (left work marks r')) n st ≡ all
+  apart-is e r' is apart = ap (λ (ps : List Pulse). ran_pulses s b numbers rows ps n st) (sym (kept-apart (together tolerance) kept x (left work marks r') apart)) ∙ todo_next e r' is
 
-  last-is : p.some ≡ false → ranPulses s b numbers rows (kept ∷ []) n st ≡ all
-  last-is e = ap (λ (ps : List Pulse). ranPulses s b numbers rows ps n st) (sym (kept-last (together tolerance) kept) ∙ ap (keptFrom (together tolerance) kept) (sym (picked_none g.picks e))) ∙ g.whole
+  last-is : p.some ≡ false → ran_pulses s b numbers rows (kept ∷ []) n st ≡ all
+  last-is e = ap (λ (ps : List Pulse). ran_pulses s b numbers rows ps n st) (sym (kept-last (together tolerance) kept) ∙ ap (kept_from (together tolerance) kept) (sym (picked_none g.picks e))) ∙ g.whole
 
-  module _ {st' : Rowed} (after : st' ≡ addedTo s b numbers rows verdict st) where
+  module _ {st' : Rowed} (after : st' ≡ added_to s b numbers rows verdict st) where
     pub i-same : length st'.i ≡ length st₀.i
     i-same = ap (λ (o : Rowed). length o.i) after ∙ i-length s b numbers rows st verdict ∙ g.same-i
 
@@ -177,7 +177,7 @@ module _ {s : Settings} {b : Bin} {numbers : List Float} {tolerance : Float} {wo
     pub scratch-same : length st₀.i ≤ length st₀.scratch → length st'.scratch ≡ length st₀.scratch
     scratch-same h = ap (λ (o : Rowed). length o.scratch) after ∙ scratch-length s b numbers rows st (omega (arith, h, g.same-i, g.same-scratch)) verdict ∙ g.same-scratch
 
-    pub on-turn : length st₀.i ≤ length st₀.scratch → p.some ≡ true → (r' : Runs) → r' ≡ movedOn marks r p → (p' : Picked) → Picks work marks r' p' → together tolerance kept x ≡ false
+    pub on-turn : length st₀.i ≤ length st₀.scratch → p.some ≡ true → (r' : Runs) → r' ≡ moved_on marks r p → (p' : Picked) → Picks work marks r' p' → together tolerance kept x ≡ false
         → accepted verdict ≡ true → (h : Held) → Holds s b numbers h st'.scratch → Going s b numbers tolerance work marks rows all st₀ st' r' p' x h (n + 1)
     on-turn short e r' is p' next apart taken h holds =
         record {
@@ -187,17 +187,17 @@ module _ {s : Settings} {b : Bin} {numbers : List Float} {tolerance : Float} {wo
           picks = next;
           holds = holds;
           few-added = let k = less e r' is in omega (arith, k, g.few-added);
-          whole = ap (ranPulses s b numbers rows (keptFrom (together tolerance) x (left work marks r')) (n + 1)) after ∙ sym (ran_on s b numbers rows kept (keptFrom (together tolerance) x (left work marks r')) n st taken) ∙ apart-is e r' is apart;
+          whole = ap (ran_pulses s b numbers rows (kept_from (together tolerance) x (left work marks r')) (n + 1)) after ∙ sym (ran_on s b numbers rows kept (kept_from (together tolerance) x (left work marks r')) n st taken) ∙ apart-is e r' is apart;
         }
 
     stays : (why : Refusal) → verdict ≡ judgement.Refused why → st' ≡ st
-    stays why e = after ∙ ap (λ (d : Judged). addedTo s b numbers rows d st) e
+    stays why e = after ∙ ap (λ (d : Judged). added_to s b numbers rows d st) e
 
     pub refused-turn : p.some ≡ true → together tolerance kept x ≡ false → (why : Refusal) → verdict ≡ judgement.Refused why → out (answer.Refused why n) st' ≡ all
-    refused-turn e apart why not-ok = ap (out (answer.Refused why n)) (stays why not-ok) ∙ sym (ran-refused s b numbers rows kept (keptFrom (together tolerance) x (left work marks (movedOn marks r p))) n st why not-ok) ∙ apart-is e (movedOn marks r p) refl apart
+    refused-turn e apart why not-ok = ap (out (answer.Refused why n)) (stays why not-ok) ∙ sym (ran-refused s b numbers rows kept (kept_from (together tolerance) x (left work marks (moved_on marks r p))) n st why not-ok) ∙ apart-is e (moved_on marks r p) refl apart
 
     pub on-last : p.some ≡ false → accepted verdict ≡ true → out (answer.Done (n + 1)) st' ≡ all
-    on-last e taken = ap (out (answer.Done (n + 1))) after ∙ sym (ran-none s b numbers rows (n + 1) (addedTo s b numbers rows verdict st)) ∙ sym (ran_on s b numbers rows kept [] n st taken) ∙ last-is e
+    on-last e taken = ap (out (answer.Done (n + 1))) after ∙ sym (ran-none s b numbers rows (n + 1) (added_to s b numbers rows verdict st)) ∙ sym (ran_on s b numbers rows kept [] n st taken) ∙ last-is e
 
     pub refused-last : p.some ≡ false → (why : Refusal) → verdict ≡ judgement.Refused why → out (answer.Refused why n) st' ≡ all
     refused-last e why not-ok = ap (out (answer.Refused why n)) (stays why not-ok) ∙ sym (ran-refused s b numbers rows kept [] n st why not-ok) ∙ last-is e

@@ -19,8 +19,8 @@ use Rattle.shape.specs.declared.parts.Parts.{Parts}
 use Rattle.shape.specs.declared.parts.Parted.{Parted}
 use Rattle.shape.specs.declared.parts.Parted.TheVariants.{Within, Refused}
 use Rattle.shape.specs.declared.envelope.Enveloped.TheVariants as enveloped
-use Rattle.shape.specs.Parts.{index_at, t1, t3, unbroken, broken, ordered, partedOf}
-use Rattle.shape.specs.Envelope.{least, Fitting, shape_of, finePoints, scratchFilled, envelopedOf, scratchAfter}
+use Rattle.shape.specs.Parts.{index_at, t1, t3, unbroken, broken, ordered, parted_of}
+use Rattle.shape.specs.Envelope.{least, Fitting, shape_of, fine_points, scratch_filled, enveloped_of, scratch_after}
 use Rattle.shape.proofs.Filling.{within-fits, fits_more, least-left}
 use Rattle.shape.proofs.Envelopes.{scratch-length, rest-stays}
 use Rattle.mixdown.specs.Sampled.{parts_at}
@@ -33,8 +33,8 @@ module _ (w p o rate dt : Float) where
   abbrev roomy : Parted
   roomy = cond (eq p nought) (Within (unbroken w p o rate dt n)) (ordered (broken w p o rate dt n))
 
-  roomy-is : (room : ℕ) (q : Parts) → partedOf w p o rate dt room ≡ Within q → roomy ≡ Within q
-  unfolding partedOf
+  roomy-is : (room : ℕ) (q : Parts) → parted_of w p o rate dt room ≡ Within q → roomy ≡ Within q
+  unfolding parted_of
   roomy-is room q e = go (lt (t1 w p o rate dt) nought) (ltb room n) e
     where
       go : (a b : Bool) → cond a (Refused ShapeTooShort) (cond b (Refused EndPastRow) roomy) ≡ Within q → roomy ≡ Within q
@@ -42,7 +42,7 @@ module _ (w p o rate dt : Float) where
       go false true f = let z : ◌≡◌ {A = ℕ} 0 1 = cc in absurd (omega arith)
       go false false f = f
 
-  parts_same : (room room' : ℕ) (q q' : Parts) → partedOf w p o rate dt room ≡ Within q → partedOf w p o rate dt room' ≡ Within q' → q ≡ q'
+  parts_same : (room room' : ℕ) (q q' : Parts) → parted_of w p o rate dt room ≡ Within q → parted_of w p o rate dt room' ≡ Within q' → q ≡ q'
   parts_same room room' q q' e f = let same : Within q ≡ Within q' = sym (roomy-is room q e) ∙ roomy-is room' q' f in cc
 
 -- ---- filled twice
@@ -50,15 +50,15 @@ module _ (shape : Shape) (numbers : List Float) (q : Parts) (old : List Float) (
   abbrev once : List Float
   once = shape_of shape numbers q ++ drop q.length old
 
-  filled-twice : scratchFilled shape numbers q (scratchFilled shape numbers q old) ≡ scratchFilled shape numbers q old
-  filled-twice = go (finePoints shape numbers q)
+  filled-twice : scratch_filled shape numbers q (scratch_filled shape numbers q old) ≡ scratch_filled shape numbers q old
+  filled-twice = go (fine_points shape numbers q)
     where
       go : (b : Bool) → cond b (shape_of shape numbers q ++ drop q.length (cond b once old)) (cond b once old) ≡ cond b once old
       go true = ap (λ (l : List Float). shape_of shape numbers q ++ l) (rest-stays shape numbers q old fit)
       go false = refl
 
-  filled-length : length (scratchFilled shape numbers q old) ≡ length old
-  filled-length = go (finePoints shape numbers q)
+  filled-length : length (scratch_filled shape numbers q old) ≡ length old
+  filled-length = go (fine_points shape numbers q)
     where
       go : (b : Bool) → length (cond b once old) ≡ length old
       go true = scratch-length shape numbers q old fit
@@ -72,20 +72,20 @@ module _ (s : Settings) (b : Bin) (numbers : List Float) (offset : Float) (room 
   fitting q e = fits_more q (least room 65536) (length old) (let less = least-left room 65536 in omega (arith, less)) (within-fits (least room 65536) q _ _ _ _ _ e)
 
   -- the scratch is as long as before
-  pub after-length : length (scratchAfter shape numbers (parts_at s b offset room) old) ≡ length old
+  pub after-length : length (scratch_after shape numbers (parts_at s b offset room) old) ≡ length old
   after-length = go (parts_at s b offset room) refl
     where
-      go : (d : Parted) → parts_at s b offset room ≡ d → length (scratchAfter shape numbers d old) ≡ length old
+      go : (d : Parted) → parts_at s b offset room ≡ d → length (scratch_after shape numbers d old) ≡ length old
       go (Within q) e = filled-length shape numbers q old (fitting q e)
       go (Refused r) e = refl
 
   -- and holds the envelope
-  pub holds_after : (k : ℕ) → envelopedOf shape numbers (parts_at s b offset room) ≡ enveloped.Points k → (room' : ℕ)
-      → scratchAfter shape numbers (parts_at s b offset room') (scratchAfter shape numbers (parts_at s b offset room) old) ≡ scratchAfter shape numbers (parts_at s b offset room) old
+  pub holds_after : (k : ℕ) → enveloped_of shape numbers (parts_at s b offset room) ≡ enveloped.Points k → (room' : ℕ)
+      → scratch_after shape numbers (parts_at s b offset room') (scratch_after shape numbers (parts_at s b offset room) old) ≡ scratch_after shape numbers (parts_at s b offset room) old
   holds_after k points room' = go (parts_at s b offset room) refl points (parts_at s b offset room') refl
     where
-      go : (d : Parted) → parts_at s b offset room ≡ d → envelopedOf shape numbers d ≡ enveloped.Points k → (d' : Parted) → parts_at s b offset room' ≡ d'
-          → scratchAfter shape numbers d' (scratchAfter shape numbers d old) ≡ scratchAfter shape numbers d old
+      go : (d : Parted) → parts_at s b offset room ≡ d → enveloped_of shape numbers d ≡ enveloped.Points k → (d' : Parted) → parts_at s b offset room' ≡ d'
+          → scratch_after shape numbers d' (scratch_after shape numbers d old) ≡ scratch_after shape numbers d old
       go (Refused r) e f d' e' = let z : ◌≡◌ {A = ℕ} 0 1 = cc in absurd (omega arith)
       go (Within q) e f (Refused r) e' = refl
       go (Within q) e f (Within q') e' = rw (parts_same _ _ _ _ _ (least room' 65536) (least room 65536) q' q e' e) (filled-twice shape numbers q old (fitting q e))

@@ -11,34 +11,34 @@ use lib.ListN.{length, take, get_or, set, length-take, get_or-eq_default}
 use lib.Seq.{take-set-lt, get_or-take, get_or-set_same, get_or-set_other, set_out}
 use borrow.Author.Tests.{ltb-true, ltb-false, eqb-true, eqb-false}
 use Rattle.pulse.specs.declared.list.Pulse.{Pulse}
-use Rattle.merge.specs.Sum.{scaledP}
-use Rattle.merge.specs.Join.{joinedTwo, joined}
+use Rattle.merge.specs.Sum.{scaled_p}
+use Rattle.merge.specs.Join.{joined_two, joined}
 use Rattle.merge.proofs.Next.{joined-none}
 use Rattle.mixdown.specs.declared.runs.Run.{Run}
 use Rattle.mixdown.specs.declared.runs.Runs.{Runs}
 use Rattle.mixdown.specs.declared.runs.Picked.{Picked}
-use Rattle.mixdown.specs.Runs.{pulseAt, pulsesIn, runIn, runsIn, timeAt, picked, no_run, advancedBy, better, pickedFrom, pickedIn, behind, movedOn, Within}
+use Rattle.mixdown.specs.Runs.{pulse_at, pulses_in, run_in, runs_in, time_at, picked, no_run, advanced_by, better, picked_from, picked_in, behind, moved_on, Within}
 use Rattle.mixdown.proofs.Marked.{run-next, run_none}
 
 -- ---- joining
 
-nil-two : (ys : List Pulse) → joinedTwo [] ys ≡ ys
-unfolding joinedTwo
+nil-two : (ys : List Pulse) → joined_two [] ys ≡ ys
+unfolding joined_two
 nil-two ys = refl
 
-two-cons : (x y : Pulse) (xs ys : List Pulse) → joinedTwo (x ∷ xs) (y ∷ ys) ≡ cond (lt y.time.0 x.time.0) (y ∷ joinedTwo (x ∷ xs) ys) (x ∷ joinedTwo xs (y ∷ ys))
-unfolding joinedTwo
+two-cons : (x y : Pulse) (xs ys : List Pulse) → joined_two (x ∷ xs) (y ∷ ys) ≡ cond (lt y.time.0 x.time.0) (y ∷ joined_two (x ∷ xs) ys) (x ∷ joined_two xs (y ∷ ys))
+unfolding joined_two
 two-cons x y xs ys = refl
 
 module _ (work : List (List Float)) (marks : List ℕ) (same : length work ≡ length marks) (full : length marks ≡ 8192) where
   abbrev all : List Pulse
-  all = pulsesIn work marks
+  all = pulses_in work marks
 
   abbrev lists : List Run → List (List Pulse)
-  lists rs = map (runIn all) rs
+  lists rs = map (run_in all) rs
 
   abbrev pulse : List Run → ℕ → ℕ → Pulse
-  pulse rs i at = scaledP (get_or rs i no_run).factor (pulseAt work marks at)
+  pulse rs i at = scaled_p (get_or rs i no_run).factor (pulse_at work marks at)
 
   abbrev later : List Run → ℕ → ℕ → List Run
   later rs i at = set rs i (behind marks at (get_or rs i no_run))
@@ -54,7 +54,7 @@ module _ (work : List (List Float)) (marks : List ℕ) (same : length work ≡ l
   -- ---- one list before others
   module _ (k : ℕ) (r : Run) (rs : List Run) (within : r.end ≤ length marks) where
     -- none is left of it
-    passed_over : (p : Picked) → r.end ≤ advancedBy marks r → First (suc k) rs p → First k (r ∷ rs) p
+    passed_over : (p : Picked) → r.end ≤ advanced_by marks r → First (suc k) rs p → First k (r ∷ rs) p
     unfolding joined
     passed_over p h rest =
         record {
@@ -66,20 +66,20 @@ module _ (work : List (List Float)) (marks : List ℕ) (same : length work ≡ l
         }
 
     abbrev j : ℕ
-    j = advancedBy marks r
+    j = advanced_by marks r
 
     abbrev x : Pulse
-    x = scaledP r.factor (pulseAt work marks j)
+    x = scaled_p r.factor (pulse_at work marks j)
 
     module _ (h : j < r.end) where
       mine : k - k ≡ 0
       mine = omega arith
 
-      next : runIn all r ≡ x ∷ runIn all (behind marks j r)
+      next : run_in all r ≡ x ∷ run_in all (behind marks j r)
       next = run-next work marks same r within h
 
       -- it is picked: nothing is left of the others, or their best is not earlier
-      taken : joined (lists (r ∷ rs)) ≡ x ∷ joinedTwo (runIn all (behind marks j r)) (joined (lists rs)) → First k (r ∷ rs) (picked k j)
+      taken : joined (lists (r ∷ rs)) ≡ x ∷ joined_two (run_in all (behind marks j r)) (joined (lists rs)) → First k (r ∷ rs) (picked k j)
       unfolding joined
       taken e =
           record {
@@ -98,11 +98,11 @@ module _ (work : List (List Float)) (marks : List ℕ) (same : length work ≡ l
         abbrev y : Pulse
         y = pulse rs (p.list - suc k) p.at
 
-        both : joined (lists (r ∷ rs)) ≡ cond (lt (timeAt work p.at) (timeAt work j)) (y ∷ joinedTwo (x ∷ runIn all (behind marks j r)) (joined (lists (later rs (p.list - suc k) p.at)))) (x ∷ joinedTwo (runIn all (behind marks j r)) (joined (lists rs)))
+        both : joined (lists (r ∷ rs)) ≡ cond (lt (time_at work p.at) (time_at work j)) (y ∷ joined_two (x ∷ run_in all (behind marks j r)) (joined (lists (later rs (p.list - suc k) p.at)))) (x ∷ joined_two (run_in all (behind marks j r)) (joined (lists rs)))
         unfolding joined
         both = rw (next, rest.one e) (two-cons x y _ _)
 
-        beaten : lt (timeAt work p.at) (timeAt work j) ≡ true → First k (r ∷ rs) p
+        beaten : lt (time_at work p.at) (time_at work j) ≡ true → First k (r ∷ rs) p
         unfolding joined
         beaten t =
             let i : p.list - k ≡ suc (p.list - suc k) = omega (arith, rest.from e) in
@@ -114,13 +114,13 @@ module _ (work : List (List Float)) (marks : List ℕ) (same : length work ≡ l
               row = rest.row;
             }
 
-        kept : lt (timeAt work p.at) (timeAt work j) ≡ false → First k (r ∷ rs) (picked k j)
+        kept : lt (time_at work p.at) (time_at work j) ≡ false → First k (r ∷ rs) (picked k j)
         kept t = taken (both ∙ rw t refl)
 
     first_of : (p : Picked) → First (suc k) rs p → First k (r ∷ rs) (better work k j r.end p)
-    first_of p rest = go (ltb j r.end) refl p.some refl (lt (timeAt work p.at) (timeAt work j)) refl
+    first_of p rest = go (ltb j r.end) refl p.some refl (lt (time_at work p.at) (time_at work j)) refl
       where
-        go : (b : Bool) → ltb j r.end ≡ b → (s : Bool) → p.some ≡ s → (d : Bool) → lt (timeAt work p.at) (timeAt work j) ≡ d → First k (r ∷ rs) (cond b (cond (s && d) p (picked k j)) p)
+        go : (b : Bool) → ltb j r.end ≡ b → (s : Bool) → p.some ≡ s → (d : Bool) → lt (time_at work p.at) (time_at work j) ≡ d → First k (r ∷ rs) (cond b (cond (s && d) p (picked k j)) p)
         go false e s f d g = passed_over p (ltb-false j r.end e) rest
         go true e false f d g = alone (ltb-true j r.end e) p f rest
         go true e true f true g = beaten (ltb-true j r.end e) p f rest g
@@ -130,8 +130,8 @@ module _ (work : List (List Float)) (marks : List ℕ) (same : length work ≡ l
   unfolding joined
   joined-nil = refl
 
-  pub first : (k : ℕ) (rs : List Run) → ((i : ℕ) → (get_or rs i no_run).end ≤ 8192) → First k rs (pickedFrom work marks k rs)
-  unfolding pickedFrom
+  pub first : (k : ℕ) (rs : List Run) → ((i : ℕ) → (get_or rs i no_run).end ≤ 8192) → First k rs (picked_from work marks k rs)
+  unfolding picked_from
   first k [] w =
       let no : true ≡ false → ⊥ = true≢false in
       record {
@@ -164,7 +164,7 @@ within-set rs k r h w = record { each = λ i. by i (eqb i k) refl (ltb k (length
 
 module _ (work : List (List Float)) (marks : List ℕ) (same : length work ≡ length marks) (full : length marks ≡ 8192) (r : Runs) (most : r.count ≤ length r.runs) (w : Within r.runs) where
   abbrev p : Picked
-  p = pickedIn work marks r
+  p = picked_in work marks r
 
   abbrev run : Run
   run = get_or r.runs p.list no_run
@@ -172,24 +172,24 @@ module _ (work : List (List Float)) (marks : List ℕ) (same : length work ≡ l
   abbrev found : First work marks same full 0 (take r.count r.runs) p
   found = first work marks same full 0 (take r.count r.runs) (within-take r.count r.runs w)
 
-  pub none_left : p.some ≡ false → joined (runsIn (pulsesIn work marks) r) ≡ []
+  pub none_left : p.some ≡ false → joined (runs_in (pulses_in work marks) r) ≡ []
   none_left e = found.none e
 
-  pub in-lists : p.some ≡ true → p.list < r.count
-  in-lists e = let under = found.under e in let long = length-take r.count r.runs in omega (arith, under, long)
+  pub in_lists : p.some ≡ true → p.list < r.count
+  in_lists e = let under = found.under e in let long = length-take r.count r.runs in omega (arith, under, long)
 
   pub in_rows : p.some ≡ true → p.at < 8192
   in_rows e = found.row e
 
   -- the pulse picked, and the rest
-  pub next-left : p.some ≡ true → joined (runsIn (pulsesIn work marks) r) ≡ scaledP run.factor (pulseAt work marks p.at) ∷ joined (runsIn (pulsesIn work marks) (movedOn marks r p))
+  pub next-left : p.some ≡ true → joined (runs_in (pulses_in work marks) r) ≡ scaled_p run.factor (pulse_at work marks p.at) ∷ joined (runs_in (pulses_in work marks) (moved_on marks r p))
   next-left e =
-      let here = in-lists e in
+      let here = in_lists e in
       let cell = get_or-take r.count r.runs p.list no_run here in
       let whole = take-set-lt r.count r.runs p.list (behind marks p.at run) here in
       let it : First work marks same full 0 (take r.count r.runs) p = found in
       let off : p.list - 0 ≡ p.list = omega arith in
-      it.one e ∙ ap (λ (i : ℕ). pulse work marks same full (take r.count r.runs) i p.at ∷ joined (lists work marks same full (later work marks same full (take r.count r.runs) i p.at))) off ∙ ap (λ (x : Run). scaledP x.factor (pulseAt work marks p.at) ∷ joined (lists work marks same full (set (take r.count r.runs) p.list (behind marks p.at x)))) cell ∙ ap (λ (rs : List Run). scaledP run.factor (pulseAt work marks p.at) ∷ joined (lists work marks same full rs)) (sym whole)
+      it.one e ∙ ap (λ (i : ℕ). pulse work marks same full (take r.count r.runs) i p.at ∷ joined (lists work marks same full (later work marks same full (take r.count r.runs) i p.at))) off ∙ ap (λ (x : Run). scaled_p x.factor (pulse_at work marks p.at) ∷ joined (lists work marks same full (set (take r.count r.runs) p.list (behind marks p.at x)))) cell ∙ ap (λ (rs : List Run). scaled_p run.factor (pulse_at work marks p.at) ∷ joined (lists work marks same full rs)) (sym whole)
 
-  pub within-moved : Within (movedOn marks r p).runs
+  pub within-moved : Within (moved_on marks r p).runs
   within-moved = within-set r.runs p.list (behind marks p.at run) (w.each p.list) w

@@ -15,9 +15,9 @@ use Rattle.quant.specs.declared.refusal.Refusal.{Refusal}
 use Rattle.quant.specs.declared.settings.Settings.{Settings}
 use Rattle.pulse.specs.declared.bin.Bin.{Bin}
 use Rattle.pulse.specs.declared.list.Pulse.{Pulse}
-use Rattle.pulse.specs.Bin.{bin_of, numbersOf}
+use Rattle.pulse.specs.Bin.{bin_of, numbers_of}
 use Rattle.tables.specs.declared.Tables.{Tables}
-use Rattle.merge.specs.Sum.{together, summedAgain}
+use Rattle.merge.specs.Sum.{together, summed_again}
 use Rattle.merge.specs.Join.{joined}
 use Rattle.merge.specs.Taking.{Part}
 use Rattle.merge.proofs.Kept.{summed-length}
@@ -26,10 +26,10 @@ use Rattle.placing.specs.declared.Judged.TheVariants as judgement
 use Rattle.placing.specs.Judged.{judged}
 use Rattle.mixdown.specs.declared.runs.Run.{Run}
 use Rattle.mixdown.specs.declared.runs.Runs.{Runs}
-use Rattle.mixdown.specs.Runs.{pulsesIn, runIn, runsIn}
-use Rattle.mixdown.specs.Bins.{isAmong, firstsAfter}
-use Rattle.mixdown.specs.Starts.{runsForFrom, mergedIn}
-use Rattle.mixdown.specs.Sampled.{Rowed, Out, out, addedTo, unlessRefused, ranPulses, and_then, ranBins}
+use Rattle.mixdown.specs.Runs.{pulses_in, run_in, runs_in}
+use Rattle.mixdown.specs.Bins.{is_among, firsts_after}
+use Rattle.mixdown.specs.Starts.{runs_for_from, merged_in}
+use Rattle.mixdown.specs.Sampled.{Rowed, Out, out, added_to, unless_refused, ran_pulses, and_then, ran_bins}
 use Rattle.mixdown.proofs.Lengths.{i-length, q-length, scratch-length}
 use Rattle.mixdown.proofs.Marked.{pulses-length}
 use Rattle.mixdown.proofs.Binned.{joined_length}
@@ -38,35 +38,35 @@ use Rattle.mixdown.proofs.Starting.{runs-few}
 -- ---- bins by first appearance
 
 module _ (before : List (List Float)) (r : List Float) (rs : List (List Float)) where
-  pub firsts-seen : isAmong r before ≡ true → firstsAfter before (r ∷ rs) ≡ firstsAfter (before ++ (r ∷ [])) rs
-  unfolding firstsAfter
+  pub firsts-seen : is_among r before ≡ true → firsts_after before (r ∷ rs) ≡ firsts_after (before ++ (r ∷ [])) rs
+  unfolding firsts_after
   firsts-seen e = rw e refl
 
-  pub firsts-new : isAmong r before ≡ false → firstsAfter before (r ∷ rs) ≡ r ∷ firstsAfter (before ++ (r ∷ [])) rs
-  unfolding firstsAfter
+  pub firsts-new : is_among r before ≡ false → firsts_after before (r ∷ rs) ≡ r ∷ firsts_after (before ++ (r ∷ [])) rs
+  unfolding firsts_after
   firsts-new e = rw e refl
 
-pub firsts-none : (before : List (List Float)) → firstsAfter before [] ≡ []
-unfolding firstsAfter
+pub firsts-none : (before : List (List Float)) → firsts_after before [] ≡ []
+unfolding firsts_after
 firsts-none before = refl
 
-pub firsts-append : (before xs ys : List (List Float)) → firstsAfter before (xs ++ ys) ≡ firstsAfter before xs ++ firstsAfter (before ++ xs) ys
-unfolding firstsAfter
-firsts-append before [] ys = ap (λ (b : List (List Float)). firstsAfter b ys) (sym (append-nil before))
-firsts-append before (x ∷ xs) ys = go (isAmong x before) (firsts-append (before ++ (x ∷ [])) xs ys ∙ ap (λ (b : List (List Float)). firstsAfter (before ++ (x ∷ [])) xs ++ firstsAfter b ys) (append_assoc before (x ∷ []) xs))
+pub firsts-append : (before xs ys : List (List Float)) → firsts_after before (xs ++ ys) ≡ firsts_after before xs ++ firsts_after (before ++ xs) ys
+unfolding firsts_after
+firsts-append before [] ys = ap (λ (b : List (List Float)). firsts_after b ys) (sym (append-nil before))
+firsts-append before (x ∷ xs) ys = go (is_among x before) (firsts-append (before ++ (x ∷ [])) xs ys ∙ ap (λ (b : List (List Float)). firsts_after (before ++ (x ∷ [])) xs ++ firsts_after b ys) (append_assoc before (x ∷ []) xs))
   where
-    go : (b : Bool) → firstsAfter (before ++ (x ∷ [])) (xs ++ ys) ≡ firstsAfter (before ++ (x ∷ [])) xs ++ firstsAfter (before ++ (x ∷ xs)) ys
-        → cond b (firstsAfter (before ++ (x ∷ [])) (xs ++ ys)) (x ∷ firstsAfter (before ++ (x ∷ [])) (xs ++ ys))
-        ≡ cond b (firstsAfter (before ++ (x ∷ [])) xs) (x ∷ firstsAfter (before ++ (x ∷ [])) xs) ++ firstsAfter (before ++ (x ∷ xs)) ys
+    go : (b : Bool) → firsts_after (before ++ (x ∷ [])) (xs ++ ys) ≡ firsts_after (before ++ (x ∷ [])) xs ++ firsts_after (before ++ (x ∷ xs)) ys
+        → cond b (firsts_after (before ++ (x ∷ [])) (xs ++ ys)) (x ∷ firsts_after (before ++ (x ∷ [])) (xs ++ ys))
+        ≡ cond b (firsts_after (before ++ (x ∷ [])) xs) (x ∷ firsts_after (before ++ (x ∷ [])) xs) ++ firsts_after (before ++ (x ∷ xs)) ys
     go true e = e
     go false e = ap (λ (l : List (List Float)). x ∷ l) e
 
-pub firsts-length : (before rs : List (List Float)) → length (firstsAfter before rs) ≤ length rs
-unfolding firstsAfter
+pub firsts-length : (before rs : List (List Float)) → length (firsts_after before rs) ≤ length rs
+unfolding firsts_after
 firsts-length before [] = omega arith
-firsts-length before (r ∷ rs) = go (isAmong r before) (firsts-length (before ++ (r ∷ [])) rs)
+firsts-length before (r ∷ rs) = go (is_among r before) (firsts-length (before ++ (r ∷ [])) rs)
   where
-    go : (b : Bool) → length (firstsAfter (before ++ (r ∷ [])) rs) ≤ length rs → length (cond b (firstsAfter (before ++ (r ∷ [])) rs) (r ∷ firstsAfter (before ++ (r ∷ [])) rs)) ≤ suc (length rs)
+    go : (b : Bool) → length (firsts_after (before ++ (r ∷ [])) rs) ≤ length rs → length (cond b (firsts_after (before ++ (r ∷ [])) rs) (r ∷ firsts_after (before ++ (r ∷ [])) rs)) ≤ suc (length rs)
     go true h = omega (arith, h)
     go false h = omega (arith, h)
 
@@ -103,55 +103,55 @@ like-more : (st : Rowed) (k most more : ℕ) (o : Out) → most ≤ more → Lik
 like-more st k most more o h l = record { count = λ m e. let less = l.count m e in omega (arith, less, h); i-same = l.i-same; q-same = l.q-same; scratch-same = l.scratch-same }
 
 module _ (s : Settings) (rows : ℕ) where
-  pub pulses-like : (b : Bin) (numbers : List Float) (ps : List Pulse) (k : ℕ) (st : Rowed) → length st.i ≤ length st.scratch → Like st k (length ps) (ranPulses s b numbers rows ps k st)
-  unfolding ranPulses
+  pub pulses-like : (b : Bin) (numbers : List Float) (ps : List Pulse) (k : ℕ) (st : Rowed) → length st.i ≤ length st.scratch → Like st k (length ps) (ran_pulses s b numbers rows ps k st)
+  unfolding ran_pulses
   pulses-like b numbers [] k st h = like-done st k
   pulses-like b numbers (p ∷ ps) k st h =
       let d = judged s b numbers p (length st.i) in
-      let st' = addedTo s b numbers rows d st in
+      let st' = added_to s b numbers rows d st in
       let short : length st'.i ≤ length st'.scratch = rw (i-length s b numbers rows st d, scratch-length s b numbers rows st h d) h in
       go d (like-more st k (1 + length ps) (suc (length ps)) _ (omega arith) (like-later st st' k (suc k) 1 (length ps) _ (omega arith) (i-length s b numbers rows st d) (q-length s b numbers rows st d) (scratch-length s b numbers rows st h d) (pulses-like b numbers ps (suc k) st' short)))
     where
-      go : (d : Judged) → Like st k (suc (length ps)) (ranPulses s b numbers rows ps (suc k) (addedTo s b numbers rows (judged s b numbers p (length st.i)) st)) → Like st k (suc (length ps)) (unlessRefused d k st (ranPulses s b numbers rows ps (suc k) (addedTo s b numbers rows (judged s b numbers p (length st.i)) st)))
+      go : (d : Judged) → Like st k (suc (length ps)) (ran_pulses s b numbers rows ps (suc k) (added_to s b numbers rows (judged s b numbers p (length st.i)) st)) → Like st k (suc (length ps)) (unless_refused d k st (ran_pulses s b numbers rows ps (suc k) (added_to s b numbers rows (judged s b numbers p (length st.i)) st)))
       go (judgement.Refused r) l = like-refused st k (suc (length ps)) r
       go (judgement.Plateau f) l = l
       go (judgement.Shaped c) l = l
 
   module _ (merged : List Float → List Pulse) where
-    pub bins-none : (k : ℕ) (st : Rowed) → ranBins s rows merged [] k st ≡ out (answer.Done k) st
-    unfolding ranBins
+    pub bins-none : (k : ℕ) (st : Rowed) → ran_bins s rows merged [] k st ≡ out (answer.Done k) st
+    unfolding ran_bins
     bins-none k st = refl
 
     -- one bin, by what it came to
     module _ (r : List Float) (rs : List (List Float)) (k : ℕ) (st st' : Rowed) where
-      pub bins-on : (m : ℕ) → out (answer.Done m) st' ≡ ranPulses s (bin_of r) (numbersOf r) rows (merged r) k st → ranBins s rows merged (r ∷ rs) k st ≡ ranBins s rows merged rs m st'
-      unfolding ranBins
-      bins-on m e = ap (λ (o : Out). and_then o (ranBins s rows merged rs)) (sym e)
+      pub bins-on : (m : ℕ) → out (answer.Done m) st' ≡ ran_pulses s (bin_of r) (numbers_of r) rows (merged r) k st → ran_bins s rows merged (r ∷ rs) k st ≡ ran_bins s rows merged rs m st'
+      unfolding ran_bins
+      bins-on m e = ap (λ (o : Out). and_then o (ran_bins s rows merged rs)) (sym e)
 
-      pub bins-refused : (why : Refusal) (m : ℕ) → out (answer.Refused why m) st' ≡ ranPulses s (bin_of r) (numbersOf r) rows (merged r) k st → ranBins s rows merged (r ∷ rs) k st ≡ out (answer.Refused why m) st'
-      unfolding ranBins
-      bins-refused why m e = ap (λ (o : Out). and_then o (ranBins s rows merged rs)) (sym e)
+      pub bins-refused : (why : Refusal) (m : ℕ) → out (answer.Refused why m) st' ≡ ran_pulses s (bin_of r) (numbers_of r) rows (merged r) k st → ran_bins s rows merged (r ∷ rs) k st ≡ out (answer.Refused why m) st'
+      unfolding ran_bins
+      bins-refused why m e = ap (λ (o : Out). and_then o (ran_bins s rows merged rs)) (sym e)
 
     -- two parts of a list of bins
-    pub bins-append : (xs ys : List (List Float)) (k : ℕ) (st : Rowed) → ranBins s rows merged (xs ++ ys) k st ≡ and_then (ranBins s rows merged xs k st) (ranBins s rows merged ys)
-    unfolding ranBins
+    pub bins-append : (xs ys : List (List Float)) (k : ℕ) (st : Rowed) → ran_bins s rows merged (xs ++ ys) k st ≡ and_then (ran_bins s rows merged xs k st) (ran_bins s rows merged ys)
+    unfolding ran_bins
     bins-append [] ys k st = refl
-    bins-append (x ∷ xs) ys k st = let o = ranPulses s (bin_of x) (numbersOf x) rows (merged x) k st in by o.answer o.left (bins-append xs ys)
+    bins-append (x ∷ xs) ys k st = let o = ran_pulses s (bin_of x) (numbers_of x) rows (merged x) k st in by o.answer o.left (bins-append xs ys)
       where
-        by : (a : Answer) (l : Rowed) → ((m : ℕ) (st' : Rowed) → ranBins s rows merged (xs ++ ys) m st' ≡ and_then (ranBins s rows merged xs m st') (ranBins s rows merged ys))
-            → and_then (out a l) (ranBins s rows merged (xs ++ ys)) ≡ and_then (and_then (out a l) (ranBins s rows merged xs)) (ranBins s rows merged ys)
+        by : (a : Answer) (l : Rowed) → ((m : ℕ) (st' : Rowed) → ran_bins s rows merged (xs ++ ys) m st' ≡ and_then (ran_bins s rows merged xs m st') (ran_bins s rows merged ys))
+            → and_then (out a l) (ran_bins s rows merged (xs ++ ys)) ≡ and_then (and_then (out a l) (ran_bins s rows merged xs)) (ran_bins s rows merged ys)
         by (answer.Done m) l f = f m l
         by (answer.Refused r m) l f = refl
 
     -- all bins
-    pub bins-like : ((r : List Float) → length (merged r) ≤ 65536) → (rs : List (List Float)) (k : ℕ) (st : Rowed) → length st.i ≤ length st.scratch → Like st k (length rs * 65536) (ranBins s rows merged rs k st)
-    unfolding ranBins
+    pub bins-like : ((r : List Float) → length (merged r) ≤ 65536) → (rs : List (List Float)) (k : ℕ) (st : Rowed) → length st.i ≤ length st.scratch → Like st k (length rs * 65536) (ran_bins s rows merged rs k st)
+    unfolding ran_bins
     bins-like few [] k st h = like-more st k 0 (0 * 65536) _ (omega arith) (like-done st k)
     bins-like few (r ∷ rs) k st h =
-        let o = ranPulses s (bin_of r) (numbersOf r) rows (merged r) k st in
-        by o.answer o.left (pulses-like (bin_of r) (numbersOf r) (merged r) k st h) (bins-like few rs)
+        let o = ran_pulses s (bin_of r) (numbers_of r) rows (merged r) k st in
+        by o.answer o.left (pulses-like (bin_of r) (numbers_of r) (merged r) k st h) (bins-like few rs)
       where
-        by : (a : Answer) (l : Rowed) → Like st k (length (merged r)) (out a l) → ((m : ℕ) (st' : Rowed) → length st'.i ≤ length st'.scratch → Like st' m (length rs * 65536) (ranBins s rows merged rs m st')) → Like st k (suc (length rs) * 65536) (and_then (out a l) (ranBins s rows merged rs))
+        by : (a : Answer) (l : Rowed) → Like st k (length (merged r)) (out a l) → ((m : ℕ) (st' : Rowed) → length st'.i ≤ length st'.scratch → Like st' m (length rs * 65536) (ran_bins s rows merged rs m st')) → Like st k (suc (length rs) * 65536) (and_then (out a l) (ran_bins s rows merged rs))
         by (answer.Done m) l like rest =
             let less = like.count m refl in
             let short : length l.i ≤ length l.scratch = rw (like.i-same, like.scratch-same) h in
@@ -159,14 +159,14 @@ module _ (s : Settings) (rows : ℕ) where
         by (answer.Refused why m) l like rest = record { count = λ n e. let z : ◌≡◌ {A = ℕ} 0 1 = cc in absurd (omega arith); i-same = like.i-same; q-same = like.q-same; scratch-same = like.scratch-same }
 
     -- the same pulses, the same call
-    pub bins-alike : (other : List Float → List Pulse) → ((r : List Float) → merged r ≡ other r) → (rs : List (List Float)) (k : ℕ) (st : Rowed) → ranBins s rows merged rs k st ≡ ranBins s rows other rs k st
-    unfolding ranBins
+    pub bins-alike : (other : List Float → List Pulse) → ((r : List Float) → merged r ≡ other r) → (rs : List (List Float)) (k : ℕ) (st : Rowed) → ran_bins s rows merged rs k st ≡ ran_bins s rows other rs k st
+    unfolding ran_bins
     bins-alike other same [] k st = refl
     bins-alike other same (r ∷ rs) k st =
-        let o = ranPulses s (bin_of r) (numbersOf r) rows (other r) k st in
-        ap (λ (ps : List Pulse). and_then (ranPulses s (bin_of r) (numbersOf r) rows ps k st) (ranBins s rows merged rs)) (same r) ∙ by o.answer o.left (bins-alike other same rs)
+        let o = ran_pulses s (bin_of r) (numbers_of r) rows (other r) k st in
+        ap (λ (ps : List Pulse). and_then (ran_pulses s (bin_of r) (numbers_of r) rows ps k st) (ran_bins s rows merged rs)) (same r) ∙ by o.answer o.left (bins-alike other same rs)
       where
-        by : (a : Answer) (l : Rowed) → ((m : ℕ) (st' : Rowed) → ranBins s rows merged rs m st' ≡ ranBins s rows other rs m st') → and_then (out a l) (ranBins s rows merged rs) ≡ and_then (out a l) (ranBins s rows other rs)
+        by : (a : Answer) (l : Rowed) → ((m : ℕ) (st' : Rowed) → ran_bins s rows merged rs m st' ≡ ran_bins s rows other rs m st') → and_then (out a l) (ran_bins s rows merged rs) ≡ and_then (out a l) (ran_bins s rows other rs)
         by (answer.Done m) l f = f m l
         by (answer.Refused why m) l f = refl
 
@@ -179,7 +179,7 @@ module _ (s : Settings) (rows : ℕ) (merged : List Float → List Pulse) (befor
     pub same-scratch : length st.scratch ≡ length st₀.scratch
     pub upto : p ≤ length its
     pub counted : n ≤ added + p * 65536
-    pub whole : ranBins s rows merged (firstsAfter (before ++ take p its) (drop p its)) n st ≡ all
+    pub whole : ran_bins s rows merged (firsts_after (before ++ take p its) (drop p its)) n st ≡ all
 
 module _ {s : Settings} {rows : ℕ} {merged : List Float → List Pulse} {before its : List (List Float)} {all : Out} {st₀ : Rowed} {added : ℕ} {st : Rowed} {n p : ℕ} (l : Listing s rows merged before its all st₀ added st n p) where
   abbrev pub r : List Float
@@ -189,12 +189,12 @@ module _ {s : Settings} {rows : ℕ} {merged : List Float → List Pulse} {befor
   shift = append_assoc before (take p its) (r ∷ [])
 
   abbrev behind : List (List Float)
-  behind = firstsAfter (before ++ take (p + 1) its) (drop (p + 1) its)
+  behind = firsts_after (before ++ take (p + 1) its) (drop (p + 1) its)
 
-  further : p < length its → firstsAfter (before ++ take p its ++ (r ∷ [])) (drop (suc p) its) ≡ behind
-  further h = rw (add-one p, take-suc its p [] h) (ap (λ (b : List (List Float)). firstsAfter b (drop (suc p) its)) shift)
+  further : p < length its → firsts_after (before ++ take p its ++ (r ∷ [])) (drop (suc p) its) ≡ behind
+  further h = rw (add-one p, take-suc its p [] h) (ap (λ (b : List (List Float)). firsts_after b (drop (suc p) its)) shift)
 
-  pub seen_step : p < length its → isAmong r (before ++ take p its) ≡ true → Listing s rows merged before its all st₀ added st n (p + 1)
+  pub seen_step : p < length its → is_among r (before ++ take p its) ≡ true → Listing s rows merged before its all st₀ added st n (p + 1)
   seen_step h e =
       record {
         same-i = l.same-i;
@@ -202,16 +202,16 @@ module _ {s : Settings} {rows : ℕ} {merged : List Float → List Pulse} {befor
         same-scratch = l.same-scratch;
         upto = omega (arith, h);
         counted = omega (arith, l.counted);
-        whole = ap (λ (rs : List (List Float)). ranBins s rows merged rs n st) (sym (ap (firstsAfter (before ++ take p its)) (drop-cons its p [] h) ∙ firsts-seen (before ++ take p its) r (drop (suc p) its) e ∙ further h)) ∙ l.whole;
+        whole = ap (λ (rs : List (List Float)). ran_bins s rows merged rs n st) (sym (ap (firsts_after (before ++ take p its)) (drop-cons its p [] h) ∙ firsts-seen (before ++ take p its) r (drop (suc p) its) e ∙ further h)) ∙ l.whole;
       }
 
-  new_is : p < length its → isAmong r (before ++ take p its) ≡ false → ranBins s rows merged (r ∷ behind) n st ≡ all
-  new_is h e = ap (λ (rs : List (List Float)). ranBins s rows merged rs n st) (sym (ap (firstsAfter (before ++ take p its)) (drop-cons its p [] h) ∙ firsts-new (before ++ take p its) r (drop (suc p) its) e ∙ ap (λ (rs : List (List Float)). r ∷ rs) (further h))) ∙ l.whole
+  new_is : p < length its → is_among r (before ++ take p its) ≡ false → ran_bins s rows merged (r ∷ behind) n st ≡ all
+  new_is h e = ap (λ (rs : List (List Float)). ran_bins s rows merged rs n st) (sym (ap (firsts_after (before ++ take p its)) (drop-cons its p [] h) ∙ firsts-new (before ++ take p its) r (drop (suc p) its) e ∙ ap (λ (rs : List (List Float)). r ∷ rs) (further h))) ∙ l.whole
 
-  pub same_after : length st₀.i ≤ length st₀.scratch → (a : Answer) (st' : Rowed) → out a st' ≡ ranPulses s (bin_of r) (numbersOf r) rows (merged r) n st → Like st n (length (merged r)) (out a st')
-  same_after h a st' e = rw e (pulses-like s rows (bin_of r) (numbersOf r) (merged r) n st (omega (arith, h, l.same-i, l.same-scratch)))
+  pub same_after : length st₀.i ≤ length st₀.scratch → (a : Answer) (st' : Rowed) → out a st' ≡ ran_pulses s (bin_of r) (numbers_of r) rows (merged r) n st → Like st n (length (merged r)) (out a st')
+  same_after h a st' e = rw e (pulses-like s rows (bin_of r) (numbers_of r) (merged r) n st (omega (arith, h, l.same-i, l.same-scratch)))
 
-  pub new-step : length st₀.i ≤ length st₀.scratch → length (merged r) ≤ 65536 → p < length its → isAmong r (before ++ take p its) ≡ false → (m : ℕ) (st' : Rowed) → out (answer.Done m) st' ≡ ranPulses s (bin_of r) (numbersOf r) rows (merged r) n st → Listing s rows merged before its all st₀ added st' m (p + 1)
+  pub new-step : length st₀.i ≤ length st₀.scratch → length (merged r) ≤ 65536 → p < length its → is_among r (before ++ take p its) ≡ false → (m : ℕ) (st' : Rowed) → out (answer.Done m) st' ≡ ran_pulses s (bin_of r) (numbers_of r) rows (merged r) n st → Listing s rows merged before its all st₀ added st' m (p + 1)
   new-step short few h new m st' e =
       let like = same_after short (answer.Done m) st' e in
       let less = like.count m refl in
@@ -224,13 +224,13 @@ module _ {s : Settings} {rows : ℕ} {merged : List Float → List Pulse} {befor
         whole = sym (bins-on s rows merged r behind n st st' m e) ∙ new_is h new;
       }
 
-  pub refused-step : p < length its → isAmong r (before ++ take p its) ≡ false → (why : Refusal) (m : ℕ) (st' : Rowed) → out (answer.Refused why m) st' ≡ ranPulses s (bin_of r) (numbersOf r) rows (merged r) n st → out (answer.Refused why m) st' ≡ all
+  pub refused-step : p < length its → is_among r (before ++ take p its) ≡ false → (why : Refusal) (m : ℕ) (st' : Rowed) → out (answer.Refused why m) st' ≡ ran_pulses s (bin_of r) (numbers_of r) rows (merged r) n st → out (answer.Refused why m) st' ≡ all
   refused-step h new why m st' e = sym (bins-refused s rows merged r behind n st st' why m e) ∙ new_is h new
 
   pub list-end : length its ≤ p → out (answer.Done n) st ≡ all
-  list-end h = sym (bins-none s rows merged n st) ∙ ap (λ (rs : List (List Float)). ranBins s rows merged rs n st) (sym (ap (firstsAfter (before ++ take p its)) (drop_of_length-le its h) ∙ firsts-none (before ++ take p its))) ∙ l.whole
+  list-end h = sym (bins-none s rows merged n st) ∙ ap (λ (rs : List (List Float)). ran_bins s rows merged rs n st) (sym (ap (firsts_after (before ++ take p its)) (drop_of_length-le its h) ∙ firsts-none (before ++ take p its))) ∙ l.whole
 
-pub list-start : (s : Settings) (rows : ℕ) (merged : List Float → List Pulse) (before its : List (List Float)) (st : Rowed) (added : ℕ) → Listing s rows merged before its (ranBins s rows merged (firstsAfter before its) added st) st added st added 0
+pub list-start : (s : Settings) (rows : ℕ) (merged : List Float → List Pulse) (before its : List (List Float)) (st : Rowed) (added : ℕ) → Listing s rows merged before its (ran_bins s rows merged (firsts_after before its) added st) st added st added 0
 list-start s rows merged before its st added =
     record {
       same-i = refl;
@@ -238,22 +238,22 @@ list-start s rows merged before its st added =
       same-scratch = refl;
       upto = omega arith;
       counted = omega arith;
-      whole = ap (λ (b : List (List Float)). ranBins s rows merged (firstsAfter b its) added st) (append-nil before);
+      whole = ap (λ (b : List (List Float)). ran_bins s rows merged (firsts_after b its) added st) (append-nil before);
     }
 
 -- ---- a bin has at most 65,536 pulses
-pub merged-few : (t : Tables) (bins work : List (List Float)) (marks : List ℕ) (parts : List Part) (ends : List ℕ) (r : List Float) → length work ≡ 8192 → length marks ≡ 8192 → length parts ≤ 8 → length (mergedIn t bins work marks parts ends r) ≤ 65536
+pub merged-few : (t : Tables) (bins work : List (List Float)) (marks : List ℕ) (parts : List Part) (ends : List ℕ) (r : List Float) → length work ≡ 8192 → length marks ≡ 8192 → length parts ≤ 8 → length (merged_in t bins work marks parts ends r) ≤ 65536
 merged-few t bins work marks parts ends r a b c =
-    let runs = runsForFrom t bins marks r 0 parts ends in
+    let runs = runs_for_from t bins marks r 0 parts ends in
     let long = pulses-length work marks (a ∙ sym b) in
-    let most = joined_length (pulsesIn work marks) runs (omega (arith, long, a)) in
+    let most = joined_length (pulses_in work marks) runs (omega (arith, long, a)) in
     let less = runs-few t bins marks r 0 parts ends in
-    let all = summed-length (together t.time.0) (joined (map (runIn (pulsesIn work marks)) runs)) in
+    let all = summed-length (together t.time.0) (joined (map (run_in (pulses_in work marks)) runs)) in
     omega (arith, most, less, all, c)
 
 -- what a bin came to, by the runs that were made for it
 pub by_runs : (s : Settings) (t : Tables) (bins work : List (List Float)) (marks : List ℕ) (parts : List Part) (ends : List ℕ) (rows n : ℕ) (row : List Float) (runs : Runs) (o : Out) (st : Rowed)
-    → take runs.count runs.runs ≡ runsForFrom t bins marks row 0 parts ends
-    → o ≡ ranPulses s (bin_of row) (numbersOf row) rows (summedAgain t.time.0 (joined (runsIn (pulsesIn work marks) runs))) n st
-    → o ≡ ranPulses s (bin_of row) (numbersOf row) rows (mergedIn t bins work marks parts ends row) n st
-by_runs s t bins work marks parts ends rows n row runs o st made e = e ∙ ap (λ (rs : List Run). ranPulses s (bin_of row) (numbersOf row) rows (summedAgain t.time.0 (joined (map (runIn (pulsesIn work marks)) rs))) n st) made
+    → take runs.count runs.runs ≡ runs_for_from t bins marks row 0 parts ends
+    → o ≡ ran_pulses s (bin_of row) (numbers_of row) rows (summed_again t.time.0 (joined (runs_in (pulses_in work marks) runs))) n st
+    → o ≡ ran_pulses s (bin_of row) (numbers_of row) rows (merged_in t bins work marks parts ends row) n st
+by_runs s t bins work marks parts ends rows n row runs o st made e = e ∙ ap (λ (rs : List Run). ran_pulses s (bin_of row) (numbers_of row) rows (summed_again t.time.0 (joined (map (run_in (pulses_in work marks)) rs))) n st) made

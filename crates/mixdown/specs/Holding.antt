@@ -1,7 +1,7 @@
 -- What the scratch holds between the pulses of one bin: an envelope that need not be worked out again. Definitions only.
 use Rattle.std.specs.Prelude.{ℕ, ◌≡◌, Bool, true, false, List, Float}
 use Rattle.quant.specs.declared.settings.Settings.{Settings}
-use Rattle.shape.specs.Envelope.{scratchAfter}
+use Rattle.shape.specs.Envelope.{scratch_after}
 use Rattle.pulse.specs.declared.bin.Bin.{Bin}
 use Rattle.placing.specs.declared.Judged.{Judged}
 use Rattle.placing.specs.declared.Judged.TheVariants as judgement
@@ -13,7 +13,7 @@ use Rattle.mixdown.specs.Sampled.{parts_at}
 -- the envelope at the held offset would leave the scratch as it is, whatever the room
 abbrev pub Holds : Settings → Bin → List Float → Held → List Float → Type 0
 Holds s b numbers held scratch =
-    held.some ≡ true → (room : ℕ) → scratchAfter b.envelope.shape numbers (parts_at s b held.offset room) scratch ≡ scratch
+    held.some ≡ true → (room : ℕ) → scratch_after b.envelope.shape numbers (parts_at s b held.offset room) scratch ≡ scratch
 
 abbrev pub accepted : Judged → Bool
 accepted (judgement.Plateau f) = true

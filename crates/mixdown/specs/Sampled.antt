@@ -5,27 +5,27 @@ use Rattle.quant.specs.declared.refusal.Answer.{Answer}
 use Rattle.quant.specs.declared.refusal.Answer.TheVariants as answer
 use Rattle.quant.specs.declared.refusal.Refusal.TheVariants.{WrongSize}
 use Rattle.quant.specs.declared.settings.Settings.{Settings}
-use Rattle.rows.specs.Rows.{rowsFit}
+use Rattle.rows.specs.Rows.{rows_fit}
 use Rattle.tables.specs.declared.Tables.{Tables}
 use Rattle.merge.specs.declared.taking.Taking.{Taking}
 use Rattle.merge.specs.declared.work.Ends.{Ends}
 use Rattle.merge.specs.Taking.{parts_in}
 use Rattle.shape.specs.declared.parts.Parted.{Parted}
-use Rattle.shape.specs.Parts.{partedOf}
-use Rattle.shape.specs.Envelope.{least, scratchAfter}
-use Rattle.mix.specs.Part.{firstRow, secondRow}
+use Rattle.shape.specs.Parts.{parted_of}
+use Rattle.shape.specs.Envelope.{least, scratch_after}
+use Rattle.mix.specs.Part.{first_row, second_row}
 use Rattle.mix.specs.Plateau.{real, imaginary, carried}
-use Rattle.mix.specs.Envelope.{shapedBy}
+use Rattle.mix.specs.Envelope.{shaped_by}
 use Rattle.pulse.specs.declared.bin.Bin.{Bin}
 use Rattle.pulse.specs.declared.list.Pulse.{Pulse}
-use Rattle.pulse.specs.Bin.{bin_of, numbersOf}
+use Rattle.pulse.specs.Bin.{bin_of, numbers_of}
 use Rattle.placing.specs.declared.Flat.{Flat}
 use Rattle.placing.specs.declared.Curved.{Curved}
 use Rattle.placing.specs.declared.Judged.{Judged}
 use Rattle.placing.specs.declared.Judged.TheVariants.{Plateau, Shaped, Refused}
 use Rattle.placing.specs.Judged.{judged}
-use Rattle.mixdown.specs.Bins.{all_rows, firstsAfter}
-use Rattle.mixdown.specs.Starts.{mergedIn}
+use Rattle.mixdown.specs.Bins.{all_rows, firsts_after}
+use Rattle.mixdown.specs.Starts.{merged_in}
 
 -- ---- the rows of a call, and its scratch
 pub record Rowed : Type 0 where
@@ -47,49 +47,49 @@ out a st = record { answer = a; left = st }
 -- ---- one pulse, by what it was judged to be; `rows` is 1 or 2
 
 -- no shape: the carrier from its start on
-abbrev pub withPlateau : ℕ → Flat → Rowed → Rowed
-withPlateau rows f st =
+abbrev pub with_plateau : ℕ → Flat → Rowed → Rowed
+with_plateau rows f st =
     rowed
-    (firstRow rows f.start f.count st.i st.q (carried real f.carrier f.rotation))
-    (secondRow rows f.start f.count st.i st.q (carried imaginary f.carrier f.rotation))
+    (first_row rows f.start f.count st.i st.q (carried real f.carrier f.rotation))
+    (second_row rows f.start f.count st.i st.q (carried imaginary f.carrier f.rotation))
     st.scratch
 
 -- the parts of its envelope in what is left of a row
 abbrev pub parts_at : Settings → Bin → Float → ℕ → Parted
-parts_at s b offset room = partedOf b.envelope.width.0 b.envelope.plateau.0 offset s.rate.0 s.dt.0 (least room 65536)
+parts_at s b offset room = parted_of b.envelope.width.0 b.envelope.plateau.0 offset s.rate.0 s.dt.0 (least room 65536)
 
 -- with the envelope's points in the scratch
-abbrev pub withPoints : ℕ → Curved → List Float → List Float → List Float → Rowed
-withPoints rows c i q scratch =
+abbrev pub with_points : ℕ → Curved → List Float → List Float → List Float → Rowed
+with_points rows c i q scratch =
     rowed
-    (firstRow rows c.start c.points i q (shapedBy real c.amp c.drag c.rotation (take c.points scratch) c.carrier))
-    (secondRow rows c.start c.points i q (shapedBy imaginary c.amp c.drag c.rotation (take c.points scratch) c.carrier))
+    (first_row rows c.start c.points i q (shaped_by real c.amp c.drag c.rotation (take c.points scratch) c.carrier))
+    (second_row rows c.start c.points i q (shaped_by imaginary c.amp c.drag c.rotation (take c.points scratch) c.carrier))
     scratch
 
 -- a shape: its envelope goes to the scratch, and the carrier times the envelope and its slope onto the rows
-abbrev pub withShape : Settings → Bin → List Float → ℕ → Curved → Rowed → Rowed
-withShape s b numbers rows c st =
-    withPoints rows c st.i st.q (scratchAfter b.envelope.shape numbers (parts_at s b c.offset (length st.i - c.start)) st.scratch)
+abbrev pub with_shape : Settings → Bin → List Float → ℕ → Curved → Rowed → Rowed
+with_shape s b numbers rows c st =
+    with_points rows c st.i st.q (scratch_after b.envelope.shape numbers (parts_at s b c.offset (length st.i - c.start)) st.scratch)
 
-abbrev pub addedTo : Settings → Bin → List Float → ℕ → Judged → Rowed → Rowed
-addedTo s b numbers rows (Plateau f) st = withPlateau rows f st
-addedTo s b numbers rows (Shaped c) st = withShape s b numbers rows c st
-addedTo s b numbers rows (Refused r) st = st
+abbrev pub added_to : Settings → Bin → List Float → ℕ → Judged → Rowed → Rowed
+added_to s b numbers rows (Plateau f) st = with_plateau rows f st
+added_to s b numbers rows (Shaped c) st = with_shape s b numbers rows c st
+added_to s b numbers rows (Refused r) st = st
 
 -- ---- one after another
 
 -- a refusal ends the call, with k pulses added before; else it goes on
-abbrev pub unlessRefused : Judged → ℕ → Rowed → Out → Out
-unlessRefused (Refused r) k st next = out (answer.Refused r k) st
-unlessRefused (Plateau f) k st next = next
-unlessRefused (Shaped c) k st next = next
+abbrev pub unless_refused : Judged → ℕ → Rowed → Out → Out
+unless_refused (Refused r) k st next = out (answer.Refused r k) st
+unless_refused (Plateau f) k st next = next
+unless_refused (Shaped c) k st next = next
 
 -- the pulses of a bin
-unfoldable pub ranPulses : Settings → Bin → List Float → ℕ → List Pulse → ℕ → Rowed → Out
-ranPulses s b numbers rows [] k st = out (answer.Done k) st
-ranPulses s b numbers rows (p ∷ ps) k st =
+unfoldable pub ran_pulses : Settings → Bin → List Float → ℕ → List Pulse → ℕ → Rowed → Out
+ran_pulses s b numbers rows [] k st = out (answer.Done k) st
+ran_pulses s b numbers rows (p ∷ ps) k st =
     let j = judged s b numbers p (length st.i) in
-    unlessRefused j k st (ranPulses s b numbers rows ps (suc k) (addedTo s b numbers rows j st))
+    unless_refused j k st (ran_pulses s b numbers rows ps (suc k) (added_to s b numbers rows j st))
 
 -- what comes behind a call's first part, unless that was refused
 abbrev pub and_then : Out → (ℕ → Rowed → Out) → Out
@@ -100,25 +100,25 @@ and_then o next = go o.answer
     go (answer.Refused r k) = o
 
 -- the bins in order, each with its pulses
-unfoldable pub ranBins : Settings → ℕ → (List Float → List Pulse) → List (List Float) → ℕ → Rowed → Out
-ranBins s rows merged [] k st = out (answer.Done k) st
-ranBins s rows merged (r ∷ rs) k st = and_then (ranPulses s (bin_of r) (numbersOf r) rows (merged r) k st) (ranBins s rows merged rs)
+unfoldable pub ran_bins : Settings → ℕ → (List Float → List Pulse) → List (List Float) → ℕ → Rowed → Out
+ran_bins s rows merged [] k st = out (answer.Done k) st
+ran_bins s rows merged (r ∷ rs) k st = and_then (ran_pulses s (bin_of r) (numbers_of r) rows (merged r) k st) (ran_bins s rows merged rs)
 
 -- ---- the whole of it, for anything that is lent
 
 -- no list ends past the work rows
-unfoldable pub endsFit : List ℕ → Bool
-endsFit [] = true
-endsFit (e ∷ es) = leb e 8192 && endsFit es
+unfoldable pub ends_fit : List ℕ → Bool
+ends_fit [] = true
+ends_fit (e ∷ es) = leb e 8192 && ends_fit es
 
 -- 64 bins for each of eight channels, 1,024 work rows and marks for each of eight lists, rows of a size that rows have, and a scratch no shorter
-abbrev pub mixFits : Taking → Ends → ℕ → ℕ → ℕ → ℕ → ℕ → ℕ → ℕ → Bool
-mixFits taking ends bins work marks rows i q scratch =
-    eqb bins 512 && eqb work 8192 && eqb marks 8192 && (leb taking.count 8 && endsFit ends.ends) && (rowsFit rows i q && leb i scratch)
+abbrev pub mix_fits : Taking → Ends → ℕ → ℕ → ℕ → ℕ → ℕ → ℕ → ℕ → Bool
+mix_fits taking ends bins work marks rows i q scratch =
+    eqb bins 512 && eqb work 8192 && eqb marks 8192 && (leb taking.count 8 && ends_fit ends.ends) && (rows_fit rows i q && leb i scratch)
 
 -- the bins by first appearance, each with its pulses as the work rows hold them; 13 for other sizes
-unfoldable pub mixedDown : Settings → Tables → Taking → Ends → List (List Float) → List (List Float) → List ℕ → ℕ → Rowed → Out
-mixedDown s t taking ends bins work marks rows st =
-    cond (mixFits taking ends (length bins) (length work) (length marks) rows (length st.i) (length st.q) (length st.scratch))
-    (ranBins s rows (mergedIn t bins work marks (parts_in taking) ends.ends) (firstsAfter [] (all_rows t bins (parts_in taking))) 0 st)
+unfoldable pub mixed_down : Settings → Tables → Taking → Ends → List (List Float) → List (List Float) → List ℕ → ℕ → Rowed → Out
+mixed_down s t taking ends bins work marks rows st =
+    cond (mix_fits taking ends (length bins) (length work) (length marks) rows (length st.i) (length st.q) (length st.scratch))
+    (ran_bins s rows (merged_in t bins work marks (parts_in taking) ends.ends) (firsts_after [] (all_rows t bins (parts_in taking))) 0 st)
     (out (answer.Refused WrongSize 0) st)

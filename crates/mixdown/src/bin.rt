@@ -1,12 +1,12 @@
 // The pulses of one bin onto the rows: joined by time, those that fall together added up, each placed and added. The Rust's
 // `merge_and_sample` and `sample_pulse_list`, for one bin.
 ghost use Rattle.std.specs.Prelude.{◌≡◌, ◌≤◌, ◌<◌, ◌^◌, true, length, get_or};
-ghost use Rattle.rows.specs.Rows.{rowsFit};
-ghost use Rattle.pulse.specs.Bin.{bin_of, numbersOf};
-ghost use Rattle.merge.specs.Sum.{scaledP, summedAgain};
+ghost use Rattle.rows.specs.Rows.{rows_fit};
+ghost use Rattle.pulse.specs.Bin.{bin_of, numbers_of};
+ghost use Rattle.merge.specs.Sum.{scaled_p, summed_again};
 ghost use Rattle.merge.specs.Join.{joined};
-ghost use Rattle.mixdown.specs.Runs.{Within, no_run, pulseAt, pulsesIn, runsIn};
-ghost use Rattle.mixdown.specs.Sampled.{rowed, out, ranPulses};
+ghost use Rattle.mixdown.specs.Runs.{Within, no_run, pulse_at, pulses_in, runs_in};
+ghost use Rattle.mixdown.specs.Sampled.{rowed, out, ran_pulses};
 
 use super::onto::{Added, Held, add_pulse};
 use super::runs::{Picked, Runs, move_on, pick, pulse_at};
@@ -31,8 +31,8 @@ pub(crate) fn sample_bin(
     added: usize,
 ) -> Answer
     requires work_len { (length work.now ≡ 8192) × (length marks.now ≡ 8192) × (runs.count ≤ 8) × Within runs.runs }
-    requires q_value { (rowsFit rows (length i.old) (length q.old) ≡ true) × (length i.old ≤ length scratch.old) × (added ≤ 2 ^ 60) }
-    ensures { out result (rowed i.new q.new scratch.new) ≡ ranPulses s (bin_of row) (numbersOf row) rows (summedAgain tolerance.0 (joined (runsIn (pulsesIn work.now marks.now) runs))) added (rowed i.old q.old scratch.old) }
+    requires q_value { (rows_fit rows (length i.old) (length q.old) ≡ true) × (length i.old ≤ length scratch.old) × (added ≤ 2 ^ 60) }
+    ensures { out result (rowed i.new q.new scratch.new) ≡ ran_pulses s (bin_of row) (numbers_of row) rows (summed_again tolerance.0 (joined (runs_in (pulses_in work.now marks.now) runs))) added (rowed i.old q.old scratch.old) }
 {
     let mut r = runs;
     let mut p = pick(r, work, marks);
@@ -76,7 +76,7 @@ pub(crate) fn sample_bin(
 // The pulse that was picked, times its list's factor.
 fn picked_pulse(r: Runs, p: Picked, work: &[[f64; 5]], marks: &[usize]) -> Pulse
     requires { (length work.now ≡ 8192) × (length marks.now ≡ 8192) × (p.list < 8) × (p.at < 8192) }
-    ensures { result ≡ scaledP (get_or r.runs p.list no_run).factor (pulseAt work.now marks.now p.at) }
+    ensures { result ≡ scaled_p (get_or r.runs p.list no_run).factor (pulse_at work.now marks.now p.at) }
 {
     let k = p.list;
     let run = r.runs[k];

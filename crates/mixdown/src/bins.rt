@@ -3,8 +3,8 @@ ghost use Rattle.std.specs.Prelude.{◌≡◌, ◌<◌, ◌≤◌, ◌+◌, ◌*
 ghost use Rattle.commands.specs.Play.{rows_of};
 ghost use Rattle.merge.specs.Taking.{parts_in};
 ghost use Rattle.mixdown.specs.Runs.{Within};
-ghost use Rattle.mixdown.specs.Bins.{isAmong, all_rows};
-ghost use Rattle.mixdown.specs.Starts.{binsHeld, target_of, runFor, runsForFrom, Ended};
+ghost use Rattle.mixdown.specs.Bins.{is_among, all_rows};
+ghost use Rattle.mixdown.specs.Starts.{bins_held, target_of, run_for, runs_for_from, Ended};
 
 use super::runs::{Run, Runs, advance};
 use merge::taking::Taking;
@@ -21,7 +21,7 @@ pub struct Target {
 
 // How many bins channel i has.
 pub(crate) fn bins_held(t: Tables, i: usize) -> usize
-    ensures { result ≡ binsHeld t i }
+    ensures { result ≡ bins_held t i }
 {
     if 8 <= i {
         return 0;
@@ -61,7 +61,7 @@ pub(crate) fn appeared(
     row: [f64; 77],
 ) -> bool
     requires { (length bins.now ≡ 512) × (taking.count ≤ 8) × (k ≤ taking.count) }
-    ensures { result ≡ isAmong row (all_rows t bins.now (take k (parts_in taking))) }
+    ensures { result ≡ is_among row (all_rows t bins.now (take k (parts_in taking))) }
 {
     let mut j: usize = 0;
     while j < k {
@@ -84,7 +84,7 @@ pub(crate) fn runs_for(
     row: [f64; 77],
 ) -> Runs
     requires { (length bins.now ≡ 512) × (length marks.now ≡ 8192) × (taking.count ≤ 8) × Ended ends.ends }
-    ensures { (take result.count result.runs ≡ runsForFrom t bins.now marks.now row 0 (parts_in taking) ends.ends) × (result.count ≤ 8) × Within result.runs }
+    ensures { (take result.count result.runs ≡ runs_for_from t bins.now marks.now row 0 (parts_in taking) ends.ends) × (result.count ≤ 8) × Within result.runs }
 {
     let mut runs = [Run {
         at: 0,
@@ -107,7 +107,7 @@ pub(crate) fn runs_for(
 // A list whose rows stand from `begin` to `end`.
 fn run_for(marks: &[usize], found: Target, begin: usize, end: usize, factor: f64) -> Run
     requires { end ≤ length marks.now }
-    ensures { result ≡ runFor marks.now found begin end factor }
+    ensures { result ≡ run_for marks.now found begin end factor }
 {
     if found.some {
         return Run {

@@ -1,6 +1,6 @@
 // The summed lists in the work rows, merged bin by bin and mixed down onto the rows. The Rust's `merge_and_sample` and `sample_pulse_list`.
 ghost use Rattle.std.specs.Prelude.{◌≡◌};
-ghost use Rattle.mixdown.specs.Sampled.{rowed, out, endsFit, mixedDown};
+ghost use Rattle.mixdown.specs.Sampled.{rowed, out, ends_fit, mixed_down};
 
 mod bin;
 mod bins;
@@ -32,7 +32,7 @@ pub fn mix_lists(
     q: &mut [f64],
     scratch: &mut [f64],
 ) -> Answer
-    ensures scratch_after { out result (rowed i.new q.new scratch.new) ≡ mixedDown s t taking ends bins.now work.old marks.old rows (rowed i.old q.old scratch.old) }
+    ensures scratch_after { out result (rowed i.new q.new scratch.new) ≡ mixed_down s t taking ends bins.now work.old marks.old rows (rowed i.old q.old scratch.old) }
     ensures work_unchanged { (work.new ≡ work.old) × (marks.new ≡ marks.old) }
 {
     let sizes = both(
@@ -49,7 +49,7 @@ pub fn mix_lists(
 
 // Whether no list ends past the work rows.
 fn ends_fit(e: Ends) -> bool
-    ensures { result ≡ endsFit e.ends }
+    ensures { result ≡ ends_fit e.ends }
 {
     let mut k: usize = 0;
     while k < 8 {

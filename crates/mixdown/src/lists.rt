@@ -1,11 +1,11 @@
 // All bins of the lists that take part, by first appearance, each with its pulses.
 ghost use Rattle.std.specs.Prelude.{◌≡◌, ◌≤◌, ◌<◌, ◌^◌, true, [], ◌++◌, length, take, get_or};
-ghost use Rattle.rows.specs.Rows.{rowsFit};
+ghost use Rattle.rows.specs.Rows.{rows_fit};
 ghost use Rattle.commands.specs.Play.{rows_of};
 ghost use Rattle.merge.specs.Taking.{parts_in};
-ghost use Rattle.mixdown.specs.Bins.{isAmong, all_rows, firstsAfter};
-ghost use Rattle.mixdown.specs.Starts.{binsHeld, Ended, mergedIn};
-ghost use Rattle.mixdown.specs.Sampled.{rowed, out, ranBins};
+ghost use Rattle.mixdown.specs.Bins.{is_among, all_rows, firsts_after};
+ghost use Rattle.mixdown.specs.Starts.{bins_held, Ended, merged_in};
+ghost use Rattle.mixdown.specs.Sampled.{rowed, out, ran_bins};
 
 use super::bin::sample_bin;
 use super::bins::{appeared, bins_held, runs_for};
@@ -30,8 +30,8 @@ pub(crate) fn sample_lists(
     scratch: &mut [f64],
 ) -> Answer
     requires bins_len { (length bins.now ≡ 512) × (length work.now ≡ 8192) × (length marks.now ≡ 8192) × (taking.count ≤ 8) × Ended ends.ends }
-    requires q_value { (rowsFit rows (length i.old) (length q.old) ≡ true) × (length i.old ≤ length scratch.old) }
-    ensures { out result (rowed i.new q.new scratch.new) ≡ ranBins s rows (mergedIn t bins.now work.now marks.now (parts_in taking) ends.ends) (firstsAfter [] (all_rows t bins.now (parts_in taking))) 0 (rowed i.old q.old scratch.old) }
+    requires q_value { (rows_fit rows (length i.old) (length q.old) ≡ true) × (length i.old ≤ length scratch.old) }
+    ensures { out result (rowed i.new q.new scratch.new) ≡ ran_bins s rows (merged_in t bins.now work.now marks.now (parts_in taking) ends.ends) (firsts_after [] (all_rows t bins.now (parts_in taking))) 0 (rowed i.old q.old scratch.old) }
 {
     let mut n: usize = 0;
     let mut k: usize = 0;
@@ -69,8 +69,8 @@ fn sample_list(
     added: usize,
 ) -> Answer
     requires bins_len { (length bins.now ≡ 512) × (length work.now ≡ 8192) × (length marks.now ≡ 8192) × (taking.count ≤ 8) × Ended ends.ends }
-    requires q_value { (rowsFit rows (length i.old) (length q.old) ≡ true) × (length i.old ≤ length scratch.old) × (k < taking.count) × (added ≤ 2 ^ 50) }
-    ensures { out result (rowed i.new q.new scratch.new) ≡ ranBins s rows (mergedIn t bins.now work.now marks.now (parts_in taking) ends.ends) (firstsAfter (all_rows t bins.now (take k (parts_in taking))) (rows_of t bins.now (get_or taking.places k 0))) added (rowed i.old q.old scratch.old) }
+    requires q_value { (rows_fit rows (length i.old) (length q.old) ≡ true) × (length i.old ≤ length scratch.old) × (k < taking.count) × (added ≤ 2 ^ 50) }
+    ensures { out result (rowed i.new q.new scratch.new) ≡ ran_bins s rows (merged_in t bins.now work.now marks.now (parts_in taking) ends.ends) (firsts_after (all_rows t bins.now (take k (parts_in taking))) (rows_of t bins.now (get_or taking.places k 0))) added (rowed i.old q.old scratch.old) }
 {
     let at = taking.places[k];
     let many = bins_held(t, at);
@@ -107,8 +107,8 @@ fn seen(
     p: usize,
     row: [f64; 77],
 ) -> bool
-    requires { (length bins.now ≡ 512) × (taking.count ≤ 8) × (k ≤ taking.count) × (at < 8) × (p ≤ binsHeld t at) }
-    ensures { result ≡ isAmong row (all_rows t bins.now (take k (parts_in taking)) ++ take p (rows_of t bins.now at)) }
+    requires { (length bins.now ≡ 512) × (taking.count ≤ 8) × (k ≤ taking.count) × (at < 8) × (p ≤ bins_held t at) }
+    ensures { result ≡ is_among row (all_rows t bins.now (take k (parts_in taking)) ++ take p (rows_of t bins.now at)) }
 {
     if appeared(t, taking, bins, k, row) {
         return true;

@@ -1,10 +1,10 @@
 // One pulse onto the rows. An envelope that the scratch holds already is not worked out again: the Rust has a cache for this.
 ghost use Rattle.std.specs.Prelude.{◌≡◌, ◌≤◌, ◌+◌, ◌-◌, true, length};
-ghost use Rattle.rows.specs.Rows.{rowsFit};
+ghost use Rattle.rows.specs.Rows.{rows_fit};
 ghost use Rattle.shape.specs.declared.envelope.Enveloped.TheVariants.{Points};
-ghost use Rattle.shape.specs.Envelope.{envelopedOf, scratchAfter};
+ghost use Rattle.shape.specs.Envelope.{enveloped_of, scratch_after};
 ghost use Rattle.placing.specs.Judged.{judged};
-ghost use Rattle.mixdown.specs.Sampled.{rowed, parts_at, addedTo, withShape};
+ghost use Rattle.mixdown.specs.Sampled.{rowed, parts_at, added_to, with_shape};
 ghost use Rattle.mixdown.specs.Holding.{Holds, Told};
 
 use mix::{add_envelope, add_plateau};
@@ -39,8 +39,8 @@ pub(crate) fn add_pulse(
     q: &mut [f64],
     scratch: &mut [f64],
 ) -> Added
-    requires { (rowsFit rows (length i.old) (length q.old) ≡ true) × (length i.old ≤ length scratch.old) × Holds s b numbers.now held scratch.old }
-    ensures scratch_after { rowed i.new q.new scratch.new ≡ addedTo s b numbers.now rows (judged s b numbers.now p (length i.old)) (rowed i.old q.old scratch.old) }
+    requires { (rows_fit rows (length i.old) (length q.old) ≡ true) × (length i.old ≤ length scratch.old) × Holds s b numbers.now held scratch.old }
+    ensures scratch_after { rowed i.new q.new scratch.new ≡ added_to s b numbers.now rows (judged s b numbers.now p (length i.old)) (rowed i.old q.old scratch.old) }
     ensures told { Told s b numbers.now (judged s b numbers.now p (length i.old)) result scratch.new }
 {
     match judge(s, b, numbers, p, i.len()) {
@@ -65,8 +65,8 @@ fn add_shaped(
     q: &mut [f64],
     scratch: &mut [f64],
 ) -> Held
-    requires { (c.start + c.points ≤ length i.old) × (envelopedOf b.envelope.shape numbers.now (parts_at s b c.offset (length i.old - c.start)) ≡ Points c.points) × (length i.old ≤ length scratch.old) × Holds s b numbers.now held scratch.old }
-    ensures scratch_after { rowed i.new q.new scratch.new ≡ withShape s b numbers.now rows c (rowed i.old q.old scratch.old) }
+    requires { (c.start + c.points ≤ length i.old) × (enveloped_of b.envelope.shape numbers.now (parts_at s b c.offset (length i.old - c.start)) ≡ Points c.points) × (length i.old ≤ length scratch.old) × Holds s b numbers.now held scratch.old }
+    ensures scratch_after { rowed i.new q.new scratch.new ≡ with_shape s b numbers.now rows c (rowed i.old q.old scratch.old) }
     ensures holds { Holds s b numbers.now result scratch.new }
 {
     let start = c.start;
@@ -100,7 +100,7 @@ fn hold(
     scratch: &mut [f64],
 )
     requires { (room ≤ length scratch.old) × Holds s b numbers.now held scratch.old }
-    ensures { scratch.new ≡ scratchAfter b.envelope.shape numbers.now (parts_at s b offset room) scratch.old }
+    ensures { scratch.new ≡ scratch_after b.envelope.shape numbers.now (parts_at s b offset room) scratch.old }
 {
     if held.some {
         if same_offset(held.offset, offset) {

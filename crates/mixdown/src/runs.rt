@@ -1,7 +1,7 @@
 // The pulses of one bin, out of all lists that take part, in order of time: a cursor for each list, over the work rows. The Rust's
 // `kmerge_by`, with ties by the lists' order.
 ghost use Rattle.std.specs.Prelude.{◌≡◌, ◌<◌, ◌≤◌, length};
-ghost use Rattle.mixdown.specs.Runs.{Within, advanced, better, pickedIn, pulseAt, movedOn};
+ghost use Rattle.mixdown.specs.Runs.{Within, advanced, better, picked_in, pulse_at, moved_on};
 
 use pulse::list::Pulse;
 use quant::complex::Complex;
@@ -34,7 +34,7 @@ pub struct Picked {
 // From the last list to the first, each takes over unless the one picked so far is earlier: so of equal times the first list's is picked.
 pub(crate) fn pick(r: Runs, work: &[[f64; 5]], marks: &[usize]) -> Picked
     requires { (length work.now ≡ 8192) × (length marks.now ≡ 8192) × (r.count ≤ 8) × Within r.runs }
-    ensures { result ≡ pickedIn work.now marks.now r }
+    ensures { result ≡ picked_in work.now marks.now r }
 {
     let mut best = Picked {
         some: false,
@@ -92,7 +92,7 @@ pub(crate) fn advance(marks: &[usize], from: usize, end: usize, mark: usize) -> 
 // The pulse that a work row and its mark stand for.
 pub(crate) fn pulse_at(work: &[[f64; 5]], marks: &[usize], at: usize) -> Pulse
     requires { (at < length work.now) × (at < length marks.now) }
-    ensures { result ≡ pulseAt work.now marks.now at }
+    ensures { result ≡ pulse_at work.now marks.now at }
 {
     let row = work[at];
     Pulse {
@@ -112,7 +112,7 @@ pub(crate) fn pulse_at(work: &[[f64; 5]], marks: &[usize], at: usize) -> Pulse
 // The runs with the pulse that was picked taken off its list.
 pub(crate) fn move_on(r: Runs, p: Picked, marks: &[usize]) -> Runs
     requires { (p.list < 8) × (p.at < 8192) × (length marks.now ≡ 8192) × Within r.runs }
-    ensures { result ≡ movedOn marks.now r p }
+    ensures { result ≡ moved_on marks.now r p }
 {
     let k = p.list;
     let mut run = r.runs[k];

@@ -10,27 +10,27 @@ use lib.ListN.{length}
 use lib.Ieee.{Float}
 use Rattle.exact.proofs.Truth.{both}
 use Rattle.quant.specs.declared.refusal.Answer.{Answer}
-use Rattle.rows.specs.Rows.{rowsFit, allFinite, answer_of, after}
-use Rattle.mixer.specs.Mixer.{corrected, correctedRow, mixerFits, mixerAnswer, Mixer}
-use Rattle.mixer.specs.Lone.{mixedRow, raisedRow, iqFits, offsetFits, Iq, Offset, jointly}
+use Rattle.rows.specs.Rows.{rows_fit, all_finite, answer_of, after}
+use Rattle.mixer.specs.Mixer.{corrected, corrected_row, mixer_fits, mixer_answer, Mixer}
+use Rattle.mixer.specs.Lone.{mixed_row, raised_row, iq_fits, offset_fits, Iq, Offset, jointly}
 
-pub row-by-row : (m n o : Float) (xs ys : List Float) → correctedRow m n o xs ys ≡ raisedRow o (mixedRow m n xs ys)
-unfolding correctedRow mixedRow raisedRow
+pub row-by-row : (m n o : Float) (xs ys : List Float) → corrected_row m n o xs ys ≡ raised_row o (mixed_row m n xs ys)
+unfolding corrected_row mixed_row raised_row
 row-by-row m n o [] ys = refl
 row-by-row m n o (x ∷ xs) [] = refl
 row-by-row m n o (x ∷ xs) (y ∷ ys) = ap (λ (l : List Float). corrected m n o x y ∷ l) (row-by-row m n o xs ys)
 
 -- ---- lengths stay, so that the second step meets the sizes that the first did
 
-mixed-length : (m n : Float) (xs ys : List Float) → length xs ≡ length ys → length (mixedRow m n xs ys) ≡ length xs
-unfolding mixedRow
+mixed-length : (m n : Float) (xs ys : List Float) → length xs ≡ length ys → length (mixed_row m n xs ys) ≡ length xs
+unfolding mixed_row
 mixed-length m n [] ys e = refl
 mixed-length m n (x ∷ xs) [] e = absurd (suc-ne-zero (length xs) e)
 mixed-length m n (x ∷ xs) (y ∷ ys) e = ap suc (mixed-length m n xs ys (suc_inj e))
 
 -- two rows that fit are of equal length
-pub equal-rows : (rows i q : ℕ) → rowsFit rows i q ≡ true → rows ≡ 2 → i ≡ q
-equal-rows rows i q f two = eqb-true i q (both (leb i 65536) (eqb i q) (sym (ap (λ (n : ℕ). rowsFit n i q) two) ∙ f)).1
+pub equal-rows : (rows i q : ℕ) → rows_fit rows i q ≡ true → rows ≡ 2 → i ≡ q
+equal-rows rows i q f two = eqb-true i q (both (leb i 65536) (eqb i q) (sym (ap (λ (n : ℕ). rows_fit n i q) two) ∙ f)).1
 
 length-stays : (f p : Bool) (new old row : List Float) → (f ≡ true → length new ≡ length old) → row ≡ after (answer_of f p) new old → length row ≡ length old
 length-stays true true new old row same h = ap length h ∙ same refl
@@ -69,42 +69,42 @@ sizes-agree false two four x y h = refl
 
 module _ (rows : ℕ) (i q m o : List Float) (a b : Answer) (i₁ q₁ i₂ q₂ : List Float) (h : Iq rows i q m a i₁ q₁) (k : Offset rows i₁ q₁ o b i₂ q₂) where
   abbrev f : Bool
-  f = iqFits rows i q m
+  f = iq_fits rows i q m
 
   abbrev g : Bool
-  g = offsetFits rows i₁ q₁ o
+  g = offset_fits rows i₁ q₁ o
 
   abbrev p : Bool
-  p = allFinite m
+  p = all_finite m
 
   abbrev r : Bool
-  r = allFinite o
+  r = all_finite o
 
   equal-lengths : f ≡ true → length i ≡ length q
   equal-lengths e =
-      let two = both (rowsFit rows (length i) (length q)) (eqb rows 2) (both (rowsFit rows (length i) (length q) && eqb rows 2) (eqb (length m) 4) e).0 in
+      let two = both (rows_fit rows (length i) (length q)) (eqb rows 2) (both (rows_fit rows (length i) (length q) && eqb rows 2) (eqb (length m) 4) e).0 in
       equal-rows rows (length i) (length q) two.0 (eqb-true rows 2 two.1)
 
-  fits-alike : mixerFits rows (length i) (length q) (length m) (length o) ≡ (f && g)
-  unfolding mixerFits
+  fits-alike : mixer_fits rows (length i) (length q) (length m) (length o) ≡ (f && g)
+  unfolding mixer_fits
   fits-alike =
       let first = length-stays f p _ i i₁ (λ e. mixed-length _ _ i q (equal-lengths e)) h.first in
       let second = length-stays f p _ q q₁ (λ e. mixed-length _ _ i q (equal-lengths e) ∙ equal-lengths e) h.second in
-      sizes-agree (rowsFit rows (length i) (length q)) (eqb rows 2) (eqb (length m) 4) (eqb (length o) 2) (eqb (length o) rows) (λ e. ap (eqb (length o)) (sym (eqb-true rows 2 e)))
-      ∙ ap (λ (fit : Bool). f && (fit && eqb (length o) rows)) (sym (λ j. rowsFit rows (first j) (second j)))
+      sizes-agree (rows_fit rows (length i) (length q)) (eqb rows 2) (eqb (length m) 4) (eqb (length o) 2) (eqb (length o) rows) (λ e. ap (eqb (length o)) (sym (eqb-true rows 2 e)))
+      ∙ ap (λ (fit : Bool). f && (fit && eqb (length o) rows)) (sym (λ j. rows_fit rows (first j) (second j)))
 
-  fits : answer_of (f && g) (p && r) ≡ mixerAnswer rows i q m o
+  fits : answer_of (f && g) (p && r) ≡ mixer_answer rows i q m o
   fits = ap (λ (fit : Bool). answer_of fit (p && r)) (sym fits-alike)
 
   answers : jointly a b ≡ answer_of (f && g) (p && r)
   answers = (λ j. jointly (h.answer j) (k.answer j)) ∙ together f p g r
 
-  row : (x y z : Float) (old mid new : List Float) → mid ≡ after (answer_of f p) (mixedRow x y i q) old → new ≡ after (answer_of g r) (raisedRow z mid) mid
-      → after (jointly a b) new old ≡ after (mixerAnswer rows i q m o) (correctedRow x y z i q) old
+  row : (x y z : Float) (old mid new : List Float) → mid ≡ after (answer_of f p) (mixed_row x y i q) old → new ≡ after (answer_of g r) (raised_row z mid) mid
+      → after (jointly a b) new old ≡ after (mixer_answer rows i q m o) (corrected_row x y z i q) old
   row x y z old mid new d e =
       ap (λ (c : Answer). after c new old) answers
-      ∙ rows_agree f p g r (raisedRow z) (mixedRow x y i q) old mid new d e
+      ∙ rows_agree f p g r (raised_row z) (mixed_row x y i q) old mid new d e
       ∙ (λ j. after (fits j) (sym (row-by-row x y z i q) j) old)
 
-  pub as-the-two : Mixer rows i q m o (jointly a b) (after (jointly a b) i₂ i) (after (jointly a b) q₂ q)
-  as-the-two = record { answer = answers ∙ fits; first = row _ _ _ i i₁ i₂ h.first k.first; second = row _ _ _ q q₁ q₂ h.second k.second }
+  pub as_the-two : Mixer rows i q m o (jointly a b) (after (jointly a b) i₂ i) (after (jointly a b) q₂ q)
+  as_the-two = record { answer = answers ∙ fits; first = row _ _ _ i i₁ i₂ h.first k.first; second = row _ _ _ q q₁ q₂ h.second k.second }

@@ -3,9 +3,9 @@
 ghost use Rattle.std.specs.Prelude.{◌≡◌, cond, ◌&&◌, ◌+◌, ◌<◌, length};
 ghost use Rattle.std.specs.Float.Ieee.{eq};
 ghost use Rattle.exact.specs.Doubles.{nought};
-ghost use Rattle.quick_fma.specs.Quick.{roomyOf};
-ghost use Rattle.mixer.specs.Mixer.{correctedRow, mixerFits, Mixer};
-ghost use Rattle.mixer.specs.Turns.{Factors, oneOn, twoOn, fusedOf};
+ghost use Rattle.quick_fma.specs.Quick.{roomy_of};
+ghost use Rattle.mixer.specs.Mixer.{corrected_row, mixer_fits, Mixer};
+ghost use Rattle.mixer.specs.Turns.{Factors, one_on, two_on, fused_of};
 
 use quant::refusal::Answer;
 use quick_fma::{mul_add, roomy, trial, upper};
@@ -33,7 +33,7 @@ pub fn mixer(rows: usize, i: &mut [f64], q: &mut [f64], matrix: &[f64], offsets:
 
 // Two rows that fit, four numbers and two.
 fn fits(rows: usize, i: usize, q: usize, matrix: usize, offsets: usize) -> bool
-    ensures { result ≡ mixerFits rows i q matrix offsets }
+    ensures { result ≡ mixer_fits rows i q matrix offsets }
 {
     if !rows_fit(rows, i, q) {
         return false;
@@ -50,8 +50,8 @@ fn fits(rows: usize, i: usize, q: usize, matrix: usize, offsets: usize) -> bool
 // The new I from m00, m01 and o0, the new Q from m10, m11 and o1; both from the samples as they came. Two samples a turn, so that the compiler can work on both at once.
 fn correct(i: &mut [f64], q: &mut [f64], m00: f64, m01: f64, o0: f64, m10: f64, m11: f64, o1: f64)
     requires { length i.old ≡ length q.old }
-    ensures first { i.new ≡ correctedRow m00 m01 o0 i.old q.old }
-    ensures second { q.new ≡ correctedRow m10 m11 o1 i.old q.old }
+    ensures first { i.new ≡ corrected_row m00 m01 o0 i.old q.old }
+    ensures second { q.new ≡ corrected_row m10 m11 o1 i.old q.old }
 {
     let fit = both_roomy(m00, m10);
     let h0 = upper(m00);
@@ -69,7 +69,7 @@ fn correct(i: &mut [f64], q: &mut [f64], m00: f64, m01: f64, o0: f64, m10: f64, 
 }
 
 fn both_roomy(a: f64, b: f64) -> bool
-    ensures { result ≡ (roomyOf a && roomyOf b) }
+    ensures { result ≡ (roomy_of a && roomy_of b) }
 {
     if !roomy(a) {
         return false;
@@ -90,8 +90,8 @@ fn one(
     o1: f64,
 )
     requires { (length i.old ≡ length q.old) × (k < length i.old) }
-    ensures first { i.new ≡ oneOn k m00 m01 o0 i.old q.old i.old }
-    ensures second { q.new ≡ oneOn k m10 m11 o1 i.old q.old q.old }
+    ensures first { i.new ≡ one_on k m00 m01 o0 i.old q.old i.old }
+    ensures second { q.new ≡ one_on k m10 m11 o1 i.old q.old q.old }
 {
     let x = i[k];
     let y = q[k];
@@ -117,8 +117,8 @@ fn two(
     o1: f64,
 )
     requires { (length i.old ≡ length q.old) × (k + 1 < length i.old) × Factors fit m00 h0 l0 m10 h1 l1 }
-    ensures first { i.new ≡ twoOn k m00 m01 o0 i.old q.old i.old }
-    ensures second { q.new ≡ twoOn k m10 m11 o1 i.old q.old q.old }
+    ensures first { i.new ≡ two_on k m00 m01 o0 i.old q.old i.old }
+    ensures second { q.new ≡ two_on k m10 m11 o1 i.old q.old q.old }
 {
     if two_by_doubles(i, q, k, fit, m00, h0, l0, m01, o0, m10, h1, l1, m11, o1) {
         return;
@@ -145,8 +145,8 @@ fn two_by_doubles(
     o1: f64,
 ) -> bool
     requires { (length i.old ≡ length q.old) × (k + 1 < length i.old) × Factors fit m00 h0 l0 m10 h1 l1 }
-    ensures first { i.new ≡ cond result (twoOn k m00 m01 o0 i.old q.old i.old) i.old }
-    ensures second { q.new ≡ cond result (twoOn k m10 m11 o1 i.old q.old q.old) q.old }
+    ensures first { i.new ≡ cond result (two_on k m00 m01 o0 i.old q.old i.old) i.old }
+    ensures second { q.new ≡ cond result (two_on k m10 m11 o1 i.old q.old q.old) q.old }
 {
     if !fit {
         return false;
@@ -202,7 +202,7 @@ fn two_sums(
     v: f64,
     w: f64,
 ) -> Fused
-    ensures { result ≡ fusedOf m h l n x g s y z u v w }
+    ensures { result ≡ fused_of m h l n x g s y z u v w }
 {
     let a = trial(m, h, l, x, g, s, n * y);
     let b = trial(m, h, l, z, u, v, n * w);

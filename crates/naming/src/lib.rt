@@ -1,7 +1,7 @@
 // Names of channels and shapes. Document 01: "A name is 1..16 bytes of 0x21..0x7E without `=`, compared byte by byte";
 // "names by value as two 64-bit words and a length". They stand for the Rust's `Arc<str>`.
 ghost use Rattle.std.specs.Prelude.{◌≡◌, ◌≤◌, ◌<◌, length, get_or};
-ghost use Rattle.naming.specs.Name.{nameByte, every, wordOf, bytesOfWord, sixteen, namingOf, isName, inPlace, same_name, Wrote};
+ghost use Rattle.naming.specs.Name.{name_byte, every, word_of, bytes_of_word, sixteen, naming_of, is_name, in_place, same_name, Wrote};
 
 // Byte i of a name is byte i of first, counted from the least significant, for i < 8, and byte i - 8 of second from 8 on.
 // The three numbers may be any: `is_name` judges them.
@@ -21,7 +21,7 @@ pub enum Naming {
 
 // The name that a whole text is.
 pub fn from_bytes(text: &[u8]) -> Naming
-    ensures { result ≡ namingOf text.now }
+    ensures { result ≡ naming_of text.now }
 {
     if text.len() < 1 {
         return Naming::Bad;
@@ -48,7 +48,7 @@ pub fn from_bytes(text: &[u8]) -> Naming
 
 // Whether the three numbers are well formed, as those of `from_bytes` are.
 pub fn is_name(n: Name) -> bool
-    ensures { result ≡ isName n }
+    ensures { result ≡ is_name n }
 {
     let first = n.first;
     let second = n.second;
@@ -109,7 +109,7 @@ pub fn write(n: Name, out: &mut [u8], at: usize) -> bool
 
 // Whether a byte may stand in a name.
 fn stands(b: u8) -> bool
-    ensures { result ≡ nameByte b }
+    ensures { result ≡ name_byte b }
 {
     if b < 0x21 {
         return false;
@@ -121,7 +121,7 @@ fn stands(b: u8) -> bool
 }
 
 fn all_stand(text: &[u8]) -> bool
-    ensures { result ≡ every nameByte text.now }
+    ensures { result ≡ every name_byte text.now }
 {
     let mut i: usize = 0;
     while i < text.len() {
@@ -136,7 +136,7 @@ fn all_stand(text: &[u8]) -> bool
 // The bytes of a part of a text as a word, gathered from the last, the most significant, to the first.
 fn word_of(part: &[u8]) -> u64
     requires { length part.now ≤ 8 }
-    ensures { result ≡ wordOf part.now }
+    ensures { result ≡ word_of part.now }
 {
     let mut word: u64 = 0;
     let mut left = part.len();
@@ -161,14 +161,14 @@ fn byte_at(first: u64, second: u64, i: usize) -> u8
 // Byte i of a word, counted from the least significant.
 fn byte_of(word: u64, i: usize) -> u8
     requires { i < 8 }
-    ensures { result ≡ get_or (bytesOfWord word) i 0 }
+    ensures { result ≡ get_or (bytes_of_word word) i 0 }
 {
     ((word >> (8 * i)) % 256) as u8
 }
 
 // Whether b may be byte i of the two words of a name of len bytes.
 fn in_place(b: u8, i: usize, len: usize) -> bool
-    ensures { result ≡ inPlace len i b }
+    ensures { result ≡ in_place len i b }
 {
     if i < len {
         return stands(b);

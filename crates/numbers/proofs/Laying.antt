@@ -10,17 +10,17 @@ use lib.Ieee.{Float}
 use lib.ListN.{length, take, drop, set, take-append-drop, length-set, drop_of_length-le}
 use lib.Seq.{drop-drop, drop-nil, drop-set-lt, take-suc-set, append_snoc, take_at, length-take-le, take_all}
 use Rattle.decimal.specs.Digits.{place_of}
-use Rattle.decimal.specs.Number.{decimalOf, number_of}
+use Rattle.decimal.specs.Number.{decimal_of, number_of}
 use Rattle.decimal.specs.declared.number.Number.TheVariants.{Double, Bad}
 use Rattle.fields.specs.Words.{words_of, first_word}
 use Rattle.job.proofs.Listing.{first, last, more, end-within}
-use Rattle.numbers.specs.Numbers.{numbersOf, listed, Begun, Stored}
+use Rattle.numbers.specs.Numbers.{numbers_of, listed, Begun, Stored}
 
-no_number : numbersOf ([] ∷ []) ≡ []
-unfolding numbersOf number_of decimalOf
+no_number : numbers_of ([] ∷ []) ≡ []
+unfolding numbers_of number_of decimal_of
 no_number = refl
 
-end_none : (line : List ℕ) → numbersOf (words_of (drop (length line) line)) ≡ []
+end_none : (line : List ℕ) → numbers_of (words_of (drop (length line) line)) ≡ []
 unfolding words_of
 end_none line = let all : length line ≤ length line = omega arith in rw (drop_of_length-le line all) no_number
 
@@ -30,23 +30,23 @@ skip (suc n) w ws h = let same : suc n - 1 ≡ n = omega arith in rw same
 
 module _ (line : List ℕ) (at left p : ℕ) (within : at ≤ length line) (place : p ≡ place_of 32 (take (length line - at) (drop at line))) where
   -- ---- passing over words
-  module _ (k : ℕ) (some : 0 < left) (so_far : numbersOf (drop left (words_of (drop at line))) ≡ listed line k) where
+  module _ (k : ℕ) (some : 0 < left) (so_far : numbers_of (drop left (words_of (drop at line))) ≡ listed line k) where
     pub begun-end : at + p ≡ length line → Begun line k (at + p)
-    unfolding numbersOf
+    unfolding numbers_of
     begun-end e =
         let none : drop left (words_of (drop at line)) ≡ [] =
         rw (last line at left p within place e) (skip left (first_word (drop at line)) [] some ∙ drop-nil (left - 1)) in
-        record { within = end-within line at left p within place; is = rw e (end_none line ∙ sym (sym so_far ∙ ap numbersOf none)) }
+        record { within = end-within line at left p within place; is = rw e (end_none line ∙ sym (sym so_far ∙ ap numbers_of none)) }
 
-    pub begun-on : (at + p ≡ length line → ⊥) → numbersOf (drop (left - 1) (words_of (drop (at + p + 1) line))) ≡ listed line k
+    pub begun-on : (at + p ≡ length line → ⊥) → numbers_of (drop (left - 1) (words_of (drop (at + p + 1) line))) ≡ listed line k
     begun-on n =
         let next : drop left (words_of (drop at line)) ≡ drop (left - 1) (words_of (drop (at + p + 1) line)) =
         rw (more line at left p within place n) (skip left (first_word (drop at line)) (words_of (drop (at + p + 1) line)) some) in
-        ap numbersOf (sym next) ∙ so_far
+        ap numbers_of (sym next) ∙ so_far
 
   -- ---- the number of a word
-  pub number-none : number_of (take (at + p - at) (drop at line)) ≡ Bad → numbersOf (words_of (drop at line)) ≡ []
-  unfolding numbersOf
+  pub number-none : number_of (take (at + p - at) (drop at line)) ≡ Bad → numbers_of (words_of (drop at line)) ≡ []
+  unfolding numbers_of
   number-none e =
       let bad : number_of (first_word (drop at line)) ≡ Bad = rw (first line at left p within place) at e in
       elim (eq-or-lt_of_le (end-within line at left p within place)) [
@@ -58,14 +58,14 @@ module _ (line : List ℕ) (at left p : ℕ) (within : at ≤ length line) (plac
       under z h = omega arith
 
   module _ (x : Float) (e : number_of (take (at + p - at) (drop at line)) ≡ Double x) where
-    pub number-last : at + p ≡ length line → numbersOf (words_of (drop at line)) ≡ x ∷ []
-    unfolding numbersOf
+    pub number-last : at + p ≡ length line → numbers_of (words_of (drop at line)) ≡ x ∷ []
+    unfolding numbers_of
     number-last z =
         let is : number_of (first_word (drop at line)) ≡ Double x = rw (first line at left p within place) at e in
         rw (last line at left p within place z, is)
 
-    pub number_more : (at + p ≡ length line → ⊥) → numbersOf (words_of (drop at line)) ≡ x ∷ numbersOf (words_of (drop (at + p + 1) line))
-    unfolding numbersOf
+    pub number_more : (at + p ≡ length line → ⊥) → numbers_of (words_of (drop at line)) ≡ x ∷ numbers_of (words_of (drop (at + p + 1) line))
+    unfolding numbers_of
     number_more n =
         let is : number_of (first_word (drop at line)) ≡ Double x = rw (first line at left p within place) at e in
         rw (more line at left p within place n, is)

@@ -7,14 +7,14 @@ use lib.ListN.{length}
 use Rattle.decimal.specs.Number.{number_of}
 use Rattle.decimal.specs.declared.number.Number.{Number}
 use Rattle.decimal.specs.declared.number.Number.TheVariants.{Double, Bad}
-use Rattle.job.specs.List.{allNumbers, is_number}
-use Rattle.numbers.specs.Numbers.{numbersOf, onto}
+use Rattle.job.specs.List.{all_numbers, is_number}
+use Rattle.numbers.specs.Numbers.{numbers_of, onto}
 
-pub as_many : (words : List (List ℕ)) → allNumbers words ≡ true → length (numbersOf words) ≡ length words
-unfolding allNumbers numbersOf
+pub as_many : (words : List (List ℕ)) → all_numbers words ≡ true → length (numbers_of words) ≡ length words
+unfolding all_numbers numbers_of
 as_many [] e = refl
 as_many (w ∷ ws) e = by (number_of w) e (as_many ws)
   where
-    by : (x : Number) → is_number x && allNumbers ws ≡ true → (allNumbers ws ≡ true → length (numbersOf ws) ≡ length ws) → length (onto x (numbersOf ws)) ≡ suc (length ws)
+    by : (x : Number) → is_number x && all_numbers ws ≡ true → (all_numbers ws ≡ true → length (numbers_of ws) ≡ length ws) → length (onto x (numbers_of ws)) ≡ suc (length ws)
     by (Double x) e rest = ap suc (rest e)
     by Bad e rest = cc

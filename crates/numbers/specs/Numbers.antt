@@ -10,18 +10,18 @@ onto (Double x) xs = x ∷ xs
 onto Bad xs = []
 
 -- the numbers that words are, up to the first that is none
-unfoldable pub numbersOf : List (List ℕ) → List Float
-numbersOf [] = []
-numbersOf (w ∷ ws) = onto (number_of w) (numbersOf ws)
+unfoldable pub numbers_of : List (List ℕ) → List Float
+numbers_of [] = []
+numbers_of (w ∷ ws) = onto (number_of w) (numbers_of ws)
 
 -- those of a line from word k on
 abbrev pub listed : List ℕ → ℕ → List Float
-listed line k = numbersOf (drop k (words_of line))
+listed line k = numbers_of (drop k (words_of line))
 
 -- they begin at r
 pub record Begun (line : List ℕ) (k r : ℕ) : Type 0 where
   pub within : r ≤ length line
-  pub is : numbersOf (words_of (drop r line)) ≡ listed line k
+  pub is : numbers_of (words_of (drop r line)) ≡ listed line k
 
 -- the numbers that fit stand at the start of the buffer, and the rest of it stays
 pub record Stored (line : List ℕ) (k : ℕ) (before : List Float) (r : ℕ) (after : List Float) : Type 0 where

@@ -11,7 +11,7 @@ use Rattle.naming.specs.declared.Name.{Name}
 use Rattle.quant.specs.declared.refusal.Answer.{Answer}
 use Rattle.quant.specs.Refusal.{code_of}
 use Rattle.naming.specs.Name as Name
-use Rattle.hex.specs.Hex as Hex
+use Rattle.hexadecimal.specs.Hex as Hex
 use Rattle.fma.specs.Words.{words}
 use Rattle.fma.specs.Sticky.{Whole}
 use Rattle.trig.specs.Trig.{Both}

@@ -1,8 +1,8 @@
 // The command call for a caller that owns its arrays: they come and go by value, so that such a caller is covered.
 // `execute_owned` lends arrays of structs and is proved by hand; all else is covered.
 ghost use Rattle.std.specs.Prelude.{◌≡◌};
-ghost use Rattle.commands.specs.Run.{ranTo};
-ghost use Rattle.owned.specs.Owned.{executedOwned, toRun, toldOf, executedWith};
+ghost use Rattle.commands.specs.Run.{ran_to};
+ghost use Rattle.owned.specs.Owned.{executed_owned, to_run, told_of, executed_with};
 
 use commands::command::Arranged;
 use commands::execute::execute;
@@ -25,7 +25,7 @@ pub fn execute_owned(
     bins: &mut [[f64; 77]],
     pulses: [Pulse; 8192],
 ) -> Executed
-    ensures { ranTo result.tabled bins.new result.pulses ≡ executedOwned t splines.now commands count bins.old pulses }
+    ensures { ran_to result.tabled bins.new result.pulses ≡ executed_owned t splines.now commands count bins.old pulses }
 {
     let mut lent = pulses;
     let n = to_run(count);
@@ -35,7 +35,7 @@ pub fn execute_owned(
 }
 
 fn to_run(count: usize) -> usize
-    ensures { result ≡ toRun count }
+    ensures { result ≡ to_run count }
 {
     if count <= 1024 {
         return count;
@@ -44,7 +44,7 @@ fn to_run(count: usize) -> usize
 }
 
 fn with_pulses(count: usize, tabled: Tabled, pulses: [Pulse; 8192]) -> Executed
-    ensures { result ≡ executedWith count tabled pulses }
+    ensures { result ≡ executed_with count tabled pulses }
 {
     let told = told(count, tabled);
     Executed {
@@ -54,7 +54,7 @@ fn with_pulses(count: usize, tabled: Tabled, pulses: [Pulse; 8192]) -> Executed
 }
 
 fn told(count: usize, tabled: Tabled) -> Tabled
-    ensures { result ≡ toldOf count tabled }
+    ensures { result ≡ told_of count tabled }
 {
     if 1024 < count {
         let t = tabled.tables;

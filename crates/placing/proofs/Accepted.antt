@@ -5,21 +5,21 @@ use lib.Ieee.{Float}
 use Rattle.quant.specs.declared.aligned.Placed.TheVariants as placed
 use Rattle.quant.specs.declared.phaser.Phased.TheVariants.{Pair}
 use Rattle.quant.specs.declared.settings.Settings.{Settings}
-use Rattle.quant.specs.Complex.{timesC}
-use Rattle.quant.specs.Phaser.{phasedOf}
-use Rattle.rows.specs.Rows.{allFinite}
+use Rattle.quant.specs.Complex.{times_c}
+use Rattle.quant.specs.Phaser.{phased_of}
+use Rattle.rows.specs.Rows.{all_finite}
 use Rattle.shape.specs.declared.envelope.Enveloped.TheVariants as enveloped
 use Rattle.shape.proofs.Envelopes.{points-fit}
 use Rattle.shape.proofs.Filling.{least-left, least-right}
 use Rattle.pulse.specs.declared.bin.Bin.{Bin}
 use Rattle.pulse.specs.declared.envelope.Shape.TheVariants.{Plain}
 use Rattle.pulse.specs.declared.list.Pulse.{Pulse}
-use Rattle.pulse.specs.Envelope.{isShaped}
+use Rattle.pulse.specs.Envelope.{is_shaped}
 use Rattle.placing.specs.declared.Flat.{Flat}
 use Rattle.placing.specs.declared.Curved.{Curved}
 use Rattle.placing.specs.declared.Judged.TheVariants.{Plateau, Shaped}
-use Rattle.placing.specs.Phases.{phase0, dphase, startPair, rotationPair, phaseNumbers}
-use Rattle.placing.specs.Judged.{placed_at, weightNumbers, dragOf, dragNumbers, plainFine, curvedFine, count_of, flatOf, curvedOf, measuredAt, judged}
+use Rattle.placing.specs.Phases.{phase0, dphase, start_pair, rotation_pair, phase_numbers}
+use Rattle.placing.specs.Judged.{placed_at, weight_numbers, drag_of, drag_numbers, plain_fine, curved_fine, count_of, flat_of, curved_of, measured_at, judged}
 use Rattle.exact.proofs.Truth.{both}
 use Rattle.placing.proofs.Turning.{start-given, rotation-given}
 use Rattle.placing.proofs.Ways.{Inside, Way, no_index, before, beyond, past, unshaped, over, plain-rest, curved-rest, flat, curved, way}
@@ -33,39 +33,39 @@ module _ (s : Settings) (b : Bin) (p : Pulse) (len : ℕ) where
     pub shape : b.envelope.shape ≡ Plain
     pub count : f.count ≡ count_of s b
     pub fits : f.start + f.count ≤ len
-    pub weight : allFinite (weightNumbers p) ≡ true
-    pub phases : allFinite (phaseNumbers s b f.start offset) ≡ true
-    pub first : phasedOf (phase0 s b f.start offset) ≡ Pair (startPair s b f.start offset)
-    pub turn : phasedOf (dphase s b) ≡ Pair (rotationPair s b)
-    pub carrier : f.carrier ≡ timesC (startPair s b f.start offset) p.amp
-    pub rotation : f.rotation ≡ rotationPair s b
+    pub weight : all_finite (weight_numbers p) ≡ true
+    pub phases : all_finite (phase_numbers s b f.start offset) ≡ true
+    pub first : phased_of (phase0 s b f.start offset) ≡ Pair (start_pair s b f.start offset)
+    pub turn : phased_of (dphase s b) ≡ Pair (rotation_pair s b)
+    pub carrier : f.carrier ≡ times_c (start_pair s b f.start offset) p.amp
+    pub rotation : f.rotation ≡ rotation_pair s b
 
 module _ (s : Settings) (b : Bin) (numbers : List Float) (p : Pulse) (len : ℕ) where
   -- ---- with a shape
   pub record HeldCurved (c : Curved) : Type 0 where
     pub placed : placed_at s p ≡ placed.Start c.start c.offset
     pub inside : c.start < len
-    pub shape : isShaped b.envelope.shape ≡ true
-    pub points : measuredAt s b numbers c.offset (len - c.start) ≡ enveloped.Points c.points
+    pub shape : is_shaped b.envelope.shape ≡ true
+    pub points : measured_at s b numbers c.offset (len - c.start) ≡ enveloped.Points c.points
     pub fits : c.start + c.points ≤ len
     pub few : c.points ≤ 65536
-    pub weight : allFinite (weightNumbers p) ≡ true
-    pub drags : allFinite (dragNumbers s p) ≡ true
-    pub phases : allFinite (phaseNumbers s b c.start c.offset) ≡ true
-    pub first : phasedOf (phase0 s b c.start c.offset) ≡ Pair (startPair s b c.start c.offset)
-    pub turn : phasedOf (dphase s b) ≡ Pair (rotationPair s b)
+    pub weight : all_finite (weight_numbers p) ≡ true
+    pub drags : all_finite (drag_numbers s p) ≡ true
+    pub phases : all_finite (phase_numbers s b c.start c.offset) ≡ true
+    pub first : phased_of (phase0 s b c.start c.offset) ≡ Pair (start_pair s b c.start c.offset)
+    pub turn : phased_of (dphase s b) ≡ Pair (rotation_pair s b)
     pub amp : c.amp ≡ p.amp
-    pub drag : c.drag ≡ dragOf s p
-    pub carrier : c.carrier ≡ startPair s b c.start c.offset
-    pub rotation : c.rotation ≡ rotationPair s b
+    pub drag : c.drag ≡ drag_of s p
+    pub carrier : c.carrier ≡ start_pair s b c.start c.offset
+    pub rotation : c.rotation ≡ rotation_pair s b
 
   pub flat-held : (f : Flat) → judged s b numbers p len ≡ Plateau f → HeldFlat s b p len f
   flat-held f e = by (way s b numbers p len (Plateau f) e)
     where
       held : (k : Inside s b p len) → b.envelope.shape ≡ Plain → k.start + count_of s b ≤ len
-          → plainFine s b p k.start k.offset ≡ true → HeldFlat s b p len (flatOf s b p k.start k.offset)
+          → plain_fine s b p k.start k.offset ≡ true → HeldFlat s b p len (flat_of s b p k.start k.offset)
       held k z h m =
-          let fine = both (allFinite (weightNumbers p)) (allFinite (phaseNumbers s b k.start k.offset)) m in
+          let fine = both (all_finite (weight_numbers p)) (all_finite (phase_numbers s b k.start k.offset)) m in
           record {
             offset = k.offset;
             placed = k.placed;
@@ -90,17 +90,17 @@ module _ (s : Settings) (b : Bin) (numbers : List Float) (p : Pulse) (len : ℕ)
       by (over k z h e) = let z : ◌≡◌ {A = ℕ} 0 1 = cc in absurd (omega arith)
       by (plain-rest k z h m e) = let z : ◌≡◌ {A = ℕ} 0 1 = cc in absurd (omega arith)
       by (curved-rest k n z m h e) = let z : ◌≡◌ {A = ℕ} 0 1 = cc in absurd (omega arith)
-      by (flat k z h m e) = let same : flatOf s b p k.start k.offset ≡ f = cc in subst (λ (q : Flat). HeldFlat s b p len q) same (held k z h m)
+      by (flat k z h m e) = let same : flat_of s b p k.start k.offset ≡ f = cc in subst (λ (q : Flat). HeldFlat s b p len q) same (held k z h m)
       by (curved k n z m h e) = let z : ◌≡◌ {A = ℕ} 0 1 = cc in absurd (omega arith)
 
   pub curved-held : (c : Curved) → judged s b numbers p len ≡ Shaped c → HeldCurved c
   curved-held c e = by (way s b numbers p len (Shaped c) e)
     where
-      held : (k : Inside s b p len) (n : ℕ) → isShaped b.envelope.shape ≡ true → measuredAt s b numbers k.offset (len - k.start) ≡ enveloped.Points n
-          → curvedFine s b p k.start k.offset ≡ true → HeldCurved (curvedOf s b p k.start k.offset n)
+      held : (k : Inside s b p len) (n : ℕ) → is_shaped b.envelope.shape ≡ true → measured_at s b numbers k.offset (len - k.start) ≡ enveloped.Points n
+          → curved_fine s b p k.start k.offset ≡ true → HeldCurved (curved_of s b p k.start k.offset n)
       held k n z m h =
-          let fine = both (allFinite (weightNumbers p) && allFinite (dragNumbers s p)) (allFinite (phaseNumbers s b k.start k.offset)) h in
-          let weights = both (allFinite (weightNumbers p)) (allFinite (dragNumbers s p)) fine.0 in
+          let fine = both (all_finite (weight_numbers p) && all_finite (drag_numbers s p)) (all_finite (phase_numbers s b k.start k.offset)) h in
+          let weights = both (all_finite (weight_numbers p)) (all_finite (drag_numbers s p)) fine.0 in
           let room = points-fit b.envelope.shape numbers _ _ _ _ _ _ n m in
           record {
             placed = k.placed;
@@ -130,4 +130,4 @@ module _ (s : Settings) (b : Bin) (numbers : List Float) (p : Pulse) (len : ℕ)
       by (plain-rest k z h m e) = let z : ◌≡◌ {A = ℕ} 0 1 = cc in absurd (omega arith)
       by (curved-rest k n z m h e) = let z : ◌≡◌ {A = ℕ} 0 1 = cc in absurd (omega arith)
       by (flat k z h m e) = let z : ◌≡◌ {A = ℕ} 0 1 = cc in absurd (omega arith)
-      by (curved k n z m h e) = let same : curvedOf s b p k.start k.offset n ≡ c = cc in subst (λ (q : Curved). HeldCurved q) same (held k n z m h)
+      by (curved k n z m h e) = let same : curved_of s b p k.start k.offset n ≡ c = cc in subst (λ (q : Curved). HeldCurved q) same (held k n z m h)

@@ -9,15 +9,15 @@ use Rattle.quant.specs.declared.refusal.Refusal.TheVariants.{NotFinite, BeforeRo
 use Rattle.quant.specs.declared.settings.Settings.{Settings}
 use Rattle.shape.specs.declared.envelope.Enveloped.TheVariants as enveloped
 use Rattle.shape.specs.Parts.{t1}
-use Rattle.shape.specs.Envelope.{envelopedOf, least}
+use Rattle.shape.specs.Envelope.{enveloped_of, least}
 use Rattle.shape.proofs.Envelopes.{eleven, refused-by}
 use Rattle.shape.proofs.Laying.{too_short}
 use Rattle.pulse.specs.declared.bin.Bin.{Bin}
 use Rattle.pulse.specs.declared.list.Pulse.{Pulse}
-use Rattle.pulse.specs.Envelope.{isShaped}
+use Rattle.pulse.specs.Envelope.{is_shaped}
 use Rattle.placing.specs.declared.Judged.{Judged}
 use Rattle.placing.specs.declared.Judged.TheVariants.{Refused}
-use Rattle.placing.specs.Judged.{placed_at, measuredAt, judged}
+use Rattle.placing.specs.Judged.{placed_at, measured_at, judged}
 use Rattle.placing.proofs.Ways.{Inside, Way, no_index, before, beyond, past, unshaped, over, plain-rest, curved-rest, flat, curved, way, way-given}
 
 module _ (s : Settings) (b : Bin) (p : Pulse) (len : ℕ) where
@@ -31,12 +31,12 @@ module _ (s : Settings) (b : Bin) (p : Pulse) (len : ℕ) where
   -- a shaped pulse that starts within the row, with t1 < 0
   pub record Short : Type 0 where
     pub at : Inside s b p len
-    pub shape : isShaped b.envelope.shape ≡ true
+    pub shape : is_shaped b.envelope.shape ≡ true
     pub short : lt (t1 b.envelope.width.0 b.envelope.plateau.0 at.offset s.rate.0 s.dt.0) nought ≡ true
 
 module _ (s : Settings) (b : Bin) (numbers : List Float) (p : Pulse) (len : ℕ) where
   -- an envelope that is refused
-  measured-by : (o : Float) (room : ℕ) (r : Refusal) → measuredAt s b numbers o room ≡ enveloped.Refused r → (r ≡ ShapeTooShort) ⊎ ((r ≡ EndPastRow) ⊎ (r ≡ NotFinite))
+  measured-by : (o : Float) (room : ℕ) (r : Refusal) → measured_at s b numbers o room ≡ enveloped.Refused r → (r ≡ ShapeTooShort) ⊎ ((r ≡ EndPastRow) ⊎ (r ≡ NotFinite))
   measured-by o room r m = refused-by b.envelope.shape numbers b.envelope.width.0 b.envelope.plateau.0 o s.rate.0 s.dt.0 (least room 65536) r m
 
   not-nine : (r : Refusal) → (r ≡ ShapeTooShort) ⊎ ((r ≡ EndPastRow) ⊎ (r ≡ NotFinite)) → ◌≡◌ {A = Judged} (Refused r) (Refused BeforeRow) → ⊥
@@ -44,10 +44,10 @@ module _ (s : Settings) (b : Bin) (numbers : List Float) (p : Pulse) (len : ℕ)
   not-nine r (inr (inl h)) e = let z : ◌≡◌ {A = ℕ} 0 1 = cc in omega arith
   not-nine r (inr (inr h)) e = let z : ◌≡◌ {A = ℕ} 0 1 = cc in omega arith
 
-  not-ten : (r : Refusal) → (r ≡ ShapeTooShort) ⊎ ((r ≡ EndPastRow) ⊎ (r ≡ NotFinite)) → ◌≡◌ {A = Judged} (Refused r) (Refused StartPastRow) → ⊥
-  not-ten r (inl h) e = let z : ◌≡◌ {A = ℕ} 0 1 = cc in omega arith
-  not-ten r (inr (inl h)) e = let z : ◌≡◌ {A = ℕ} 0 1 = cc in omega arith
-  not-ten r (inr (inr h)) e = let z : ◌≡◌ {A = ℕ} 0 1 = cc in omega arith
+  not_ten : (r : Refusal) → (r ≡ ShapeTooShort) ⊎ ((r ≡ EndPastRow) ⊎ (r ≡ NotFinite)) → ◌≡◌ {A = Judged} (Refused r) (Refused StartPastRow) → ⊥
+  not_ten r (inl h) e = let z : ◌≡◌ {A = ℕ} 0 1 = cc in omega arith
+  not_ten r (inr (inl h)) e = let z : ◌≡◌ {A = ℕ} 0 1 = cc in omega arith
+  not_ten r (inr (inr h)) e = let z : ◌≡◌ {A = ℕ} 0 1 = cc in omega arith
 
   -- ---- 9: the aligned start is below 0
   pub nine-given : placed_at s p ≡ placed.Before → judged s b numbers p len ≡ Refused BeforeRow
@@ -69,9 +69,9 @@ module _ (s : Settings) (b : Bin) (numbers : List Float) (p : Pulse) (len : ℕ)
       by (curved k n z m h e) = let z : ◌≡◌ {A = ℕ} 0 1 = cc in absurd (omega arith)
 
   -- ---- 10: the start is not below the row length, or is from 2^64 on
-  pub ten-given : (placed_at s p ≡ placed.Beyond) ⊎ Past s b p len → judged s b numbers p len ≡ Refused StartPastRow
-  ten-given (inl g) = way-given s b numbers p len (Refused StartPastRow) (beyond g refl)
-  ten-given (inr h) = way-given s b numbers p len (Refused StartPastRow) (past h.start h.offset h.placed h.past refl)
+  pub ten_given : (placed_at s p ≡ placed.Beyond) ⊎ Past s b p len → judged s b numbers p len ≡ Refused StartPastRow
+  ten_given (inl g) = way-given s b numbers p len (Refused StartPastRow) (beyond g refl)
+  ten_given (inr h) = way-given s b numbers p len (Refused StartPastRow) (past h.start h.offset h.placed h.past refl)
 
   pub ten : judged s b numbers p len ≡ Refused StartPastRow → (placed_at s p ≡ placed.Beyond) ⊎ Past s b p len
   ten e = by (way s b numbers p len (Refused StartPastRow) e)
@@ -81,7 +81,7 @@ module _ (s : Settings) (b : Bin) (numbers : List Float) (p : Pulse) (len : ℕ)
       by (before g e) = let z : ◌≡◌ {A = ℕ} 0 1 = cc in absurd (omega arith)
       by (beyond g e) = inl g
       by (past w o g h e) = inr (record { start = w; offset = o; placed = g; past = h })
-      by (unshaped k r z m e) = absurd (not-ten r (measured-by k.offset (len - k.start) r m) e)
+      by (unshaped k r z m e) = absurd (not_ten r (measured-by k.offset (len - k.start) r m) e)
       by (over k z h e) = let z : ◌≡◌ {A = ℕ} 0 1 = cc in absurd (omega arith)
       by (plain-rest k z h m e) = let z : ◌≡◌ {A = ℕ} 0 1 = cc in absurd (omega arith)
       by (curved-rest k n z m h e) = let z : ◌≡◌ {A = ℕ} 0 1 = cc in absurd (omega arith)
@@ -89,14 +89,14 @@ module _ (s : Settings) (b : Bin) (numbers : List Float) (p : Pulse) (len : ℕ)
       by (curved k n z m h e) = let z : ◌≡◌ {A = ℕ} 0 1 = cc in absurd (omega arith)
 
   -- ---- 11: a shaped pulse that starts within the row, with t1 < 0
-  pub eleven-given : Short s b p len → judged s b numbers p len ≡ Refused ShapeTooShort
-  eleven-given h =
+  pub eleven_given : Short s b p len → judged s b numbers p len ≡ Refused ShapeTooShort
+  eleven_given h =
       let k = h.at in
       let parted = too_short b.envelope.width.0 b.envelope.plateau.0 k.offset s.rate.0 s.dt.0 (least (len - k.start) 65536) h.short in
-      way-given s b numbers p len (Refused ShapeTooShort) (unshaped k ShapeTooShort h.shape (sym (ap (envelopedOf b.envelope.shape numbers) parted)) refl)
+      way-given s b numbers p len (Refused ShapeTooShort) (unshaped k ShapeTooShort h.shape (sym (ap (enveloped_of b.envelope.shape numbers) parted)) refl)
 
-  pub only-eleven : judged s b numbers p len ≡ Refused ShapeTooShort → Short s b p len
-  only-eleven e = by (way s b numbers p len (Refused ShapeTooShort) e)
+  pub only_eleven : judged s b numbers p len ≡ Refused ShapeTooShort → Short s b p len
+  only_eleven e = by (way s b numbers p len (Refused ShapeTooShort) e)
     where
       by : Way s b numbers p len (Refused ShapeTooShort) → Short s b p len
       by (no_index g e) = let z : ◌≡◌ {A = ℕ} 0 1 = cc in absurd (omega arith)

@@ -6,72 +6,72 @@ use lib.Ieee.Scale.{finite}
 use Rattle.quant.specs.declared.complex.Complex.{Complex}
 use Rattle.quant.specs.declared.phaser.Phased.TheVariants as phased
 use Rattle.quant.specs.declared.settings.Settings.{Settings}
-use Rattle.quant.specs.Phaser.{radiansOf, pair_at, phasedOf}
-use Rattle.rows.specs.Rows.{allFinite}
+use Rattle.quant.specs.Phaser.{radians_of, pair_at, phased_of}
+use Rattle.rows.specs.Rows.{all_finite}
 use Rattle.exact.proofs.Truth.{both}
 use Rattle.pulse.specs.declared.bin.Bin.{Bin}
 use Rattle.placing.specs.declared.phases.Turned.TheVariants.{Pairs, NotFinite}
-use Rattle.placing.specs.Phases.{startTime, sinceDelay, globalPhase, localSlip, localPhase, total_of, phase0, dphase, startPair, rotationPair, phaseNumbers, turnedOf, pairsOf}
+use Rattle.placing.specs.Phases.{start_time, since_delay, global_phase, local_slip, local_phase, total_of, phase0, dphase, start_pair, rotation_pair, phase_numbers, turned_of, pairs_of}
 
 -- ---- a phaser that is given, and one that is not
-pub pair-given : (p : Float) (u : Complex) → phasedOf p ≡ phased.Pair u → (finite (radiansOf p) ≡ true) × (pair_at (radiansOf p) ≡ u)
-pair-given p u e = by (finite (radiansOf p)) refl e
+pub pair-given : (p : Float) (u : Complex) → phased_of p ≡ phased.Pair u → (finite (radians_of p) ≡ true) × (pair_at (radians_of p) ≡ u)
+pair-given p u e = by (finite (radians_of p)) refl e
   where
-    by : (b : Bool) → finite (radiansOf p) ≡ b → Rattle.quant.specs.Phaser.phased b (radiansOf p) ≡ phased.Pair u → (finite (radiansOf p) ≡ true) × (pair_at (radiansOf p) ≡ u)
+    by : (b : Bool) → finite (radians_of p) ≡ b → Rattle.quant.specs.Phaser.phased b (radians_of p) ≡ phased.Pair u → (finite (radians_of p) ≡ true) × (pair_at (radians_of p) ≡ u)
     by true f e = (f, cc)
     by false f e = let z : ◌≡◌ {A = ℕ} 0 1 = cc in absurd (omega arith)
 
-pub no-pair : (p : Float) → phasedOf p ≡ phased.NotFinite → finite (radiansOf p) ≡ false
-no-pair p e = by (finite (radiansOf p)) refl e
+pub no-pair : (p : Float) → phased_of p ≡ phased.NotFinite → finite (radians_of p) ≡ false
+no-pair p e = by (finite (radians_of p)) refl e
   where
-    by : (b : Bool) → finite (radiansOf p) ≡ b → Rattle.quant.specs.Phaser.phased b (radiansOf p) ≡ phased.NotFinite → finite (radiansOf p) ≡ false
+    by : (b : Bool) → finite (radians_of p) ≡ b → Rattle.quant.specs.Phaser.phased b (radians_of p) ≡ phased.NotFinite → finite (radians_of p) ≡ false
     by true f e = let z : ◌≡◌ {A = ℕ} 0 1 = cc in absurd (omega arith)
     by false f e = f
 
 module _ (p d : Float) where
-  pub both-given : (u v : Complex) → phasedOf p ≡ phased.Pair u → phasedOf d ≡ phased.Pair v → Pairs u v ≡ pairsOf p d
+  pub both-given : (u v : Complex) → phased_of p ≡ phased.Pair u → phased_of d ≡ phased.Pair v → Pairs u v ≡ pairs_of p d
   both-given u v e f = let e' = pair-given p u e in let f' = pair-given d v f in rw (e'.0, f'.0, e'.1, f'.1)
 
-  pub first-missing : phasedOf p ≡ phased.NotFinite → NotFinite ≡ pairsOf p d
+  pub first-missing : phased_of p ≡ phased.NotFinite → NotFinite ≡ pairs_of p d
   first-missing e = rw (no-pair p e)
 
-  pub second-missing : phasedOf d ≡ phased.NotFinite → NotFinite ≡ pairsOf p d
-  second-missing e = rw (no-pair d e, and-false (finite (radiansOf p)))
+  pub second-missing : phased_of d ≡ phased.NotFinite → NotFinite ≡ pairs_of p d
+  second-missing e = rw (no-pair d e, and-false (finite (radians_of p)))
 
 -- ---- numbers before others
-pub finite-append : (xs ys : List Float) → allFinite (xs ++ ys) ≡ (allFinite xs && allFinite ys)
-unfolding allFinite
+pub finite-append : (xs ys : List Float) → all_finite (xs ++ ys) ≡ (all_finite xs && all_finite ys)
+unfolding all_finite
 finite-append [] ys = refl
 finite-append (x ∷ xs) ys = rw (finite-append xs ys) (by (finite x))
   where
-    by : (b : Bool) → (b && (allFinite xs && allFinite ys)) ≡ ((b && allFinite xs) && allFinite ys)
+    by : (b : Bool) → (b && (all_finite xs && all_finite ys)) ≡ ((b && all_finite xs) && all_finite ys)
     by true = refl
     by false = refl
 
 -- ---- what an answer of `turn` says
 module _ (s : Settings) (b : Bin) (start : ℕ) (offset : Float) where
   pub record Given (u d : Complex) : Type 0 where
-    pub fine : allFinite (phaseNumbers s b start offset) ≡ true
-    pub first : u ≡ startPair s b start offset
-    pub rotation : d ≡ rotationPair s b
+    pub fine : all_finite (phase_numbers s b start offset) ≡ true
+    pub first : u ≡ start_pair s b start offset
+    pub rotation : d ≡ rotation_pair s b
 
-  pub turn-given : (u d : Complex) → turnedOf s b start offset ≡ Pairs u d → Given u d
-  turn-given u d e = by (allFinite (phaseNumbers s b start offset)) refl e
+  pub turn-given : (u d : Complex) → turned_of s b start offset ≡ Pairs u d → Given u d
+  turn-given u d e = by (all_finite (phase_numbers s b start offset)) refl e
     where
-      by : (x : Bool) → allFinite (phaseNumbers s b start offset) ≡ x → cond x (Pairs (startPair s b start offset) (rotationPair s b)) NotFinite ≡ Pairs u d → Given u d
+      by : (x : Bool) → all_finite (phase_numbers s b start offset) ≡ x → cond x (Pairs (start_pair s b start offset) (rotation_pair s b)) NotFinite ≡ Pairs u d → Given u d
       by true f e = record { fine = f; first = cc; rotation = cc }
       by false f e = let z : ◌≡◌ {A = ℕ} 0 1 = cc in absurd (omega arith)
 
-  pub turn-missing : turnedOf s b start offset ≡ NotFinite → allFinite (phaseNumbers s b start offset) ≡ false
-  turn-missing e = by (allFinite (phaseNumbers s b start offset)) refl e
+  pub turn-missing : turned_of s b start offset ≡ NotFinite → all_finite (phase_numbers s b start offset) ≡ false
+  turn-missing e = by (all_finite (phase_numbers s b start offset)) refl e
     where
-      by : (x : Bool) → allFinite (phaseNumbers s b start offset) ≡ x → cond x (Pairs (startPair s b start offset) (rotationPair s b)) NotFinite ≡ NotFinite
-          → allFinite (phaseNumbers s b start offset) ≡ false
+      by : (x : Bool) → all_finite (phase_numbers s b start offset) ≡ x → cond x (Pairs (start_pair s b start offset) (rotation_pair s b)) NotFinite ≡ NotFinite
+          → all_finite (phase_numbers s b start offset) ≡ false
       by true f e = let z : ◌≡◌ {A = ℕ} 0 1 = cc in absurd (omega arith)
       by false f e = f
 
   -- ---- the code's numbers, one by one
-  module _ (at since turned slow late p total d : Float) (a0 : at ≡ startTime s start) (a1 : since ≡ sub binary64 at s.delay.0) (a2 : turned ≡ mul binary64 b.global.0 since)
+  module _ (at since turned slow late p total d : Float) (a0 : at ≡ start_time s start) (a1 : since ≡ sub binary64 at s.delay.0) (a2 : turned ≡ mul binary64 b.global.0 since)
       (a3 : slow ≡ mul binary64 b.local.0 offset) (a4 : late ≡ mul binary64 slow s.dt.0) (a5 : p ≡ add binary64 turned late) (a6 : total ≡ add binary64 b.global.0 b.local.0)
       (a7 : d ≡ mul binary64 total s.dt.0) where
     abbrev eight : List Float
@@ -85,41 +85,41 @@ module _ (s : Settings) (b : Bin) (start : ℕ) (offset : Float) where
     unfolding dphase
     d-is = rw (a7, a6)
 
-    numbers : eight ++ (radiansOf p ∷ radiansOf d ∷ []) ≡ phaseNumbers s b start offset
-    unfolding phaseNumbers
+    numbers : eight ++ (radians_of p ∷ radians_of d ∷ []) ≡ phase_numbers s b start offset
+    unfolding phase_numbers
     numbers = rw (← p-is, ← d-is, a4, a3, a2, a1, a0, a6)
 
-    judged-all : allFinite (phaseNumbers s b start offset) ≡ (allFinite eight && (finite (radiansOf p) && finite (radiansOf d)))
-    unfolding allFinite
-    judged-all = ap allFinite (sym numbers) ∙ finite-append eight (radiansOf p ∷ radiansOf d ∷ []) ∙ ap (λ (x : Bool). allFinite eight && (finite (radiansOf p) && x)) (by (finite (radiansOf d)))
+    judged-all : all_finite (phase_numbers s b start offset) ≡ (all_finite eight && (finite (radians_of p) && finite (radians_of d)))
+    unfolding all_finite
+    judged-all = ap all_finite (sym numbers) ∙ finite-append eight (radians_of p ∷ radians_of d ∷ []) ∙ ap (λ (x : Bool). all_finite eight && (finite (radians_of p) && x)) (by (finite (radians_of d)))
       where
         by : (x : Bool) → (x && true) ≡ x
         by true = refl
         by false = refl
 
-    pub turn-fine : allFinite eight ≡ true → pairsOf p d ≡ turnedOf s b start offset
-    unfolding startPair rotationPair
+    pub turn-fine : all_finite eight ≡ true → pairs_of p d ≡ turned_of s b start offset
+    unfolding start_pair rotation_pair
     turn-fine e = rw (judged-all, e, ← p-is, ← d-is)
 
-    pub turn-refused : allFinite eight ≡ false → NotFinite ≡ turnedOf s b start offset
+    pub turn-refused : all_finite eight ≡ false → NotFinite ≡ turned_of s b start offset
     turn-refused e = rw (judged-all, e)
 
 -- ---- numbers that are all finite: the pairs are what the phasers give
-module _ (s : Settings) (b : Bin) (start : ℕ) (offset : Float) (fine : allFinite (phaseNumbers s b start offset) ≡ true) where
-  radians-fine : (finite (radiansOf (phase0 s b start offset)) ≡ true) × (finite (radiansOf (dphase s b)) ≡ true)
+module _ (s : Settings) (b : Bin) (start : ℕ) (offset : Float) (fine : all_finite (phase_numbers s b start offset) ≡ true) where
+  radians_fine : (finite (radians_of (phase0 s b start offset)) ≡ true) × (finite (radians_of (dphase s b)) ≡ true)
   unfolding phase0 dphase
-  radians-fine =
-      let p = radiansOf (phase0 s b start offset) in
-      let d = radiansOf (dphase s b) in
+  radians_fine =
+      let p = radians_of (phase0 s b start offset) in
+      let d = radians_of (dphase s b) in
       let all =
-      judged-all s b start offset (startTime s start) (sinceDelay s start) (globalPhase s b start) (localSlip b offset) (localPhase s b offset)
+      judged-all s b start offset (start_time s start) (since_delay s start) (global_phase s b start) (local_slip b offset) (local_phase s b offset)
       (phase0 s b start offset) (total_of b) (dphase s b) refl refl refl refl refl refl refl refl in
-      both (finite p) (finite d) (both (allFinite _) (finite p && finite d) (sym all ∙ fine)).1
+      both (finite p) (finite d) (both (all_finite _) (finite p && finite d) (sym all ∙ fine)).1
 
-  pub start-given : phasedOf (phase0 s b start offset) ≡ phased.Pair (startPair s b start offset)
-  unfolding startPair
-  start-given = rw radians-fine.0
+  pub start-given : phased_of (phase0 s b start offset) ≡ phased.Pair (start_pair s b start offset)
+  unfolding start_pair
+  start-given = rw radians_fine.0
 
-  pub rotation-given : phasedOf (dphase s b) ≡ phased.Pair (rotationPair s b)
-  unfolding rotationPair
-  rotation-given = rw radians-fine.1
+  pub rotation-given : phased_of (dphase s b) ≡ phased.Pair (rotation_pair s b)
+  unfolding rotation_pair
+  rotation-given = rw radians_fine.1

@@ -9,7 +9,7 @@ use lib.Ieee.Exact.{HasValue}
 use lib.Ieee.Fits.{div-fits}
 use lib.Ieee.Scale.{finite, round_same}
 use Rattle.exact.specs.Doubles.{nought, one}
-use Rattle.exact.specs.Value.{sign_of, unitsOf}
+use Rattle.exact.specs.Value.{sign_of, units_of}
 use Rattle.exact.proofs.Few.{few-of, few-value, units-below, value-finite}
 use Rattle.exact.proofs.Finite.{smaller-finite}
 use Rattle.exact.proofs.Operation.{mul-rounds}
@@ -18,38 +18,38 @@ use Rattle.exact.proofs.Value.{own}
 use Rattle.quant.specs.declared.refusal.Refusal.TheVariants.{EndPastRow}
 use Rattle.quant.specs.declared.settings.Fitting.TheVariants.{Fit}
 use Rattle.quant.specs.declared.settings.Settings.{Settings}
-use Rattle.quant.specs.Settings.{isRate, isLevel, fitting, fittingOf}
+use Rattle.quant.specs.Settings.{is_rate, is_level, fitting, fitting_of}
 use Rattle.quant.proofs.Offset.{place-exact}
 use Rattle.shape.specs.declared.envelope.Enveloped.TheVariants as enveloped
 use Rattle.shape.specs.Parts.{index_at, t1, t3}
-use Rattle.shape.specs.Envelope.{envelopedOf, least}
+use Rattle.shape.specs.Envelope.{enveloped_of, least}
 use Rattle.shape.proofs.Filling.{least-left, least-right}
 use Rattle.shape.proofs.Laying.{past_row}
 use Rattle.shape.proofs.Twelve.{Measurable, twelve}
 use Rattle.pulse.specs.declared.bin.Bin.{Bin}
 use Rattle.pulse.specs.declared.list.Pulse.{Pulse}
 use Rattle.pulse.specs.Bin.{GoodBin}
-use Rattle.pulse.specs.Envelope.{isShaped}
+use Rattle.pulse.specs.Envelope.{is_shaped}
 use Rattle.placing.specs.declared.Judged.TheVariants.{Refused}
-use Rattle.placing.specs.Judged.{count_of, measuredAt, judged}
+use Rattle.placing.specs.Judged.{count_of, measured_at, judged}
 use Rattle.placing.proofs.Ways.{Inside, Way, no_index, before, beyond, past, unshaped, over, plain-rest, curved-rest, flat, curved, plain-only, way, way-given}
 
 -- ---- the end index
 
 -- how many samples a pulse has: ceil(plateau*rate) without a shape; with one its envelope's, ceil(t3*rate)
-abbrev pub samplesOf : Settings → Bin → Float → Bool → ℕ
-samplesOf s b offset false = count_of s b
-samplesOf s b offset true = index_at (t3 b.envelope.width.0 b.envelope.plateau.0 offset s.rate.0 s.dt.0) s.rate.0
+abbrev pub samples_of : Settings → Bin → Float → Bool → ℕ
+samples_of s b offset false = count_of s b
+samples_of s b offset true = index_at (t3 b.envelope.width.0 b.envelope.plateau.0 offset s.rate.0 s.dt.0) s.rate.0
 
 -- it starts within the row, meets no 11, and its end index is over the row length
 pub record Over (s : Settings) (b : Bin) (p : Pulse) (len : ℕ) : Type 0 where
   pub at : Inside s b p len
-  pub reaches : isShaped b.envelope.shape ≡ true → lt (t1 b.envelope.width.0 b.envelope.plateau.0 at.offset s.rate.0 s.dt.0) nought ≡ false
-  pub over : len < at.start + samplesOf s b at.offset (isShaped b.envelope.shape)
+  pub reaches : is_shaped b.envelope.shape ≡ true → lt (t1 b.envelope.width.0 b.envelope.plateau.0 at.offset s.rate.0 s.dt.0) nought ≡ false
+  pub over : len < at.start + samples_of s b at.offset (is_shaped b.envelope.shape)
 
 -- ---- it is given there
-pub twelve-given : (s : Settings) (b : Bin) (numbers : List Float) (p : Pulse) (len : ℕ) → Over s b p len → judged s b numbers p len ≡ Refused EndPastRow
-twelve-given s b numbers p len h = by (isShaped b.envelope.shape) refl h.over
+pub twelve_given : (s : Settings) (b : Bin) (numbers : List Float) (p : Pulse) (len : ℕ) → Over s b p len → judged s b numbers p len ≡ Refused EndPastRow
+twelve_given s b numbers p len h = by (is_shaped b.envelope.shape) refl h.over
   where
     k : Inside s b p len
     k = h.at
@@ -57,13 +57,13 @@ twelve-given s b numbers p len h = by (isShaped b.envelope.shape) refl h.over
     room : ℕ
     room = least (len - k.start) 65536
 
-    by : (z : Bool) → isShaped b.envelope.shape ≡ z → len < k.start + samplesOf s b k.offset z → judged s b numbers p len ≡ Refused EndPastRow
+    by : (z : Bool) → is_shaped b.envelope.shape ≡ z → len < k.start + samples_of s b k.offset z → judged s b numbers p len ≡ Refused EndPastRow
     by false z o = way-given s b numbers p len (Refused EndPastRow) (over k (plain-only b.envelope.shape z) o refl)
     by true z o =
-        let n = samplesOf s b k.offset true in
+        let n = samples_of s b k.offset true in
         let less = least-left (len - k.start) 65536 in
         let parted = past_row b.envelope.width.0 b.envelope.plateau.0 k.offset s.rate.0 s.dt.0 room (h.reaches z) n refl (lt-ltb room n (omega (arith, less, o, k.inside))) in
-        way-given s b numbers p len (Refused EndPastRow) (unshaped k EndPastRow z (sym (ap (envelopedOf b.envelope.shape numbers) parted)) refl)
+        way-given s b numbers p len (Refused EndPastRow) (unshaped k EndPastRow z (sym (ap (enveloped_of b.envelope.shape numbers) parted)) refl)
 
 -- ---- an offset in time is finite
 
@@ -73,7 +73,7 @@ regrouped a n q = ap (λ (x : ℕ). x * q) (mul_comm a n) ∙ mul_assoc n a q
 -- d steps of 1/a, fewer than a of them, times a finite double
 part-finite : (o x : Float) (d a : ℕ) → 0 < a → d < a → HasValue o false d a → T (fits binary64 x) → T (finite x) → T (finite (mul binary64 o x))
 part-finite o x d a h less v f t =
-    let n = unitsOf x in
+    let n = units_of x in
     let s = sign_of x in
     let q = 2 ^ 1074 in
     let whole : T (finite (round binary64 s n q)) = value-finite (round binary64 s n q) s n (few-value s n (few-of x f t) (units-below x f t)) in
@@ -95,15 +95,15 @@ record Clock (s : Settings) : Type 0 where
 holds : {b : Bool} → b ≡ true → T b
 holds e = subst T (sym e) tt
 
-clock : (s : Settings) → fittingOf s.rate s.delay s.level ≡ Fit s → Clock s
-clock s e = by (isRate s.rate.0 && finite (div binary64 one s.rate.0) && finite s.delay.0 && isLevel s.level) refl e
+clock : (s : Settings) → fitting_of s.rate s.delay s.level ≡ Fit s → Clock s
+clock s e = by (is_rate s.rate.0 && finite (div binary64 one s.rate.0) && finite s.delay.0 && is_level s.level) refl e
   where
-    by : (b : Bool) → (isRate s.rate.0 && finite (div binary64 one s.rate.0) && finite s.delay.0 && isLevel s.level) ≡ b → fitting b s.rate s.delay s.level ≡ Fit s → Clock s
+    by : (b : Bool) → (is_rate s.rate.0 && finite (div binary64 one s.rate.0) && finite s.delay.0 && is_level s.level) ≡ b → fitting b s.rate s.delay s.level ≡ Fit s → Clock s
     by false f e = let z : ◌≡◌ {A = ℕ} 0 1 = cc in absurd (omega arith)
     by true f e =
-        let g = both (isRate s.rate.0 && finite (div binary64 one s.rate.0) && finite s.delay.0) (isLevel s.level) f in
-        let h = both (isRate s.rate.0 && finite (div binary64 one s.rate.0)) (finite s.delay.0) g.0 in
-        let i = both (isRate s.rate.0) (finite (div binary64 one s.rate.0)) h.0 in
+        let g = both (is_rate s.rate.0 && finite (div binary64 one s.rate.0) && finite s.delay.0) (is_level s.level) f in
+        let h = both (is_rate s.rate.0 && finite (div binary64 one s.rate.0)) (finite s.delay.0) g.0 in
+        let i = both (is_rate s.rate.0) (finite (div binary64 one s.rate.0)) h.0 in
         let r = both (finite s.rate.0) (lt nought s.rate.0) i.0 in
         let l = both (le_z (negsuc 19) s.level) (le_z s.level (pos 20)) g.1 in
         let is : record { rate = s.rate; dt = record { 0 = div binary64 one s.rate.0 }; delay = s.delay; level = s.level } ≡ s = cc in
@@ -127,7 +127,7 @@ pub record Kept (b : Bin) : Type 0 where
 -- such a bin, settings that fit and whose rate is a double, and a row of at most 65,536 samples
 pub record Judgeable (s : Settings) (b : Bin) (len : ℕ) : Type 0 where
   pub bin : Kept b
-  pub fit : fittingOf s.rate s.delay s.level ≡ Fit s
+  pub fit : fitting_of s.rate s.delay s.level ≡ Fit s
   pub rate-fits : T (fits binary64 s.rate.0)
   pub row : len ≤ 65536
 
@@ -140,7 +140,7 @@ ends left len start n few inside is more =
     omega (arith, whole)
 
 module _ (s : Settings) (b : Bin) (numbers : List Float) (p : Pulse) (len : ℕ) (h : Judgeable s b len) where
-  measurable : (k : Inside s b p len) → isShaped b.envelope.shape ≡ true → Measurable b.envelope.width.0 b.envelope.plateau.0 k.offset s.rate.0 s.dt.0
+  measurable : (k : Inside s b p len) → is_shaped b.envelope.shape ≡ true → Measurable b.envelope.width.0 b.envelope.plateau.0 k.offset s.rate.0 s.dt.0
   measurable k z =
       let c = clock s h.fit in
       let o = place-exact (add binary64 p.time.0 s.delay.0) s.rate.0 s.level k.start k.offset c.low c.high k.placed in
@@ -162,7 +162,7 @@ module _ (s : Settings) (b : Bin) (numbers : List Float) (p : Pulse) (len : ℕ)
       }
 
   -- an envelope that has no room
-  past_end : (k : Inside s b p len) → isShaped b.envelope.shape ≡ true → measuredAt s b numbers k.offset (len - k.start) ≡ enveloped.Refused EndPastRow → Over s b p len
+  past_end : (k : Inside s b p len) → is_shaped b.envelope.shape ≡ true → measured_at s b numbers k.offset (len - k.start) ≡ enveloped.Refused EndPastRow → Over s b p len
   past_end k z e =
       let room = least (len - k.start) 65536 in
       let few = least-right (len - k.start) 65536 in
@@ -170,11 +170,11 @@ module _ (s : Settings) (b : Bin) (numbers : List Float) (p : Pulse) (len : ℕ)
       record {
         at = k;
         reaches = λ _. r.reaches;
-        over = subst (λ (x : Bool). len < k.start + samplesOf s b k.offset x) (sym z) (ends (len - k.start) len k.start (samplesOf s b k.offset true) h.row k.inside refl r.past);
+        over = subst (λ (x : Bool). len < k.start + samples_of s b k.offset x) (sym z) (ends (len - k.start) len k.start (samples_of s b k.offset true) h.row k.inside refl r.past);
       }
 
-  pub only-twelve : judged s b numbers p len ≡ Refused EndPastRow → Over s b p len
-  only-twelve e = by (way s b numbers p len (Refused EndPastRow) e)
+  pub only_twelve : judged s b numbers p len ≡ Refused EndPastRow → Over s b p len
+  only_twelve e = by (way s b numbers p len (Refused EndPastRow) e)
     where
       by : Way s b numbers p len (Refused EndPastRow) → Over s b p len
       by (no_index g e) = let z : ◌≡◌ {A = ℕ} 0 1 = cc in absurd (omega arith)
@@ -185,8 +185,8 @@ module _ (s : Settings) (b : Bin) (numbers : List Float) (p : Pulse) (len : ℕ)
       by (over k z o e) =
           record {
             at = k;
-            reaches = λ y. absurd (true≢false (sym y ∙ ap isShaped z));
-            over = subst (λ (x : Bool). len < k.start + samplesOf s b k.offset x) (sym (ap isShaped z)) o;
+            reaches = λ y. absurd (true≢false (sym y ∙ ap is_shaped z));
+            over = subst (λ (x : Bool). len < k.start + samples_of s b k.offset x) (sym (ap is_shaped z)) o;
           }
       by (plain-rest k z h m e) = let z : ◌≡◌ {A = ℕ} 0 1 = cc in absurd (omega arith)
       by (curved-rest k n z m h e) = let z : ◌≡◌ {A = ℕ} 0 1 = cc in absurd (omega arith)

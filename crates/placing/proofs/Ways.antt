@@ -13,10 +13,10 @@ use Rattle.pulse.specs.declared.bin.Bin.{Bin}
 use Rattle.pulse.specs.declared.envelope.Shape.{Shape}
 use Rattle.pulse.specs.declared.envelope.Shape.TheVariants.{Plain, Hann, Spline}
 use Rattle.pulse.specs.declared.list.Pulse.{Pulse}
-use Rattle.pulse.specs.Envelope.{isShaped}
+use Rattle.pulse.specs.Envelope.{is_shaped}
 use Rattle.placing.specs.declared.Judged.{Judged}
 use Rattle.placing.specs.declared.Judged.TheVariants.{Plateau, Shaped, Refused}
-use Rattle.placing.specs.Judged.{placed_at, plainFine, curvedFine, count_of, flatOf, curvedOf, plainAt, measuredAt, shapedAt, formedAt, judgedAt, judged}
+use Rattle.placing.specs.Judged.{placed_at, plain_fine, curved_fine, count_of, flat_of, curved_of, plain_at, measured_at, shaped_at, formed_at, judged_at, judged}
 
 -- a start within the row, and its offset
 pub record Inside (s : Settings) (b : Bin) (p : Pulse) (len : ℕ) : Type 0 where
@@ -25,7 +25,7 @@ pub record Inside (s : Settings) (b : Bin) (p : Pulse) (len : ℕ) : Type 0 wher
   pub placed : placed_at s p ≡ placed.Start start offset
   pub inside : start < len
 
-pub plain-only : (z : Shape) → isShaped z ≡ false → z ≡ Plain
+pub plain-only : (z : Shape) → is_shaped z ≡ false → z ≡ Plain
 plain-only Plain e = refl
 plain-only Hann e = absurd (true≢false e)
 plain-only Spline e = absurd (true≢false e)
@@ -37,46 +37,46 @@ module _ (s : Settings) (b : Bin) (numbers : List Float) (p : Pulse) (len : ℕ)
     before : placed_at s p ≡ placed.Before → Refused BeforeRow ≡ j → Way j
     beyond : placed_at s p ≡ placed.Beyond → Refused StartPastRow ≡ j → Way j
     past : (w : ℕ) (o : Float) → placed_at s p ≡ placed.Start w o → len ≤ w → Refused StartPastRow ≡ j → Way j
-    unshaped : (k : Inside s b p len) (r : Refusal) → isShaped b.envelope.shape ≡ true → measuredAt s b numbers k.offset (len - k.start) ≡ enveloped.Refused r → Refused r ≡ j → Way j
+    unshaped : (k : Inside s b p len) (r : Refusal) → is_shaped b.envelope.shape ≡ true → measured_at s b numbers k.offset (len - k.start) ≡ enveloped.Refused r → Refused r ≡ j → Way j
     over : (k : Inside s b p len) → b.envelope.shape ≡ Plain → len < k.start + count_of s b → Refused EndPastRow ≡ j → Way j
-    plain-rest : (k : Inside s b p len) → b.envelope.shape ≡ Plain → k.start + count_of s b ≤ len → plainFine s b p k.start k.offset ≡ false
+    plain-rest : (k : Inside s b p len) → b.envelope.shape ≡ Plain → k.start + count_of s b ≤ len → plain_fine s b p k.start k.offset ≡ false
         → Refused NotFinite ≡ j → Way j
-    curved-rest : (k : Inside s b p len) (n : ℕ) → isShaped b.envelope.shape ≡ true → measuredAt s b numbers k.offset (len - k.start) ≡ enveloped.Points n → curvedFine s b p k.start k.offset ≡ false
+    curved-rest : (k : Inside s b p len) (n : ℕ) → is_shaped b.envelope.shape ≡ true → measured_at s b numbers k.offset (len - k.start) ≡ enveloped.Points n → curved_fine s b p k.start k.offset ≡ false
         → Refused NotFinite ≡ j → Way j
-    flat : (k : Inside s b p len) → b.envelope.shape ≡ Plain → k.start + count_of s b ≤ len → plainFine s b p k.start k.offset ≡ true
-        → Plateau (flatOf s b p k.start k.offset) ≡ j → Way j
-    curved : (k : Inside s b p len) (n : ℕ) → isShaped b.envelope.shape ≡ true → measuredAt s b numbers k.offset (len - k.start) ≡ enveloped.Points n → curvedFine s b p k.start k.offset ≡ true
-        → Shaped (curvedOf s b p k.start k.offset n) ≡ j → Way j
+    flat : (k : Inside s b p len) → b.envelope.shape ≡ Plain → k.start + count_of s b ≤ len → plain_fine s b p k.start k.offset ≡ true
+        → Plateau (flat_of s b p k.start k.offset) ≡ j → Way j
+    curved : (k : Inside s b p len) (n : ℕ) → is_shaped b.envelope.shape ≡ true → measured_at s b numbers k.offset (len - k.start) ≡ enveloped.Points n → curved_fine s b p k.start k.offset ≡ true
+        → Shaped (curved_of s b p k.start k.offset n) ≡ j → Way j
 
   -- ---- there is no other
   module _ (j : Judged) (k : Inside s b p len) where
-    plain-way : (x y : Bool) → b.envelope.shape ≡ Plain → ltb (len - k.start) (count_of s b) ≡ x → plainFine s b p k.start k.offset ≡ y
-        → cond x (Refused EndPastRow) (cond y (Plateau (flatOf s b p k.start k.offset)) (Refused NotFinite)) ≡ j → Way j
+    plain-way : (x y : Bool) → b.envelope.shape ≡ Plain → ltb (len - k.start) (count_of s b) ≡ x → plain_fine s b p k.start k.offset ≡ y
+        → cond x (Refused EndPastRow) (cond y (Plateau (flat_of s b p k.start k.offset)) (Refused NotFinite)) ≡ j → Way j
     plain-way true y z h m e = over k z (omega (arith, k.inside, ltb-true (len - k.start) (count_of s b) h)) e
     plain-way false true z h m e = flat k z (omega (arith, k.inside, ltb-false (len - k.start) (count_of s b) h)) m e
     plain-way false false z h m e = plain-rest k z (omega (arith, k.inside, ltb-false (len - k.start) (count_of s b) h)) m e
 
-    curved-way : (n : ℕ) (x : Bool) → isShaped b.envelope.shape ≡ true → measuredAt s b numbers k.offset (len - k.start) ≡ enveloped.Points n → curvedFine s b p k.start k.offset ≡ x
-        → cond x (Shaped (curvedOf s b p k.start k.offset n)) (Refused NotFinite) ≡ j → Way j
+    curved-way : (n : ℕ) (x : Bool) → is_shaped b.envelope.shape ≡ true → measured_at s b numbers k.offset (len - k.start) ≡ enveloped.Points n → curved_fine s b p k.start k.offset ≡ x
+        → cond x (Shaped (curved_of s b p k.start k.offset n)) (Refused NotFinite) ≡ j → Way j
     curved-way n true z m h e = curved k n z m h e
     curved-way n false z m h e = curved-rest k n z m h e
 
-    shaped-way : (q : Enveloped) → isShaped b.envelope.shape ≡ true → measuredAt s b numbers k.offset (len - k.start) ≡ q → shapedAt s b p k.start k.offset q ≡ j → Way j
-    shaped-way (enveloped.Points n) z m e = curved-way n (curvedFine s b p k.start k.offset) z m refl e
+    shaped-way : (q : Enveloped) → is_shaped b.envelope.shape ≡ true → measured_at s b numbers k.offset (len - k.start) ≡ q → shaped_at s b p k.start k.offset q ≡ j → Way j
+    shaped-way (enveloped.Points n) z m e = curved-way n (curved_fine s b p k.start k.offset) z m refl e
     shaped-way (enveloped.Refused r) z m e = unshaped k r z m e
 
-    formed-way : (z : Bool) → isShaped b.envelope.shape ≡ z
-        → cond z (shapedAt s b p k.start k.offset (measuredAt s b numbers k.offset (len - k.start))) (plainAt s b p k.start k.offset (len - k.start)) ≡ j → Way j
-    formed-way true z e = shaped-way (measuredAt s b numbers k.offset (len - k.start)) z refl e
-    formed-way false z e = plain-way (ltb (len - k.start) (count_of s b)) (plainFine s b p k.start k.offset) (plain-only b.envelope.shape z) refl refl e
+    formed-way : (z : Bool) → is_shaped b.envelope.shape ≡ z
+        → cond z (shaped_at s b p k.start k.offset (measured_at s b numbers k.offset (len - k.start))) (plain_at s b p k.start k.offset (len - k.start)) ≡ j → Way j
+    formed-way true z e = shaped-way (measured_at s b numbers k.offset (len - k.start)) z refl e
+    formed-way false z e = plain-way (ltb (len - k.start) (count_of s b)) (plain_fine s b p k.start k.offset) (plain-only b.envelope.shape z) refl refl e
 
   module _ (j : Judged) where
     started-way : (w : ℕ) (o : Float) (x : Bool) → placed_at s p ≡ placed.Start w o → ltb w len ≡ x
-        → cond x (formedAt s b numbers p w o (len - w)) (Refused StartPastRow) ≡ j → Way j
-    started-way w o true g h e = formed-way j (record { start = w; offset = o; placed = g; inside = ltb-true w len h }) (isShaped b.envelope.shape) refl e
+        → cond x (formed_at s b numbers p w o (len - w)) (Refused StartPastRow) ≡ j → Way j
+    started-way w o true g h e = formed-way j (record { start = w; offset = o; placed = g; inside = ltb-true w len h }) (is_shaped b.envelope.shape) refl e
     started-way w o false g h e = past w o g (ltb-false w len h) e
 
-    placed-way : (q : Placed) → placed_at s p ≡ q → judgedAt s b numbers p len q ≡ j → Way j
+    placed-way : (q : Placed) → placed_at s p ≡ q → judged_at s b numbers p len q ≡ j → Way j
     placed-way (placed.Start w o) g e = started-way w o (ltb w len) g refl e
     placed-way placed.NotFinite g e = no_index g e
     placed-way placed.Before g e = before g e
@@ -87,27 +87,27 @@ module _ (s : Settings) (b : Bin) (numbers : List Float) (p : Pulse) (len : ℕ)
     way e = placed-way (placed_at s p) refl e
 
   -- ---- each gives its answer
-  inside_is : (k : Inside s b p len) (z : Bool) → isShaped b.envelope.shape ≡ z
+  inside_is : (k : Inside s b p len) (z : Bool) → is_shaped b.envelope.shape ≡ z
       → judged s b numbers p len
-      ≡ cond z (shapedAt s b p k.start k.offset (measuredAt s b numbers k.offset (len - k.start))) (plainAt s b p k.start k.offset (len - k.start))
+      ≡ cond z (shaped_at s b p k.start k.offset (measured_at s b numbers k.offset (len - k.start))) (plain_at s b p k.start k.offset (len - k.start))
   unfolding judged
   inside_is k z e =
-      ap (judgedAt s b numbers p len) k.placed
-      ∙ ap (λ (x : Bool). cond x (formedAt s b numbers p k.start k.offset (len - k.start)) (Refused StartPastRow)) (lt-ltb k.start len k.inside)
-      ∙ ap (λ (y : Bool). cond y (shapedAt s b p k.start k.offset (measuredAt s b numbers k.offset (len - k.start))) (plainAt s b p k.start k.offset (len - k.start))) e
+      ap (judged_at s b numbers p len) k.placed
+      ∙ ap (λ (x : Bool). cond x (formed_at s b numbers p k.start k.offset (len - k.start)) (Refused StartPastRow)) (lt-ltb k.start len k.inside)
+      ∙ ap (λ (y : Bool). cond y (shaped_at s b p k.start k.offset (measured_at s b numbers k.offset (len - k.start))) (plain_at s b p k.start k.offset (len - k.start))) e
 
   pub way-given : (j : Judged) → Way j → judged s b numbers p len ≡ j
   unfolding judged
-  way-given j (no_index g e) = ap (judgedAt s b numbers p len) g ∙ e
-  way-given j (before g e) = ap (judgedAt s b numbers p len) g ∙ e
-  way-given j (beyond g e) = ap (judgedAt s b numbers p len) g ∙ e
+  way-given j (no_index g e) = ap (judged_at s b numbers p len) g ∙ e
+  way-given j (before g e) = ap (judged_at s b numbers p len) g ∙ e
+  way-given j (beyond g e) = ap (judged_at s b numbers p len) g ∙ e
   way-given j (past w o g h e) =
-      ap (judgedAt s b numbers p len) g
-      ∙ ap (λ (x : Bool). cond x (formedAt s b numbers p w o (len - w)) (Refused StartPastRow)) (le-ltb w len h)
+      ap (judged_at s b numbers p len) g
+      ∙ ap (λ (x : Bool). cond x (formed_at s b numbers p w o (len - w)) (Refused StartPastRow)) (le-ltb w len h)
       ∙ e
-  way-given j (unshaped k r z m e) = inside_is k true z ∙ ap (shapedAt s b p k.start k.offset) m ∙ e
-  way-given j (over k z h e) = inside_is k false (ap isShaped z) ∙ rw (lt-ltb (len - k.start) (count_of s b) (omega (arith, k.inside, h))) e
-  way-given j (plain-rest k z h m e) = inside_is k false (ap isShaped z) ∙ rw (le-ltb (len - k.start) (count_of s b) (omega (arith, k.inside, h)), m) e
-  way-given j (curved-rest k n z m h e) = inside_is k true z ∙ ap (shapedAt s b p k.start k.offset) m ∙ rw h e
-  way-given j (flat k z h m e) = inside_is k false (ap isShaped z) ∙ rw (le-ltb (len - k.start) (count_of s b) (omega (arith, k.inside, h)), m) e
-  way-given j (curved k n z m h e) = inside_is k true z ∙ ap (shapedAt s b p k.start k.offset) m ∙ rw h e
+  way-given j (unshaped k r z m e) = inside_is k true z ∙ ap (shaped_at s b p k.start k.offset) m ∙ e
+  way-given j (over k z h e) = inside_is k false (ap is_shaped z) ∙ rw (lt-ltb (len - k.start) (count_of s b) (omega (arith, k.inside, h))) e
+  way-given j (plain-rest k z h m e) = inside_is k false (ap is_shaped z) ∙ rw (le-ltb (len - k.start) (count_of s b) (omega (arith, k.inside, h)), m) e
+  way-given j (curved-rest k n z m h e) = inside_is k true z ∙ ap (shaped_at s b p k.start k.offset) m ∙ rw h e
+  way-given j (flat k z h m e) = inside_is k false (ap is_shaped z) ∙ rw (le-ltb (len - k.start) (count_of s b) (omega (arith, k.inside, h)), m) e
+  way-given j (curved k n z m h e) = inside_is k true z ∙ ap (shaped_at s b p k.start k.offset) m ∙ rw h e

@@ -1,8 +1,8 @@
 // One pulse of a sampling call: where it goes and with what carrier, or its refusal, before any sample changes. The Rust's `sample_pulse_list`.
 ghost use Rattle.std.specs.Prelude.{◌≡◌};
-ghost use Rattle.rows.specs.Rows.{allFinite};
-ghost use Rattle.pulse.specs.Envelope.{isShaped};
-ghost use Rattle.placing.specs.Judged.{weightNumbers, judged, startedAt, plainAt, curvedAt, measuredAt, shapedAt};
+ghost use Rattle.rows.specs.Rows.{all_finite};
+ghost use Rattle.pulse.specs.Envelope.{is_shaped};
+ghost use Rattle.placing.specs.Judged.{weight_numbers, judged, started_at, plain_at, curved_at, measured_at, shaped_at};
 
 mod phases;
 
@@ -44,7 +44,7 @@ pub struct Curved {
 pub enum Judged {
     Plateau(Flat),
     Shaped(Curved),
-    // `judgedAnswer` says what it answers.
+    // `judged_answer` says what it answers.
     Refused(Refusal),
 }
 
@@ -70,7 +70,7 @@ fn from_start(
     offset: f64,
     len: usize,
 ) -> Judged
-    ensures { result ≡ startedAt s b numbers.now p len start offset }
+    ensures { result ≡ started_at s b numbers.now p len start offset }
 {
     if len <= start {
         return Judged::Refused(Refusal::StartPastRow);
@@ -85,7 +85,7 @@ fn from_start(
 
 // Whether there is a shape. Asked here, so that `shaped` is called in one place.
 fn is_shaped(shape: Shape) -> bool
-    ensures { result ≡ isShaped shape }
+    ensures { result ≡ is_shaped shape }
 {
     match shape {
         Shape::Plain => false,
@@ -96,7 +96,7 @@ fn is_shaped(shape: Shape) -> bool
 
 // Without a shape, where the row has room for `room` samples from the start on.
 fn plain(s: Settings, b: Bin, p: Pulse, start: usize, offset: f64, room: usize) -> Judged
-    ensures { result ≡ plainAt s b p start offset room }
+    ensures { result ≡ plain_at s b p start offset room }
 {
     let e = b.envelope;
     let count = samples(e.plateau, s.rate);
@@ -127,7 +127,7 @@ fn shaped(
     offset: f64,
     room: usize,
 ) -> Judged
-    ensures { result ≡ shapedAt s b p start offset (measuredAt s b numbers.now offset room) }
+    ensures { result ≡ shaped_at s b p start offset (measured_at s b numbers.now offset room) }
 {
     let e = b.envelope;
     let shape = e.shape;
@@ -140,7 +140,7 @@ fn shaped(
 }
 
 fn with_points(s: Settings, b: Bin, p: Pulse, start: usize, offset: f64, points: usize) -> Judged
-    ensures { result ≡ curvedAt s b p start offset points }
+    ensures { result ≡ curved_at s b p start offset points }
 {
     let rate = s.rate;
     let amp = p.amp;
@@ -166,7 +166,7 @@ fn with_points(s: Settings, b: Bin, p: Pulse, start: usize, offset: f64, points:
 
 // The amplitude and the drag.
 fn is_finite_weight(p: Pulse) -> bool
-    ensures { result ≡ allFinite (weightNumbers p) }
+    ensures { result ≡ all_finite (weight_numbers p) }
 {
     let amp = p.amp;
     let drag = p.drag;

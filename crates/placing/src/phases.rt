@@ -1,6 +1,6 @@
 // The phase at a pulse's start and the phase from one sample to the next, as complex numbers of size 1. The Rust's `phase0` and `dphase`.
 ghost use Rattle.std.specs.Prelude.{◌≡◌};
-ghost use Rattle.placing.specs.Phases.{turnedOf, pairsOf};
+ghost use Rattle.placing.specs.Phases.{turned_of, pairs_of};
 
 use pulse::bin::Bin;
 use quant::complex::Complex;
@@ -19,7 +19,7 @@ pub enum Turned {
 }
 
 pub(crate) fn turn(s: Settings, b: Bin, start: usize, offset: f64) -> Turned
-    ensures { result ≡ turnedOf s b start offset }
+    ensures { result ≡ turned_of s b start offset }
 {
     let dt = s.dt;
     let global = b.global;
@@ -42,7 +42,7 @@ pub(crate) fn turn(s: Settings, b: Bin, start: usize, offset: f64) -> Turned
 }
 
 fn pairs(phase0: Phase, dphase: Phase) -> Turned
-    ensures { result ≡ pairsOf phase0.0 dphase.0 }
+    ensures { result ≡ pairs_of phase0.0 dphase.0 }
 {
     match phaser(phase0) {
         Phased::Pair(u) => match phaser(dphase) {

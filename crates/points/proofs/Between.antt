@@ -12,7 +12,7 @@ use Rattle.exact.proofs.Sum.{sum_like, sum_first, sum-second, sum-none}
 use Rattle.exact.proofs.Value.{scale}
 use Rattle.fma.specs.Fused.{fma}
 use Rattle.fma.proofs.Fusing.{fma-at}
-use Rattle.points.specs.Points.{number, pointAt}
+use Rattle.points.specs.Points.{number, point_at}
 use Rattle.points.proofs.Fused.{index-value}
 
 -- such a property
@@ -77,13 +77,13 @@ module _ (fine : Float → Type 0) (S : Shrinks fine) (t u : Bool) (n w : ℕ) (
   positive : 0 < p
   positive = mul-pos (down_pos d) (down_pos g)
 
-  point-is : (i : ℕ) → i ≤ 2 ^ 53 → pointAt (fin u w g) (fin t n d) i ≡ sum binary64 (unlike false t) (i * p * step) u (start * p) (p * p)
+  point-is : (i : ℕ) → i ≤ 2 ^ 53 → point_at (fin u w g) (fin t n d) i ≡ sum binary64 (unlike false t) (i * p * step) u (start * p) (p * p)
   point-is i h =
       let of-step : HasValue (fin t n d) t step p = scale (fin t n d) t (n * up d) (down d) (down g) (refl, refl) in
       let of-start : HasValue (fin u w g) u start p = subst (HasValue (fin u w g) u start) (mul_comm (down g) (down d)) (scale (fin u w g) u (w * up g) (down g) (down d) (refl, refl)) in
       fma-at (number i) (fin t n d) (fin u w g) false t u (i * p) step start p positive (index-value i p h) of-step of-start
 
-  between_ends : (i m : ℕ) → i ≤ m → m ≤ 2 ^ 53 → fine (pointAt (fin u w g) (fin t n d) 0) → fine (pointAt (fin u w g) (fin t n d) m) → fine (pointAt (fin u w g) (fin t n d) i)
+  between_ends : (i m : ℕ) → i ≤ m → m ≤ 2 ^ 53 → fine (point_at (fin u w g) (fin t n d) 0) → fine (point_at (fin u w g) (fin t n d) m) → fine (point_at (fin u w g) (fin t n d) i)
   between_ends i m h l first last =
       let nothing : 0 * p * step ≡ 0 = ap (λ (x : ℕ). x * step) (zero-mul p) ∙ zero-mul step in
       let a : fine (sum binary64 (unlike false t) 0 u (start * p) (p * p)) = subst (λ (x : ℕ). fine (sum binary64 (unlike false t) x u (start * p) (p * p))) nothing (subst fine (point-is 0 (omega arith)) first) in
@@ -92,10 +92,10 @@ module _ (fine : Float → Type 0) (S : Shrinks fine) (t u : Bool) (n w : ℕ) (
       (between fine S (unlike false t) u (i * p * step) (m * p * step) (start * p) (p * p) (mul-pos positive positive) (mul-le-mul_right step (mul-le-mul_right p h)) a b)
 
 -- A first point is finite only where x and dx are.
-pub points-between : (P : Float → Type 0) → Shrinks P → (x dx : Float) (i m : ℕ) → i ≤ m → m ≤ 2 ^ 53 → P (pointAt x dx 0) → P (pointAt x dx m) → P (pointAt x dx i)
+pub points-between : (P : Float → Type 0) → Shrinks P → (x dx : Float) (i m : ℕ) → i ≤ m → m ≤ 2 ^ 53 → P (point_at x dx 0) → P (point_at x dx m) → P (point_at x dx i)
 unfolding fma of_int round add mul
 points-between P S x nan i m h l first last = absurd (S.known nan first)
-points-between P S x (inf t) i m h l first last = absurd (S.known (pointAt x (inf t) 0) first)
+points-between P S x (inf t) i m h l first last = absurd (S.known (point_at x (inf t) 0) first)
 points-between P S nan (fin t n d) i m h l first last = absurd (S.known nan first)
 points-between P S (inf u) (fin t n d) i m h l first last = absurd (S.known (inf u) first)
 points-between P S (fin u w g) (fin t n d) i m h l first last = between_ends P S t u n w d g i m h l first last

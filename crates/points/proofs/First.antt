@@ -5,7 +5,7 @@ use Rattle.exact.specs.Doubles.{nought}
 use Rattle.exact.specs.Value.{Units}
 use Rattle.exact.proofs.Operation.{add_rounds}
 use Rattle.exact.proofs.Sum.{sum_comm}
-use Rattle.points.specs.Points.{pointAt, points}
+use Rattle.points.specs.Points.{point_at, points}
 use Rattle.points.specs.Grid.{headed}
 use Rattle.points.proofs.Fused.{point-sum}
 
@@ -13,7 +13,7 @@ nought-value : Units nought false 0
 unfolding of_bits
 nought-value = (refl, refl)
 
-first-is : (x dx : Float) (s : Bool) (a b : ℕ) → Units x s a → Units dx false b → add binary64 x nought ≡ pointAt x dx 0
+first-is : (x dx : Float) (s : Bool) (a b : ℕ) → Units x s a → Units dx false b → add binary64 x nought ≡ point_at x dx 0
 first-is x dx s a b v w =
     let W = 2 ^ 1074 in
     add_rounds binary64 x nought s false a 0 W (pow_pos 1074) v nought-value
@@ -21,12 +21,12 @@ first-is x dx s a b v w =
     ∙ ap (λ (n : ℕ). sum binary64 false n s a W) (sym (zero-mul b))
     ∙ sym (point-sum x dx s false a b 0 (lit≤ tt) v w)
 
-points-same : (n i : ℕ) (x t dx : Float) → ((k : ℕ) → i ≤ k → k < i + n → pointAt t dx k ≡ pointAt x dx k) → points n i t dx ≡ points n i x dx
+points-same : (n i : ℕ) (x t dx : Float) → ((k : ℕ) → i ≤ k → k < i + n → point_at t dx k ≡ point_at x dx k) → points n i t dx ≡ points n i x dx
 unfolding points
 points-same zero i x t dx h = refl
 points-same (suc n) i x t dx h = λ j. h i (omega arith) (omega arith) j ∷ points-same n (suc i) x t dx (λ k l g. h k (omega arith) (omega arith)) j
 
-pub put_right : (n : ℕ) (x t dx : Float) (s : Bool) (a b : ℕ) → Units x s a → Units dx false b → ((k : ℕ) → 0 < k → k < n → pointAt t dx k ≡ pointAt x dx k)
+pub put_right : (n : ℕ) (x t dx : Float) (s : Bool) (a b : ℕ) → Units x s a → Units dx false b → ((k : ℕ) → 0 < k → k < n → point_at t dx k ≡ point_at x dx k)
     → headed (add binary64 x nought) (points n 0 t dx) ≡ points n 0 x dx
 unfolding points headed
 put_right zero x t dx s a b v w h = refl

@@ -10,7 +10,7 @@ use Rattle.exact.proofs.Sum.{sum_like, sum_first}
 use Rattle.fma.specs.Sticky.{Sticky}
 use Rattle.fma.proofs.StickyBit.{sticky-add, sticky-sub, sticky-below}
 use Rattle.fma.proofs.Standing.{sticky-same}
-use Rattle.points.specs.Points.{pointAt, points}
+use Rattle.points.specs.Points.{point_at, points}
 use Rattle.points.specs.Grid.{OnGrid, StandsFor, headed}
 use Rattle.points.proofs.Fused.{point-sum}
 use Rattle.points.proofs.First.{put_right}
@@ -36,15 +36,15 @@ module _ (m w j n : ℕ) (even : m % 2 ≡ 0) (far : 2 ^ 57 ≤ m) (small : w �
       ∙ sym (sum_first binary64 false true (m * p) n c refl (sticky-below m w n j v l))
 
 -- ---- point i of a start of n units and a step of h steps
-point-is : (x dx : Float) (s : Bool) (n h i : ℕ) → i ≤ 65536 → Units x s n → Units dx false (h * 2 ^ 988) → pointAt x dx i ≡ sum binary64 false (i * h * 2 * 2 ^ 987) s n (2 ^ 1074)
+point-is : (x dx : Float) (s : Bool) (n h i : ℕ) → i ≤ 65536 → Units x s n → Units dx false (h * 2 ^ 988) → point_at x dx i ≡ sum binary64 false (i * h * 2 * 2 ^ 987) s n (2 ^ 1074)
 point-is x dx s n h i l v w =
     point-sum x dx s false n (h * 2 ^ 988) i (le_trans l (lit≤ tt)) v w ∙ ap (λ (m : ℕ). sum binary64 false m s n (2 ^ 1074)) (regroup i h (2 ^ 987))
   where
     regroup : (i h u : ℕ) → i * (h * (2 * u)) ≡ i * h * 2 * u
     regroup i h u = simp (mul_assoc, mul_comm, mul_left_comm)
 
-stands-for : (n : ℕ) (x t dx : Float) → StandsFor x t → OnGrid n t dx → (i : ℕ) → 0 < i → i ≤ 65536 → pointAt t dx i ≡ pointAt x dx i
-stands-for n x t dx (inl e) o i I l = ap (λ (y : Float). pointAt y dx i) e
+stands-for : (n : ℕ) (x t dx : Float) → StandsFor x t → OnGrid n t dx → (i : ℕ) → 0 < i → i ≤ 65536 → point_at t dx i ≡ point_at x dx i
+stands-for n x t dx (inl e) o i I l = ap (λ (y : Float). point_at y dx i) e
 stands-for n x t dx (inr k) o i I l =
     let h = o.step.steps in
     point-is t dx k.sign (k.steps * 2 ^ 987) h i l k.of-t o.step.value

@@ -5,8 +5,8 @@ use mathlib.Core.Bool.{false≢true}
 use lib.Ieee.{Float, binary64, of_bits, fits, below, lt, eq, neg, add, sub}
 use lib.Ieee.Scale.{finite}
 use Rattle.exact.specs.Doubles.{nought}
-use Rattle.exact.specs.Value.{Units, sign_of, unitsOf}
-use Rattle.exact.specs.Signed.{Signed, Same, signed, times, plusS, lessS}
+use Rattle.exact.specs.Value.{Units, sign_of, units_of}
+use Rattle.exact.specs.Signed.{Signed, Same, signed, times, plus_s, less_s}
 use Rattle.exact.proofs.Value.{own}
 use Rattle.exact.proofs.Signed.{same-times, sizes}
 use Rattle.exact.proofs.Compare.{lt-is, between, inside, some}
@@ -99,11 +99,11 @@ near-under v p k P f o l = (le_of_mul-le-mul_right {k = p} (omega (arith, f.0)) 
 
 -- one step on from near towards k, which is at most one step from it
 step-up : (v p : ℕ) (k n : Signed) → 0 < p → Same n (times p (times 2 (top v))) → Less n k → 3 * 2 ^ 52 * p + k.plus ≤ v * (2 * p) + k.less + p
-    → Within p k (plusS (times 2 (top v)) (signed false 1))
+    → Within p k (plus_s (times 2 (top v)) (signed false 1))
 step-up v p k n P e b l = (omega arith, omega arith)
 
 step_down : (v p : ℕ) (k n : Signed) → 0 < p → Same n (times p (times 2 (top v))) → Less k n → v * (2 * p) + k.less ≤ 3 * 2 ^ 52 * p + k.plus + p
-    → Within p k (lessS (times 2 (top v)) (signed false 1))
+    → Within p k (less_s (times 2 (top v)) (signed false 1))
 step_down v p k n P e b l = (omega arith, omega arith)
 
 -- ---- x is above -2 ^ -36, below 2 ^ -36, and not 0
@@ -113,22 +113,22 @@ module _ (x : Float) (f : T (fits binary64 x)) (h : lt x LEAST ≡ true) (l : lt
   known = between (neg LEAST) x LEAST tt tt l h
 
   abbrev kx : Signed
-  kx = signed (sign_of x) (unitsOf x)
+  kx = signed (sign_of x) (units_of x)
 
-  value : Units x (sign_of x) (unitsOf x)
+  value : Units x (sign_of x) (units_of x)
   value = own x f known
 
-  small : unitsOf x < 2 ^ 51 * 2 ^ 987
+  small : units_of x < 2 ^ 51 * 2 ^ 987
   small = inside x LEAST (2 ^ 51 * 2 ^ 987) f known least-value h l
 
-  nonzero : 0 < unitsOf x
+  nonzero : 0 < units_of x
   nonzero = some x f known z
 
   abbrev near : Float
   near = sub binary64 (add binary64 x M) M
 
   upper : Upper 987 x M kx
-  upper = upper_of 987 M m-value (lit≤ tt) x (sign_of x) (unitsOf x) (le_trans (le_of_lt small) (lit≤ tt)) value
+  upper = upper_of 987 M m-value (lit≤ tt) x (sign_of x) (units_of x) (le_trans (le_of_lt small) (lit≤ tt)) value
 
   abbrev pairs : Signed
   pairs = times 2 (top upper.v)
@@ -138,51 +138,51 @@ module _ (x : Float) (f : T (fits binary64 x)) (h : lt x LEAST ≡ true) (l : lt
 
   room : (upper.v * 2 ≤ 3 * 2 ^ 52 + 2 ^ 52) × (3 * 2 ^ 52 ≤ upper.v * 2 + 2 ^ 52)
   room =
-      let z = sizes (sign_of x) (unitsOf x) in
+      let z = sizes (sign_of x) (units_of x) in
       near-under upper.v (2 ^ 987) kx (pow_pos 987) (lt_of_le_of_lt z.0 small, lt_of_le_of_lt z.1 small) upper.over upper.under
 
-  sticks : (t : Float) (k : Signed) (o : On 987 t k) → (o.sign ≡ sign_of x) × Sticky o.steps 987 (unitsOf x) → StandsFor x t
+  sticks : (t : Float) (k : Signed) (o : On 987 t k) → (o.sign ≡ sign_of x) × Sticky o.steps 987 (units_of x) → StandsFor x t
   sticks t k o r =
       inr
       (record {
         sign = sign_of x;
-        units = unitsOf x;
+        units = units_of x;
         steps = o.steps;
         of-x = value;
         of-t = subst (λ (s : Bool). Units t s (o.steps * 2 ^ 987)) r.0 o.value;
         sticky = r.1;
-        small = few 987 (unitsOf x) o.steps small r.1;
+        small = few 987 (units_of x) o.steps small r.1;
       })
 
-  near-is : lt near x ≡ below near_on.sign (near_on.steps * 2 ^ 987) (sign_of x) (unitsOf x)
-  near-is = lt-is near x near_on.sign (sign_of x) (near_on.steps * 2 ^ 987) (unitsOf x) (2 ^ 1074) (pow_pos 1074) near_on.value value
+  near-is : lt near x ≡ below near_on.sign (near_on.steps * 2 ^ 987) (sign_of x) (units_of x)
+  near-is = lt-is near x near_on.sign (sign_of x) (near_on.steps * 2 ^ 987) (units_of x) (2 ^ 1074) (pow_pos 1074) near_on.value value
 
-  is-near : lt x near ≡ below (sign_of x) (unitsOf x) near_on.sign (near_on.steps * 2 ^ 987)
-  is-near = lt-is x near (sign_of x) near_on.sign (unitsOf x) (near_on.steps * 2 ^ 987) (2 ^ 1074) (pow_pos 1074) value near_on.value
+  is-near : lt x near ≡ below (sign_of x) (units_of x) near_on.sign (near_on.steps * 2 ^ 987)
+  is-near = lt-is x near (sign_of x) near_on.sign (units_of x) (near_on.steps * 2 ^ 987) (2 ^ 1074) (pow_pos 1074) value near_on.value
 
   near-steps : Same (signed near_on.sign (near_on.steps * 2 ^ 987)) (times (2 ^ 987) pairs)
   near-steps = same-times near_on.sign near_on.steps (2 ^ 987) pairs near_on.same
 
   odd-sticks : (t : Float) (k : Signed) → On 987 t k → (k.plus + k.less) % 2 ≡ 1 → Within (2 ^ 987) kx k → StandsFor x t
-  odd-sticks t k o e w = sticks t k o (odd-stands 987 (unitsOf x) nonzero (sign_of x) o.sign o.steps k o.same e w)
+  odd-sticks t k o e w = sticks t k o (odd-stands 987 (units_of x) nonzero (sign_of x) o.sign o.steps k o.same e w)
 
   pub start-above : lt near x ≡ true → StandsFor x (add binary64 near STEP)
   start-above g =
-      odd-sticks (add binary64 near STEP) (plusS pairs (signed false 1))
+      odd-sticks (add binary64 near STEP) (plus_s pairs (signed false 1))
       (add-on 987 (lit≤ tt) near STEP pairs (signed false 1) near_on step-on (record { over = omega (arith, room.0); under = omega (arith, room.1) })) (omega arith)
       (step-up upper.v (2 ^ 987) kx (signed near_on.sign (near_on.steps * 2 ^ 987)) (pow_pos 987) near-steps
-      (less near_on.sign (sign_of x) (near_on.steps * 2 ^ 987) (unitsOf x) (sym near-is ∙ g)) upper.under)
+      (less near_on.sign (sign_of x) (near_on.steps * 2 ^ 987) (units_of x) (sym near-is ∙ g)) upper.under)
 
   pub start-below : lt x near ≡ true → StandsFor x (sub binary64 near STEP)
   start-below g =
-      odd-sticks (sub binary64 near STEP) (lessS pairs (signed false 1))
+      odd-sticks (sub binary64 near STEP) (less_s pairs (signed false 1))
       (sub-on 987 (lit≤ tt) near STEP pairs (signed false 1) near_on step-on (record { over = omega (arith, room.0); under = omega (arith, room.1) })) (omega arith)
       (step_down upper.v (2 ^ 987) kx (signed near_on.sign (near_on.steps * 2 ^ 987)) (pow_pos 987) near-steps
-      (less (sign_of x) near_on.sign (unitsOf x) (near_on.steps * 2 ^ 987) (sym is-near ∙ g)) upper.over)
+      (less (sign_of x) near_on.sign (units_of x) (near_on.steps * 2 ^ 987) (sym is-near ∙ g)) upper.over)
 
   pub start-at : lt near x ≡ false → lt x near ≡ false → StandsFor x near
   start-at g m =
       sticks near pairs near_on
-      (same-stands 987 (unitsOf x) nonzero (sign_of x) near_on.sign near_on.steps
-      (not-less near_on.sign (sign_of x) (near_on.steps * 2 ^ 987) (unitsOf x) (sym near-is ∙ g))
-      (not-less (sign_of x) near_on.sign (unitsOf x) (near_on.steps * 2 ^ 987) (sym is-near ∙ m)))
+      (same-stands 987 (units_of x) nonzero (sign_of x) near_on.sign near_on.steps
+      (not-less near_on.sign (sign_of x) (near_on.steps * 2 ^ 987) (units_of x) (sym near-is ∙ g))
+      (not-less (sign_of x) near_on.sign (units_of x) (near_on.steps * 2 ^ 987) (sym is-near ∙ m)))

@@ -4,7 +4,7 @@ use Rattle.std.proofs.Common.{◌≡◌, ℕ, ◌+◌, ◌*◌, ◌^◌, ◌<◌
 use lib.Ieee.{Float, binary64, of_bits, lt, eq, neg, mul, fits}
 use lib.Ieee.Scale.{finite}
 use Rattle.exact.specs.Doubles.{nought, two}
-use Rattle.exact.specs.Value.{Units, sign_of, unitsOf}
+use Rattle.exact.specs.Value.{Units, sign_of, units_of}
 use Rattle.exact.specs.Near.{Off}
 use Rattle.exact.proofs.Value.{own}
 use Rattle.exact.proofs.Compare.{lt-is, between, inside, above, beneath, none}
@@ -46,7 +46,7 @@ module _ (x : Float) (f : T (fits binary64 x)) (h : lt x MOST ≡ true) (l : lt 
   unfolding of_bits neg
   known = between (neg MOST) x MOST tt tt l h
 
-  stepped : 2 ^ (52 + 986) < unitsOf x → Stepped x
+  stepped : 2 ^ (52 + 986) < units_of x → Stepped x
   stepped g =
       let n = far-on 986 x f known (le_of_lt g) in
       record {
@@ -58,8 +58,8 @@ module _ (x : Float) (f : T (fits binary64 x)) (h : lt x MOST ≡ true) (l : lt 
   pub stepped-above : lt LEAST x ≡ true → Stepped x
   stepped-above g = stepped (above x LEAST (2 ^ (52 + 986)) f known least-value g).1
 
-  pub stepped-beneath : lt x (neg LEAST) ≡ true → Stepped x
-  stepped-beneath g = stepped (beneath x LEAST (2 ^ (52 + 986)) f known least-value g)
+  pub stepped_beneath : lt x (neg LEAST) ≡ true → Stepped x
+  stepped_beneath g = stepped (beneath x LEAST (2 ^ (52 + 986)) f known least-value g)
 
 pub stepped-none : (x : Float) → eq x nought ≡ true → Stepped x
 stepped-none x e = record { steps = 0; value = none x e; few = lit≤ tt }

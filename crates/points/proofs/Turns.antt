@@ -2,10 +2,10 @@
 use Rattle.std.proofs.Common.{◌≡◌, ℕ, zero, suc, ◌+◌, ◌-◌, ◌<◌, ◌≤◌, List, [], ◌∷◌, ◌++◌, length, get_or, take, set, sym, refl, ap, ◌∙◌, append-nil, le_of_suc-le-suc, not-suc-le-zero, add-zero, add-one, arith, length-set, take_all, take-suc-set}
 use lib.Seq.{append_snoc}
 use lib.Ieee.{Float, nan}
-use Rattle.points.specs.Points.{pointAt, points}
+use Rattle.points.specs.Points.{point_at, points}
 use Rattle.points.specs.Grid.{headed}
 
-points-turn : (i n : ℕ) → i < n → (x dx : Float) → points (n - i) i x dx ≡ pointAt x dx i ∷ points (n - (i + 1)) (i + 1) x dx
+points-turn : (i n : ℕ) → i < n → (x dx : Float) → points (n - i) i x dx ≡ point_at x dx i ∷ points (n - (i + 1)) (i + 1) x dx
 unfolding points
 points-turn i n h x dx = rw (left i n h, add-one)
   where
@@ -16,14 +16,14 @@ points-turn i n h x dx = rw (left i n h, add-one)
 stored : (part : List Float) (i : ℕ) (y : Float) (rest : List Float) → i < length part → take (i + 1) (set part i y) ++ rest ≡ take i part ++ (y ∷ rest)
 stored part i y rest h = rw (add-one i, take-suc-set part i y h) (append_snoc (take i part) y rest)
 
-pub turn : (part₀ part all : List Float) (i : ℕ) (x dx y : Float) → y ≡ pointAt x dx i → i < length part → length part ≡ length part₀
+pub turn : (part₀ part all : List Float) (i : ℕ) (x dx y : Float) → y ≡ point_at x dx i → i < length part → length part ≡ length part₀
     → take i part ++ points (length part₀ - i) i x dx ≡ all
     → (i + 1 ≤ length (set part i y)) × (length (set part i y) ≡ length part₀) × (take (i + 1) (set part i y) ++ points (length part₀ - (i + 1)) (i + 1) x dx ≡ all)
 turn part₀ part all i x dx y e h same done =
     let under : i < length part₀ = omega arith in (
       omega (arith, length-set part i y),
       length-set part i y ∙ same,
-      rw e (stored part i (pointAt x dx i) (points (length part₀ - (i + 1)) (i + 1) x dx) h
+      rw e (stored part i (point_at x dx i) (points (length part₀ - (i + 1)) (i + 1) x dx) h
           ∙ ap (λ (l : List Float). take i part ++ l) (sym (points-turn i (length part₀) under x dx))
           ∙ done),
     )
@@ -53,8 +53,8 @@ unfolding points
 points-length zero i x dx = refl
 points-length (suc n) i x dx = ap suc (points-length n (suc i) x dx)
 
-pub points-at : (n i : ℕ) (x dx : Float) (k : ℕ) → k < n → get_or (points n i x dx) k nan ≡ pointAt x dx (i + k)
+pub points-at : (n i : ℕ) (x dx : Float) (k : ℕ) → k < n → get_or (points n i x dx) k nan ≡ point_at x dx (i + k)
 unfolding points
 points-at zero i x dx k h = absurd (not-suc-le-zero h)
-points-at (suc n) i x dx zero h = ap (pointAt x dx) (sym (add-zero i))
-points-at (suc n) i x dx (suc k) h = points-at n (suc i) x dx k (le_of_suc-le-suc h) ∙ ap (pointAt x dx) (omega arith)
+points-at (suc n) i x dx zero h = ap (point_at x dx) (sym (add-zero i))
+points-at (suc n) i x dx (suc k) h = points-at n (suc i) x dx k (le_of_suc-le-suc h) ∙ ap (point_at x dx) (omega arith)

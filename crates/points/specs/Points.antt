@@ -8,10 +8,10 @@ use Rattle.fma.specs.Fused.{fma}
 abbrev pub number : ℕ → Float
 number i = of_int binary64 (pos i)
 
-abbrev pub pointAt : Float → Float → ℕ → Float
-pointAt x dx i = fma binary64 (number i) dx x
+abbrev pub point_at : Float → Float → ℕ → Float
+point_at x dx i = fma binary64 (number i) dx x
 
 -- n points from the i-th on
 unfoldable pub points : ℕ → ℕ → Float → Float → List Float
 points zero i x dx = []
-points (suc n) i x dx = pointAt x dx i ∷ points n (suc i) x dx
+points (suc n) i x dx = point_at x dx i ∷ points n (suc i) x dx

@@ -1,6 +1,6 @@
 // The points of one part of an envelope: i*dx + x, rounded once. The Rust's `sample_array`, without its values.
 ghost use Rattle.std.specs.Prelude.{◌≡◌, length};
-ghost use Rattle.points.specs.Points.{pointAt, points};
+ghost use Rattle.points.specs.Points.{point_at, points};
 
 use quick_fma::mul_add;
 use std::num::nearest_u64_to_f64;
@@ -9,7 +9,7 @@ use sums::{lay_sums, on_grid, put_first, start};
 mod sums;
 
 pub fn point(x: f64, dx: f64, i: usize) -> f64
-    ensures { result ≡ pointAt x dx i }
+    ensures { result ≡ point_at x dx i }
 {
     mul_add(nearest_u64_to_f64(i as u64), dx, x)
 }

@@ -9,7 +9,7 @@ use lib.Arith.{lt_of_le-ne}
 use lib.Dec.{ltb, eqb}
 use lib.Ieee.{Float, nan, inf, fin, up, down, below, level, lt, eq, le, is_nan}
 use Rattle.pulse.specs.declared.list.Pulse.{Pulse}
-use Rattle.pulse.specs.List.{staysBefore}
+use Rattle.pulse.specs.List.{stays_before}
 
 -- both parts of an `or` that is false
 pub none_left : (x y : Bool) → (x || y) ≡ false → x ≡ false
@@ -54,9 +54,9 @@ le-other (fin s m d) (inf false) g h e = absurd (true≢false e)
 le-other (fin s m d) (fin t n k) g h e = other s t (m * up d * down k) (n * up k * down d) e
 
 -- of two records whose times are numbers, one stays before the other
-pub other-stays : (q p : Pulse) → is_nan q.time.0 ≡ false → is_nan p.time.0 ≡ false → staysBefore q p ≡ false → staysBefore p q ≡ true
+pub other-stays : (q p : Pulse) → is_nan q.time.0 ≡ false → is_nan p.time.0 ≡ false → stays_before q p ≡ false → stays_before p q ≡ true
 other-stays q p g h e = by-bins (ltb p.bin q.bin) refl where
-  by-bins : (b : Bool) → ltb p.bin q.bin ≡ b → staysBefore p q ≡ true
+  by-bins : (b : Bool) → ltb p.bin q.bin ≡ b → stays_before p q ≡ true
   by-bins true t = rw t
   by-bins false t =
       let one-bin : q.bin ≡ p.bin = omega (arith, ltb-false p.bin q.bin t, ltb-false q.bin p.bin (none_left (ltb q.bin p.bin) (eqb q.bin p.bin && le q.time.0 p.time.0) e)) in

@@ -9,23 +9,23 @@ use lib.Ieee.{nan}
 use lib.ListN.{length, get_or, set, take, drop, length-drop}
 use lib.Seq.{take-suc, take-add, get_or-drop, take-set-le, drop-set-add, set_split, drop_at, length-take-le}
 use Rattle.pulse.specs.declared.list.Pulse.{Pulse}
-use Rattle.pulse.specs.List.{staysBefore, anyBefore, placed, among}
+use Rattle.pulse.specs.List.{stays_before, any_before, placed, among}
 
 module _ (p q : Pulse) where
-  any_last : (xs : List Pulse) → anyBefore (xs ++ q ∷ []) p ≡ (anyBefore xs p || staysBefore q p)
-  unfolding anyBefore
-  any_last [] = or-false (staysBefore q p)
-  any_last (x ∷ xs) = rw (any_last xs, or_assoc (staysBefore x p) (anyBefore xs p) (staysBefore q p))
+  any_last : (xs : List Pulse) → any_before (xs ++ q ∷ []) p ≡ (any_before xs p || stays_before q p)
+  unfolding any_before
+  any_last [] = or-false (stays_before q p)
+  any_last (x ∷ xs) = rw (any_last xs, or_assoc (stays_before x p) (any_before xs p) (stays_before q p))
 
-  pub placed-behind : staysBefore q p ≡ true → (xs : List Pulse) → placed p (xs ++ q ∷ []) ≡ (xs ++ q ∷ []) ++ p ∷ []
-  unfolding placed anyBefore
+  pub placed-behind : stays_before q p ≡ true → (xs : List Pulse) → placed p (xs ++ q ∷ []) ≡ (xs ++ q ∷ []) ++ p ∷ []
+  unfolding placed any_before
   placed-behind e [] = rw e
-  placed-behind e (x ∷ xs) = rw (any_last xs, e, or-true (anyBefore xs p), or-true (staysBefore x p), placed-behind e xs)
+  placed-behind e (x ∷ xs) = rw (any_last xs, e, or-true (any_before xs p), or-true (stays_before x p), placed-behind e xs)
 
-  pub placed-before : staysBefore q p ≡ false → (xs : List Pulse) → placed p (xs ++ q ∷ []) ≡ placed p xs ++ q ∷ []
-  unfolding placed anyBefore
+  pub placed-before : stays_before q p ≡ false → (xs : List Pulse) → placed p (xs ++ q ∷ []) ≡ placed p xs ++ q ∷ []
+  unfolding placed any_before
   placed-before e [] = rw e
-  placed-before e (x ∷ xs) = rw (any_last xs, e, or-false (anyBefore xs p)) (by-any (staysBefore x p || anyBefore xs p) (placed-before e xs)) where
+  placed-before e (x ∷ xs) = rw (any_last xs, e, or-false (any_before xs p)) (by-any (stays_before x p || any_before xs p) (placed-before e xs)) where
     by-any : (b : Bool) → placed p (xs ++ q ∷ []) ≡ placed p xs ++ q ∷ [] → cond b (x ∷ placed p (xs ++ q ∷ [])) (p ∷ x ∷ (xs ++ q ∷ [])) ≡ cond b (x ∷ placed p xs) (p ∷ x ∷ xs) ++ q ∷ []
     by-any true h = ap (λ (r : List Pulse). x ∷ r) h
     by-any false h = refl
@@ -50,7 +50,7 @@ module _ (from : ℕ) (p : Pulse) (s : List Pulse) where
     after : from + suc n + 1 ≡ suc (from + suc n)
     after = omega arith
 
-    pub among-behind : staysBefore last p ≡ true → among from (suc n) p s ≡ set s (from + suc n) p
+    pub among-behind : stays_before last p ≡ true → among from (suc n) p s ≡ set s (from + suc n) p
     unfolding among
     among-behind e = rw (set_split s (from + suc n) p h, take-add from (suc n) s, window, placed-behind p last e (take n (drop from s)), after) (simp append_assoc)
 
@@ -58,7 +58,7 @@ module _ (from : ℕ) (p : Pulse) (s : List Pulse) where
     slot : drop (from + suc n) (set s (from + suc n) last) ≡ last ∷ drop (suc (from + suc n)) s
     slot = rw (set_split s (from + suc n) last h, drop_at (take (from + suc n) s) (last ∷ drop (suc (from + suc n)) s) (from + suc n) (length-take-le (from + suc n) s (omega arith)))
 
-    pub among-before : staysBefore last p ≡ false → among from (suc n) p s ≡ among from n p (set s (from + suc n) last)
+    pub among-before : stays_before last p ≡ false → among from (suc n) p s ≡ among from n p (set s (from + suc n) last)
     unfolding among
     among-before e =
         let k : from + n + 1 ≡ from + suc n = omega arith in
@@ -75,8 +75,8 @@ module _ (from : ℕ) (p : Pulse) (s : List Pulse) where
     upto : i - from ≡ suc n
     upto = omega arith
 
-    pub behind : staysBefore (get_or s (i - 1) none) p ≡ true → set s i p ≡ among from (i - from) p s
+    pub behind : stays_before (get_or s (i - 1) none) p ≡ true → set s i p ≡ among from (i - from) p s
     behind e = rw (upto, is) (sym (among-behind n (rw is at h) (rw prior at e)))
 
-    pub before : staysBefore (get_or s (i - 1) none) p ≡ false → among from (i - 1 - from) p (set s i (get_or s (i - 1) none)) ≡ among from (i - from) p s
+    pub before : stays_before (get_or s (i - 1) none) p ≡ false → among from (i - 1 - from) p (set s i (get_or s (i - 1) none)) ≡ among from (i - from) p s
     before e = let k : i - 1 - from ≡ n = omega arith in rw (k, prior, upto, is) (sym (among-before n (rw is at h) (rw prior at e)))

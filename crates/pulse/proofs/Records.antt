@@ -51,8 +51,8 @@ typed 𝓛 r g = ((LL.lawful P.the_type P'.the_laws 𝓛).typed r (spell r) g).0
 
 module _ {M : Type 1} {𝓤 : Ura M} {𝓛 : Logic 𝓤} {K : Type 0} {Γ : List (Item 𝓤)} {G : Goal 𝓤 𝓛.H} where
   -- plain data owns only facts
-  pub has-record : K → (r : Pulse) → IsRecord r → Step K 𝓛 (‵ ((P.the_row).own_val r (spell r)) ∷ Γ) G Γ G
-  has-record t r g = owned t P.the_row (Is P.the_row) (LL.makes P.the_type P'.the_plain 𝓛) r (spell r) g
+  pub has_record : K → (r : Pulse) → IsRecord r → Step K 𝓛 (‵ ((P.the_row).own_val r (spell r)) ∷ Γ) G Γ G
+  has_record t r g = owned t P.the_row (Is P.the_row) (LL.makes P.the_type P'.the_plain 𝓛) r (spell r) g
 
   pub has_word : K → (n : ℕ) → n < 2 ^ 64 → Step K 𝓛 (‵ (usize.own_val n (vint w64 n ∷ [])) ∷ Γ) G Γ G
   has_word t n g = owned t usize (Is usize) (uint_Makes 𝓛 w64) n (vint w64 n ∷ []) (refl, g)

@@ -81,13 +81,13 @@ there nowhere = false
 there (found x) = true
 
 -- both are a struct's, and it has a field k
-abbrev pub hasField : Ty → Val → ℕ → Bool
-hasField τ vunit k = false
-hasField τ (vbool x) k = false
-hasField τ (vint w n) k = false
-hasField τ (vfloat f x) k = false
-hasField τ (vptr b o) k = false
-hasField τ (vstruct vs) k = there (field_of τ k)
+abbrev pub has_field : Ty → Val → ℕ → Bool
+has_field τ vunit k = false
+has_field τ (vbool x) k = false
+has_field τ (vint w n) k = false
+has_field τ (vfloat f x) k = false
+has_field τ (vptr b o) k = false
+has_field τ (vstruct vs) k = there (field_of τ k)
 
 -- where local i of n stands
 abbrev pub at_local : ℕ → ℕ → ℕ → ℕ
@@ -122,7 +122,7 @@ module _ {M : Type 1} {𝓤 : Ura M} {𝓛 : Logic 𝓤} {K : Type 0} {Γ : List
     of_struct (ty_enum ν τss) vs h is lies = absurd h
     of_struct (ty_named ν) vs h is lies = absurd h
 
-    of-value : (v : Val) → T (hasField (spot_of 𝓤 H E i).0 v k) → nth 𝓛 (at_local (length E) F i) Γ ≡ ‵ (fat q (spot_of 𝓤 H E i).0 (spot_of 𝓤 H E i).1 zero v) → Opd K 𝓛 Γ E (copy (place i (field k ∷ []))) (get_v (fields_of v) k)
+    of-value : (v : Val) → T (has_field (spot_of 𝓤 H E i).0 v k) → nth 𝓛 (at_local (length E) F i) Γ ≡ ‵ (fat q (spot_of 𝓤 H E i).0 (spot_of 𝓤 H E i).1 zero v) → Opd K 𝓛 Γ E (copy (place i (field k ∷ []))) (get_v (fields_of v) k)
     of-value (vstruct vs) h lies = of_struct (spot_of 𝓤 H E i).0 vs h refl lies
     of-value vunit h lies = absurd h
     of-value (vbool x) h lies = absurd h
@@ -130,7 +130,7 @@ module _ {M : Type 1} {𝓤 : Ura M} {𝓛 : Logic 𝓤} {K : Type 0} {Γ : List
     of-value (vfloat f x) h lies = absurd h
     of-value (vptr c o) h lies = absurd h
 
-    pub part : {v : Val} → nth 𝓛 (at_local (length E) F i) Γ ≡ ‵ (fat q (spot_of 𝓤 H E i).0 (spot_of 𝓤 H E i).1 zero v) → T (hasField (spot_of 𝓤 H E i).0 v k) → Opd K 𝓛 Γ E (copy (place i (field k ∷ []))) (get_v (fields_of v) k)
+    pub part : {v : Val} → nth 𝓛 (at_local (length E) F i) Γ ≡ ‵ (fat q (spot_of 𝓤 H E i).0 (spot_of 𝓤 H E i).1 zero v) → T (has_field (spot_of 𝓤 H E i).0 v k) → Opd K 𝓛 Γ E (copy (place i (field k ∷ []))) (get_v (fields_of v) k)
     part {v} lies h = of-value v h lies
 
   module _ {C : Calls 𝓤 H} {Λ : Loops 𝓤 H} {q : Post 𝓤 H} {i : ℕ} {r : Rv} {rest : Body} {v : Val} where

@@ -12,10 +12,10 @@ abbrev pub parts : Shape → Float → Float → Envelope
 parts s w p = record { shape = s; width = record { 0 = w }; plateau = record { 0 = p } }
 
 -- whether there is a shape
-abbrev pub isShaped : Shape → Bool
-isShaped Plain = false
-isShaped Hann = true
-isShaped Spline = true
+abbrev pub is_shaped : Shape → Bool
+is_shaped Plain = false
+is_shaped Hann = true
+is_shaped Spline = true
 
-unfoldable pub envelopeOf : Shape → Float → Float → Envelope
-envelopeOf s w p = cond (isShaped s) (cond (eq w nought) (parts Plain w p) (parts s w p)) (parts Plain nought (add binary64 p w))
+unfoldable pub envelope_of : Shape → Float → Float → Envelope
+envelope_of s w p = cond (is_shaped s) (cond (eq w nought) (parts Plain w p) (parts s w p)) (parts Plain nought (add binary64 p w))

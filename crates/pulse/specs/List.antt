@@ -5,18 +5,18 @@ use Rattle.std.specs.Float.Ieee.{le}
 use Rattle.pulse.specs.declared.list.Pulse.{Pulse}
 
 -- whether q, pushed earlier, stays before p
-abbrev pub staysBefore : Pulse → Pulse → Bool
-staysBefore q p = ltb q.bin p.bin || (eqb q.bin p.bin && le q.time.0 p.time.0)
+abbrev pub stays_before : Pulse → Pulse → Bool
+stays_before q p = ltb q.bin p.bin || (eqb q.bin p.bin && le q.time.0 p.time.0)
 
 -- whether any of some records stays before p
-unfoldable pub anyBefore : List Pulse → Pulse → Bool
-anyBefore [] p = false
-anyBefore (q ∷ qs) p = staysBefore q p || anyBefore qs p
+unfoldable pub any_before : List Pulse → Pulse → Bool
+any_before [] p = false
+any_before (q ∷ qs) p = stays_before q p || any_before qs p
 
 -- p behind the last that stays before it
 unfoldable pub placed : Pulse → List Pulse → List Pulse
 placed p [] = p ∷ []
-placed p (q ∷ qs) = cond (anyBefore (q ∷ qs) p) (q ∷ placed p qs) (p ∷ q ∷ qs)
+placed p (q ∷ qs) = cond (any_before (q ∷ qs) p) (q ∷ placed p qs) (p ∷ q ∷ qs)
 
 -- p among the `count` records from `from` on; the record after them gives way
 unfoldable pub among : ℕ → ℕ → Pulse → List Pulse → List Pulse

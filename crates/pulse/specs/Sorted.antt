@@ -2,12 +2,12 @@
 use Rattle.std.specs.Prelude.{Bool, true, ◌&&◌, not, List, [], ◌∷◌}
 use Rattle.std.specs.Float.Ieee.{is_nan}
 use Rattle.pulse.specs.declared.list.Pulse.{Pulse}
-use Rattle.pulse.specs.List.{staysBefore}
+use Rattle.pulse.specs.List.{stays_before}
 
 unfoldable pub sorted : List Pulse → Bool
 sorted [] = true
 sorted (q ∷ []) = true
-sorted (q ∷ r ∷ rs) = staysBefore q r && sorted (r ∷ rs)
+sorted (q ∷ r ∷ rs) = stays_before q r && sorted (r ∷ rs)
 
 -- no time is a NaN
 unfoldable pub timed : List Pulse → Bool

@@ -10,8 +10,8 @@ use Rattle.quant.specs.declared.phaser.Phased.TheVariants.{Pair, NotFinite}
 use Rattle.quant.specs.declared.refusal.Answer.{Answer}
 use Rattle.quant.specs.declared.refusal.Answer.TheVariants.{Done, Refused}
 use Rattle.quant.specs.declared.refusal.Refusal.TheVariants as refusal
-use Rattle.quant.specs.Complex.{scaledC, turnedC}
-use Rattle.quant.specs.Phaser.{phasedOf}
+use Rattle.quant.specs.Complex.{scaled_c, turned_c}
+use Rattle.quant.specs.Phaser.{phased_of}
 use Rattle.pulse.specs.declared.weight.Weight.{Weight}
 use Rattle.pulse.specs.declared.weight.Weighed.{Weighed}
 use Rattle.pulse.specs.declared.weight.Weighed.TheVariants.{Fine, Overflow}
@@ -20,22 +20,22 @@ use Rattle.pulse.specs.declared.weight.Weighed.TheVariants.{Fine, Overflow}
 abbrev pub negligible : Float → Float → Bool
 negligible a tolerance = eq a nought || (le (neg tolerance) a && le a tolerance)
 
-abbrev pub finiteC : Complex → Bool
-finiteC z = finite z.re && finite z.im
+abbrev pub finite_c : Complex → Bool
+finite_c z = finite z.re && finite z.im
 
 -- amp and drag from amplitude, (cos, sin) and coefficient
-abbrev pub weightOf : Float → Complex → Float → Weight
-weightOf a u k = record { amp = scaledC u a; drag = scaledC (turnedC (scaledC u a)) k }
+abbrev pub weight_of : Float → Complex → Float → Weight
+weight_of a u k = record { amp = scaled_c u a; drag = scaled_c (turned_c (scaled_c u a)) k }
 
 unfoldable pub weighed : Float → Phased → Float → Weighed
 weighed a NotFinite k = Overflow
 weighed a (Pair u) k =
-    cond (finiteC (scaledC u a) && finiteC (scaledC (turnedC (scaledC u a)) k)) (Fine (weightOf a u k)) Overflow
+    cond (finite_c (scaled_c u a) && finite_c (scaled_c (turned_c (scaled_c u a)) k)) (Fine (weight_of a u k)) Overflow
 
-abbrev pub weighedOf : Float → Float → Float → Weighed
-weighedOf a phase k = weighed a (phasedOf phase) k
+abbrev pub weighed_of : Float → Float → Float → Weighed
+weighed_of a phase k = weighed a (phased_of phase) k
 
 -- what the cases answer
-abbrev pub weighedAnswer : Weighed → Answer
-weighedAnswer (Fine w) = Done 0
-weighedAnswer Overflow = Refused refusal.NotFinite 0
+abbrev pub weighed_answer : Weighed → Answer
+weighed_answer (Fine w) = Done 0
+weighed_answer Overflow = Refused refusal.NotFinite 0

@@ -5,7 +5,7 @@ ghost use Rattle.std.specs.Float.Ieee.{eq};
 ghost use Rattle.std.specs.Float.{nan};
 ghost use Rattle.exact.specs.Doubles.{two};
 ghost use Rattle.spline.specs.Same.{same_numbers};
-ghost use Rattle.pulse.specs.Bin.{code_of, shape_of, headOf, bin_of, kind_of, place_of};
+ghost use Rattle.pulse.specs.Bin.{code_of, shape_of, head_of, bin_of, kind_of, place_of};
 
 use super::envelope::{Envelope, Shape};
 use quant::judge::both;
@@ -21,7 +21,7 @@ pub struct Bin {
 
 // Shape code, width, plateau, global and local frequency.
 pub fn head_of(b: Bin) -> [f64; 5]
-    ensures { result ≡ headOf b }
+    ensures { result ≡ head_of b }
 {
     let e = b.envelope;
     let shape = e.shape;

@@ -1,6 +1,6 @@
 // The envelope of a pulse. The Rust's `Envelope::new`.
 ghost use Rattle.std.specs.Prelude.{◌≡◌};
-ghost use Rattle.pulse.specs.Envelope.{isShaped, envelopeOf};
+ghost use Rattle.pulse.specs.Envelope.{is_shaped, envelope_of};
 
 use quant::quantity::Time;
 
@@ -22,7 +22,7 @@ pub struct Envelope {
 impl Envelope {
     // No shape adds the width to the plateau; a shape of width 0 is none.
     pub fn new(shape: Shape, width: Time, plateau: Time) -> Envelope
-        ensures { result ≡ envelopeOf shape width.0 plateau.0 }
+        ensures { result ≡ envelope_of shape width.0 plateau.0 }
     {
         if is_shaped(shape) {
             if width.0 == 0.0 {
@@ -47,7 +47,7 @@ impl Envelope {
 }
 
 fn is_shaped(shape: Shape) -> bool
-    ensures { result ≡ isShaped shape }
+    ensures { result ≡ is_shaped shape }
 {
     match shape {
         Shape::Plain => false,

@@ -1,7 +1,7 @@
 // The records of a channel, in a lent slice: by bin, then by time, equal times in order of pushing.
 // `store` takes a slice of records and is proved by hand; all else is covered.
 ghost use Rattle.std.specs.Prelude.{◌≡◌, ◌+◌, ltb};
-ghost use Rattle.pulse.specs.List.{staysBefore, stored};
+ghost use Rattle.pulse.specs.List.{stays_before, stored};
 
 use quant::complex::Complex;
 use quant::quantity::Time;
@@ -45,7 +45,7 @@ fn has_room(len: usize, from: usize, count: usize) -> bool
 
 // Whether q, pushed earlier, stays before p.
 fn stays_before(q: Pulse, p: Pulse) -> bool
-    ensures { result ≡ staysBefore q p }
+    ensures { result ≡ stays_before q p }
 {
     if q.bin < p.bin {
         return true;

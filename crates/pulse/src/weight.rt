@@ -1,6 +1,6 @@
 // What a pulse weighs: its amplitude and its drag, as complex numbers. The Rust's `PulseAmplitude`, and `ListBuilder::push`.
 ghost use Rattle.std.specs.Prelude.{◌≡◌};
-ghost use Rattle.pulse.specs.Weight.{negligible, finiteC, weighed, weighedOf};
+ghost use Rattle.pulse.specs.Weight.{negligible, finite_c, weighed, weighed_of};
 ghost use Rattle.quant.specs.declared.phaser.Phased.TheVariants.{Pair};
 
 use ieee::finite::is_finite;
@@ -16,7 +16,7 @@ pub struct Weight {
     pub drag: Complex,
 }
 
-// `weighedAnswer` says which refusal.
+// `weighed_answer` says which refusal.
 #[derive(Drop)]
 pub enum Weighed {
     Fine(Weight),
@@ -35,7 +35,7 @@ pub fn is_negligible(amplitude: Amplitude, tolerance: Amplitude) -> bool
 }
 
 pub fn weigh(amplitude: Amplitude, phase: Phase, drag: f64) -> Weighed
-    ensures { result ≡ weighedOf amplitude.0 phase.0 drag }
+    ensures { result ≡ weighed_of amplitude.0 phase.0 drag }
 {
     match phaser(phase) {
         Phased::Pair(u) => weigh_at(amplitude, u, drag),
@@ -56,7 +56,7 @@ fn weigh_at(amplitude: Amplitude, u: Complex, drag: f64) -> Weighed
 }
 
 fn is_finite_pair(z: Complex) -> bool
-    ensures { result ≡ finiteC z }
+    ensures { result ≡ finite_c z }
 {
     both(is_finite(z.re), is_finite(z.im))
 }

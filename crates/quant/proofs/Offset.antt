@@ -23,7 +23,7 @@ use Rattle.exact.proofs.Sum.{sum_first, sum-none}
 use Rattle.exact.proofs.Value.{digits_of, pow-split, rescale, units-are}
 use Rattle.exact.proofs.Truth.{like-false}
 use Rattle.ieee.specs.Ceiling.{ceiling}
-use Rattle.ieee.specs.Exp2.{exp2Of}
+use Rattle.ieee.specs.Exp2.{exp2_of}
 use Rattle.ieee.proofs.Ceiling.{ceiling-at, ceiling-fits, ceiling-finite, value}
 use Rattle.ieee.proofs.Powers.{level-value}
 use Rattle.ieee.specs.Cut.{cut_of}
@@ -31,7 +31,7 @@ use Rattle.ieee.specs.declared.cut.Cut.{Cut}
 use Rattle.ieee.specs.declared.cut.Cut.TheVariants as cut
 use Rattle.quant.specs.declared.aligned.Aligned.TheVariants.{Index, NotFinite}
 use Rattle.quant.specs.declared.aligned.Placed.TheVariants.{Start, Before}
-use Rattle.quant.specs.Aligned.{scaledRate, stepsAt, alignedAt, alignedOf, cut_to, start_of, placed_of, Offset}
+use Rattle.quant.specs.Aligned.{scaled_rate, steps_at, aligned_at, aligned_of, cut_to, start_of, placed_of, Offset}
 
 zero-value : HasValue (of_bits binary64 0) false 0 1
 unfolding of_bits
@@ -108,14 +108,14 @@ record Samples (a : Float) : Type 0 where
   w : ℕ
   value : HasValue a s w (2 ^ 20)
 
-index_is : (i : Float) (l : ℤ) → T (fits binary64 i) → T (finite i) → (s : Bool) (n : ℕ) → HasValue i s n 1 → negsuc 19 ≤ℤ l → l ≤ℤ pos 20 → T (finite (mul binary64 i (exp2Of l))) → Samples (mul binary64 i (exp2Of l))
+index_is : (i : Float) (l : ℤ) → T (fits binary64 i) → T (finite i) → (s : Bool) (n : ℕ) → HasValue i s n 1 → negsuc 19 ≤ℤ l → l ≤ℤ pos 20 → T (finite (mul binary64 i (exp2_of l))) → Samples (mul binary64 i (exp2_of l))
 index_is i l f t s n v lo hi fin-a =
     let D = digits_of i f t in
     let same : D.digits * 2 ^ D.shift ≡ n * 2 ^ 1074 =
     sym (units-are i (sign_of i) (D.digits * 2 ^ D.shift) D.value) ∙ units-are i s (n * 2 ^ 1074) (rescale i s n 1 (n * 2 ^ 1074) (2 ^ 1074) (lit< tt) (mul-one (n * 2 ^ 1074)) v) in
     let S = shift_by D.digits D.shift n l D.few same lo in
-    let is : mul binary64 i (exp2Of l) ≡ round binary64 s (n * up l) (1 * down l) =
-    mul-rounds binary64 i (exp2Of l) s false n 1 (up l) (down l) (lit< tt) (down_pos l) v (level-value l lo hi) ∙ ap (λ (b : Bool). round binary64 b (n * up l) (1 * down l)) (like-false s) in
+    let is : mul binary64 i (exp2_of l) ≡ round binary64 s (n * up l) (1 * down l) =
+    mul-rounds binary64 i (exp2_of l) s false n 1 (up l) (down l) (lit< tt) (down_pos l) v (level-value l lo hi) ∙ ap (λ (b : Bool). round binary64 b (n * up l) (1 * down l)) (like-false s) in
     let C : 0 < 1 * down l = mul-pos (lit< tt) (down_pos l) in
     let u : Units (round binary64 s (n * up l) (1 * down l)) s (S.digits * 2 ^ S.shift) =
     round-finite s (n * up l) (1 * down l) S.digits S.shift C S.few S.is (subst (λ (x : Float). T (finite x)) is fin-a) in
@@ -216,16 +216,16 @@ by_sign a true w f v (inr z) =
     minus-zero a c.n v0 c.value c.toward.reaches
 
 -- THE LAW: whatever time, rate and level (from -20 to 20) align to, if it is finite and not below 0, the offset is exact and lies in [0, 1).
-pub offset-exact : (time rate : Float) (level : ℤ) → negsuc 19 ≤ℤ level → level ≤ℤ pos 20 → T (finite (stepsAt time rate level)) → T (finite (alignedAt time rate level)) → lt (alignedAt time rate level) (of_bits binary64 0) ≡ false
-    → Offset (alignedAt time rate level) (sub binary64 (ceiling (alignedAt time rate level)) (alignedAt time rate level))
+pub offset-exact : (time rate : Float) (level : ℤ) → negsuc 19 ≤ℤ level → level ≤ℤ pos 20 → T (finite (steps_at time rate level)) → T (finite (aligned_at time rate level)) → lt (aligned_at time rate level) (of_bits binary64 0) ≡ false
+    → Offset (aligned_at time rate level) (sub binary64 (ceiling (aligned_at time rate level)) (aligned_at time rate level))
 offset-exact time rate level lo hi t u h =
-    let x = stepsAt time rate level in
-    let f : T (fits binary64 x) = mul-fits binary64 time (scaledRate rate level) in
+    let x = steps_at time rate level in
+    let f : T (fits binary64 x) = mul-fits binary64 time (scaled_rate rate level) in
     let D = digits_of x f t in
     let c = ceiling-at x (sign_of x) (D.digits * 2 ^ D.shift) (2 ^ 1074) (pow_pos 1074) f D.value in
-    let a = alignedAt time rate level in
+    let a = aligned_at time rate level in
     let k = index_is (ceiling x) level (ceiling-fits x) (ceiling-finite x f t) (sign_of x) c.n c.value lo hi u in
-    by_sign a k.s k.w (mul-fits binary64 (ceiling x) (exp2Of level)) k.value (not_negative a k.s k.w (2 ^ 20) (pow_pos 20) k.value h)
+    by_sign a k.s k.w (mul-fits binary64 (ceiling x) (exp2_of level)) k.value (not_negative a k.s k.w (2 ^ 20) (pow_pos 20) k.value h)
 
 -- ---- the same, said of what `place` answers
 cut-start : (a x : Float) (c : Cut) (k : ℕ) → cut_to a c ≡ Start k x → x ≡ sub binary64 (ceiling a) a
@@ -249,9 +249,9 @@ started true true true true a x k f e g = let z : ◌≡◌ {A = ℕ} 0 1 = cc i
 started true true true false a x k f e g = record { steps-finite = tt; index-finite = tt; not-below = sym f; offset-is = cut-start a x (cut_of a) k (g ∙ e) }
 
 -- Wherever `place` answers a start and an offset, at a level from -20 to 20, the offset is exact and lies in [0, 1).
-pub place-exact : (time rate : Float) (level : ℤ) (k : ℕ) (x : Float) → negsuc 19 ≤ℤ level → level ≤ℤ pos 20 → placed_of (alignedOf time rate level) ≡ Start k x → Offset (alignedAt time rate level) x
+pub place-exact : (time rate : Float) (level : ℤ) (k : ℕ) (x : Float) → negsuc 19 ≤ℤ level → level ≤ℤ pos 20 → placed_of (aligned_of time rate level) ≡ Start k x → Offset (aligned_at time rate level) x
 place-exact time rate level k x lo hi e =
-    let a = alignedAt time rate level in
+    let a = aligned_at time rate level in
     let r = lt a (of_bits binary64 0) in
-    let s = started (finite (scaledRate rate level)) (finite (stepsAt time rate level)) (finite a) r a x k refl e refl in
+    let s = started (finite (scaled_rate rate level)) (finite (steps_at time rate level)) (finite a) r a x k refl e refl in
     subst (Offset a) (sym s.offset-is) (offset-exact time rate level lo hi s.steps-finite s.index-finite s.not-below)

@@ -7,7 +7,7 @@ use Rattle.std.specs.Float.Ieee.Scale.{finite}
 use Rattle.exact.specs.Doubles.{nought}
 use Rattle.ieee.specs.Ceiling.{ceiling}
 use Rattle.ieee.specs.Cut.{cut_of}
-use Rattle.ieee.specs.Exp2.{exp2Of}
+use Rattle.ieee.specs.Exp2.{exp2_of}
 use Rattle.ieee.specs.declared.cut.Cut.{Cut}
 use Rattle.ieee.specs.declared.cut.Cut.TheVariants as cut
 use Rattle.quant.specs.declared.aligned.Aligned.{Aligned}
@@ -19,23 +19,23 @@ use Rattle.quant.specs.declared.refusal.Answer.TheVariants.{Done, Refused}
 use Rattle.quant.specs.declared.refusal.Refusal.TheVariants as refusal
 
 -- rate*2^-level; time times that; its ceiling i, times 2^level. Each operation rounds once.
-abbrev pub scaledRate : Float → ℤ → Float
-scaledRate rate level = mul binary64 rate (exp2Of (neg_ℤ level))
+abbrev pub scaled_rate : Float → ℤ → Float
+scaled_rate rate level = mul binary64 rate (exp2_of (neg_ℤ level))
 
-abbrev pub stepsAt : Float → Float → ℤ → Float
-stepsAt time rate level = mul binary64 time (scaledRate rate level)
+abbrev pub steps_at : Float → Float → ℤ → Float
+steps_at time rate level = mul binary64 time (scaled_rate rate level)
 
-abbrev pub alignedAt : Float → Float → ℤ → Float
-alignedAt time rate level = mul binary64 (ceiling (stepsAt time rate level)) (exp2Of level)
+abbrev pub aligned_at : Float → Float → ℤ → Float
+aligned_at time rate level = mul binary64 (ceiling (steps_at time rate level)) (exp2_of level)
 
 -- each number worked out is judged, and one that is not finite is the answer
 abbrev pub judged : Float → Aligned → Aligned
 judged x a = cond (finite x) a aligned.NotFinite
 
-abbrev pub alignedOf : Float → Float → ℤ → Aligned
-alignedOf time rate level =
-    judged (scaledRate rate level)
-    (judged (stepsAt time rate level) (judged (alignedAt time rate level) (aligned.Index (alignedAt time rate level))))
+abbrev pub aligned_of : Float → Float → ℤ → Aligned
+aligned_of time rate level =
+    judged (scaled_rate rate level)
+    (judged (steps_at time rate level) (judged (aligned_at time rate level) (aligned.Index (aligned_at time rate level))))
 
 -- the start where the aligned index a is cut off to w; -0.25 is below 0, and -0 is not
 abbrev pub cut_to : Float → Cut → Placed
@@ -52,15 +52,15 @@ placed_of (aligned.Index a) = start_of a
 placed_of aligned.NotFinite = placed.NotFinite
 
 -- ---- what the cases answer
-abbrev pub alignedAnswer : Aligned → Answer
-alignedAnswer (aligned.Index a) = Done 0
-alignedAnswer aligned.NotFinite = Refused refusal.NotFinite 0
+abbrev pub aligned_answer : Aligned → Answer
+aligned_answer (aligned.Index a) = Done 0
+aligned_answer aligned.NotFinite = Refused refusal.NotFinite 0
 
-abbrev pub placedAnswer : Placed → Answer
-placedAnswer (placed.Start start offset) = Done 0
-placedAnswer placed.NotFinite = Refused refusal.NotFinite 0
-placedAnswer placed.Before = Refused refusal.BeforeRow 0
-placedAnswer placed.Beyond = Refused refusal.StartPastRow 0
+abbrev pub placed_answer : Placed → Answer
+placed_answer (placed.Start start offset) = Done 0
+placed_answer placed.NotFinite = Refused refusal.NotFinite 0
+placed_answer placed.Before = Refused refusal.BeforeRow 0
+placed_answer placed.Beyond = Refused refusal.StartPastRow 0
 
 -- ---- what is proved of the offset (proofs/Offset.antt)
 

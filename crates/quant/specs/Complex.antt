@@ -6,20 +6,20 @@ use Rattle.exact.specs.Doubles.{nought, one}
 use Rattle.quant.specs.declared.complex.Complex.{Complex}
 
 -- the product, its left factor first
-abbrev pub timesC : Complex → Complex → Complex
-timesC x y =
+abbrev pub times_c : Complex → Complex → Complex
+times_c x y =
     record {
       re = sub binary64 (mul binary64 x.re y.re) (mul binary64 x.im y.im);
       im = add binary64 (mul binary64 x.re y.im) (mul binary64 x.im y.re);
     }
 
-abbrev pub plusC : Complex → Complex → Complex
-plusC x y = record { re = add binary64 x.re y.re; im = add binary64 x.im y.im }
+abbrev pub plus_c : Complex → Complex → Complex
+plus_c x y = record { re = add binary64 x.re y.re; im = add binary64 x.im y.im }
 
 -- times a real number
-abbrev pub scaledC : Complex → Float → Complex
-scaledC x k = record { re = mul binary64 x.re k; im = mul binary64 x.im k }
+abbrev pub scaled_c : Complex → Float → Complex
+scaled_c x k = record { re = mul binary64 x.re k; im = mul binary64 x.im k }
 
 -- times i, which is (0.0, 1.0)
-abbrev pub turnedC : Complex → Complex
-turnedC x = timesC x (record { re = nought; im = one })
+abbrev pub turned_c : Complex → Complex
+turned_c x = times_c x (record { re = nought; im = one })

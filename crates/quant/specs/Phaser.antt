@@ -4,7 +4,7 @@ use Rattle.std.specs.Float.{binary64}
 use Rattle.std.specs.Float.Ieee.{mul}
 use Rattle.std.specs.Float.Ieee.Scale.{finite}
 use Rattle.trig.specs.Reduce.{TAU}
-use Rattle.trig.specs.Trig.{cosineOf, sineOf}
+use Rattle.trig.specs.Trig.{cosine_of, sine_of}
 use Rattle.quant.specs.declared.complex.Complex.{Complex}
 use Rattle.quant.specs.declared.phaser.Phased.{Phased}
 use Rattle.quant.specs.declared.phaser.Phased.TheVariants.{Pair, NotFinite}
@@ -12,21 +12,21 @@ use Rattle.quant.specs.declared.refusal.Answer.{Answer}
 use Rattle.quant.specs.declared.refusal.Answer.TheVariants.{Done, Refused}
 use Rattle.quant.specs.declared.refusal.Refusal.TheVariants as refusal
 
-abbrev pub radiansOf : Float → Float
-radiansOf p = mul binary64 p TAU
+abbrev pub radians_of : Float → Float
+radians_of p = mul binary64 p TAU
 
 -- (cos x, sin x)
 abbrev pub pair_at : Float → Complex
-pair_at x = record { re = cosineOf x; im = sineOf x }
+pair_at x = record { re = cosine_of x; im = sine_of x }
 
 abbrev pub phased : Bool → Float → Phased
 phased true x = Pair (pair_at x)
 phased false x = NotFinite
 
-abbrev pub phasedOf : Float → Phased
-phasedOf p = phased (finite (radiansOf p)) (radiansOf p)
+abbrev pub phased_of : Float → Phased
+phased_of p = phased (finite (radians_of p)) (radians_of p)
 
 -- what the cases answer
-abbrev pub phasedAnswer : Phased → Answer
-phasedAnswer (Pair z) = Done 0
-phasedAnswer NotFinite = Refused refusal.NotFinite 0
+abbrev pub phased_answer : Phased → Answer
+phased_answer (Pair z) = Done 0
+phased_answer NotFinite = Refused refusal.NotFinite 0

@@ -33,10 +33,10 @@ pub record Reply : Type 0 where
   pub place : ℕ
   pub count : ℕ
 
-abbrev pub replyOf : Answer → Reply
-replyOf (Done count) = record { number = 0; place = 0; count = count }
-replyOf (Refused r place) = record { number = number_of r; place = place; count = 0 }
+abbrev pub reply_of : Answer → Reply
+reply_of (Done count) = record { number = 0; place = 0; count = count }
+reply_of (Refused r place) = record { number = number_of r; place = place; count = 0 }
 
 -- the number alone
 abbrev pub code_of : Answer → ℕ
-code_of a = (replyOf a).number
+code_of a = (reply_of a).number

@@ -14,24 +14,24 @@ use Rattle.quant.specs.declared.settings.Fitting.{Fitting}
 use Rattle.quant.specs.declared.settings.Fitting.TheVariants.{Fit, Unfit}
 
 -- finite and above 0; finite and not below 0, so that -0 is a tolerance; from -20 to 20
-abbrev pub isRate : Float → Bool
-isRate x = finite x && lt nought x
+abbrev pub is_rate : Float → Bool
+is_rate x = finite x && lt nought x
 
-abbrev pub isTolerance : Float → Bool
-isTolerance x = finite x && le nought x
+abbrev pub is_tolerance : Float → Bool
+is_tolerance x = finite x && le nought x
 
-abbrev pub isLevel : ℤ → Bool
-isLevel l = le_z (negsuc 19) l && le_z l (pos 20)
+abbrev pub is_level : ℤ → Bool
+is_level l = le_z (negsuc 19) l && le_z l (pos 20)
 
 abbrev pub fitting : Bool → Frequency → Time → ℤ → Fitting
 fitting true rate delay level = Fit (record { rate = rate; dt = record { 0 = div binary64 one rate.0 }; delay = delay; level = level })
 fitting false rate delay level = Unfit
 
-abbrev pub fittingOf : Frequency → Time → ℤ → Fitting
-fittingOf rate delay level =
-    fitting (isRate rate.0 && finite (div binary64 one rate.0) && finite delay.0 && isLevel level) rate delay level
+abbrev pub fitting_of : Frequency → Time → ℤ → Fitting
+fitting_of rate delay level =
+    fitting (is_rate rate.0 && finite (div binary64 one rate.0) && finite delay.0 && is_level level) rate delay level
 
 -- what the cases answer
-abbrev pub fittingAnswer : Fitting → Answer
-fittingAnswer (Fit s) = Done 0
-fittingAnswer Unfit = Refused refusal.Unfit 0
+abbrev pub fitting_answer : Fitting → Answer
+fitting_answer (Fit s) = Done 0
+fitting_answer Unfit = Refused refusal.Unfit 0

@@ -1,7 +1,7 @@
 // Where a pulse stands among the samples. The Rust's `AlignedIndex`.
 ghost use Rattle.std.specs.Prelude.{◌≡◌, neg_ℤ};
-ghost use Rattle.ieee.specs.Exp2.{exp2Of};
-ghost use Rattle.quant.specs.Aligned.{alignedOf, start_of, placed_of};
+ghost use Rattle.ieee.specs.Exp2.{exp2_of};
+ghost use Rattle.quant.specs.Aligned.{aligned_of, start_of, placed_of};
 
 use super::quantity::{Frequency, Time};
 use ieee::ceil::ceil;
@@ -9,7 +9,7 @@ use ieee::cut::{Cut, cut_off};
 use ieee::exp2::exp2;
 use ieee::finite::is_finite;
 
-// An index that is a multiple of 2^level, in samples. `alignedAnswer` and `placedAnswer` say which case is which refusal.
+// An index that is a multiple of 2^level, in samples. `aligned_answer` and `placed_answer` say which case is which refusal.
 #[derive(Drop)]
 pub enum Aligned {
     Index(f64),
@@ -30,7 +30,7 @@ pub enum Placed {
 
 // The aligned index of a time; the delay is in it already.
 pub fn align(time: Time, rate: Frequency, level: i32) -> Aligned
-    ensures { result ≡ alignedOf time.0 rate.0 level }
+    ensures { result ≡ aligned_of time.0 rate.0 level }
 {
     let scaled = rate.0 * exp2_of_minus(level);
     if !is_finite(scaled) {
@@ -49,7 +49,7 @@ pub fn align(time: Time, rate: Frequency, level: i32) -> Aligned
 
 // Start and offset together, from one aligned index.
 pub fn place(time: Time, rate: Frequency, level: i32) -> Placed
-    ensures { result ≡ placed_of (alignedOf time.0 rate.0 level) }
+    ensures { result ≡ placed_of (aligned_of time.0 rate.0 level) }
 {
     match align(time, rate, level) {
         Aligned::Index(a) => start_of(a),
@@ -73,7 +73,7 @@ fn start_of(a: f64) -> Placed
 
 // 2^-level. The least i32 has no opposite; 2^(2^31 - 1) is infinite as 2^(2^31) is.
 fn exp2_of_minus(level: i32) -> f64
-    ensures { result ≡ exp2Of (neg_ℤ level) }
+    ensures { result ≡ exp2_of (neg_ℤ level) }
 {
     if level < -2147483647 {
         return exp2(2147483647);

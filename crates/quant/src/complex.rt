@@ -1,6 +1,6 @@
 // A complex number: the carrier, an amplitude, a rotation. Each product and each sum of parts rounds once, in the Rust's order.
 ghost use Rattle.std.specs.Prelude.{◌≡◌};
-ghost use Rattle.quant.specs.Complex.{timesC, plusC, scaledC, turnedC};
+ghost use Rattle.quant.specs.Complex.{times_c, plus_c, scaled_c, turned_c};
 
 #[derive(Drop)]
 pub struct Complex {
@@ -11,7 +11,7 @@ pub struct Complex {
 impl Complex {
     // (re re' - im im', re im' + im re'), self first.
     pub fn mul(self, rhs: Complex) -> Complex
-        ensures { result ≡ timesC self rhs }
+        ensures { result ≡ times_c self rhs }
     {
         Complex {
             re: self.re * rhs.re - self.im * rhs.im,
@@ -20,7 +20,7 @@ impl Complex {
     }
 
     pub fn add(self, rhs: Complex) -> Complex
-        ensures { result ≡ plusC self rhs }
+        ensures { result ≡ plus_c self rhs }
     {
         Complex {
             re: self.re + rhs.re,
@@ -30,7 +30,7 @@ impl Complex {
 
     // Times a real number.
     pub fn scale(self, k: f64) -> Complex
-        ensures { result ≡ scaledC self k }
+        ensures { result ≡ scaled_c self k }
     {
         Complex {
             re: self.re * k,
@@ -40,7 +40,7 @@ impl Complex {
 
     // Times i: the product with (0, 1), whose zeros have the signs that two products and one sum give.
     pub fn mul_i(self) -> Complex
-        ensures { result ≡ turnedC self }
+        ensures { result ≡ turned_c self }
     {
         self.mul(Complex { re: 0.0, im: 1.0 })
     }

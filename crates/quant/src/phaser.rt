@@ -1,12 +1,12 @@
 // The complex number of size 1 that a phase stands for. The Rust's `Phase::phaser`.
 ghost use Rattle.std.specs.Prelude.{◌≡◌};
-ghost use Rattle.quant.specs.Phaser.{radiansOf, phasedOf};
+ghost use Rattle.quant.specs.Phaser.{radians_of, phased_of};
 
 use super::complex::Complex;
 use super::quantity::Phase;
 use ieee::finite::is_finite;
 
-// `phasedAnswer` says which refusal.
+// `phased_answer` says which refusal.
 #[derive(Drop)]
 pub enum Phased {
     Pair(Complex),
@@ -15,7 +15,7 @@ pub enum Phased {
 }
 
 pub fn phaser(phase: Phase) -> Phased
-    ensures { result ≡ phasedOf phase.0 }
+    ensures { result ≡ phased_of phase.0 }
 {
     let x = radians(phase);
     if is_finite(x) {
@@ -30,7 +30,7 @@ pub fn phaser(phase: Phase) -> Phased
 
 // A phase counts turns.
 fn radians(phase: Phase) -> f64
-    ensures { result ≡ radiansOf phase.0 }
+    ensures { result ≡ radians_of phase.0 }
 {
     phase.0 * 6.283185307179586
 }

@@ -46,7 +46,7 @@ pub enum Refusal {
     WrongA0,
 }
 
-// The count of commands run or pulses added; or the refusal and its place. `replyOf` gives number, place and count.
+// The count of commands run or pulses added; or the refusal and its place. `reply_of` gives number, place and count.
 #[derive(Drop)]
 pub enum Answer {
     Done(usize),

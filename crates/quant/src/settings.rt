@@ -1,6 +1,6 @@
 // The settings of a sampling call: a rate, 1/rate, a delay and an align level that fit, or refusal 1.
 ghost use Rattle.std.specs.Prelude.{◌≡◌};
-ghost use Rattle.quant.specs.Settings.{isRate, isLevel, isTolerance, fittingOf};
+ghost use Rattle.quant.specs.Settings.{is_rate, is_level, is_tolerance, fitting_of};
 
 use super::judge::both;
 use super::quantity::{Frequency, Time};
@@ -14,7 +14,7 @@ pub struct Settings {
     pub level: i32,
 }
 
-// `fittingAnswer` says which refusal.
+// `fitting_answer` says which refusal.
 #[derive(Drop)]
 pub enum Fitting {
     Fit(Settings),
@@ -22,7 +22,7 @@ pub enum Fitting {
 }
 
 pub fn set_up(rate: Frequency, delay: Time, level: i32) -> Fitting
-    ensures { result ≡ fittingOf rate delay level }
+    ensures { result ≡ fitting_of rate delay level }
 {
     let dt = rate.dt();
     let clock = both(is_rate(rate.0), is_finite(dt.0));
@@ -40,19 +40,19 @@ pub fn set_up(rate: Frequency, delay: Time, level: i32) -> Fitting
 
 // A tolerance of amplitude or time that fits, else refusal 1.
 pub fn is_tolerance(x: f64) -> bool
-    ensures { result ≡ isTolerance x }
+    ensures { result ≡ is_tolerance x }
 {
     both(is_finite(x), 0.0 <= x)
 }
 
 fn is_rate(x: f64) -> bool
-    ensures { result ≡ isRate x }
+    ensures { result ≡ is_rate x }
 {
     both(is_finite(x), 0.0 < x)
 }
 
 fn is_level(level: i32) -> bool
-    ensures { result ≡ isLevel level }
+    ensures { result ≡ is_level level }
 {
     both(-20 <= level, level <= 20)
 }

@@ -18,11 +18,11 @@ use Rattle.exact.proofs.Valued.{sub-finite}
 use Rattle.ieee.proofs.Bits.{number-bits, finite-bits, value_low, value-normal, value-carried}
 use Rattle.roundoff.proofs.Product.{Halved}
 use Rattle.roundoff.proofs.Halving.{InSteps, halved}
-use Rattle.quick_fma.specs.Quick.{roomyOf, upperBits, upperOf}
+use Rattle.quick_fma.specs.Quick.{roomy_of, upper_bits, upper_of}
 
 -- ---- the pattern as a number
-pub upper_is : (b : ℕ) → b < 2 ^ 64 → b % 2 ^ 63 ≤ 2047 * 2 ^ 52 → upperBits b ≡ (b + 2 ^ 26) / 2 ^ 27 * 2 ^ 27
-unfolding upperBits
+pub upper_is : (b : ℕ) → b < 2 ^ 64 → b % 2 ^ 63 ≤ 2047 * 2 ^ 52 → upper_bits b ≡ (b + 2 ^ 26) / 2 ^ 27 * 2 ^ 27
+unfolding upper_bits
 upper_is b h l = and_high (b + 2 ^ 26) 37 27 ∙ ap (λ (z : ℕ). z * 2 ^ 27) (short ((b + 2 ^ 26) / 2 ^ 27) (omega arith))
   where
     short : (n : ℕ) → n < 2 ^ 37 → n % 2 ^ 37 ≡ n
@@ -43,12 +43,12 @@ record UpperSteps (b : ℕ) : Type 0 where
   i : ℕ
   A : ℕ
   B : ℕ
-  steps : InSteps (of_bits binary64 b) (of_bits binary64 (upperBits b)) i (leb (2 ^ 63) b) A B
+  steps : InSteps (of_bits binary64 b) (of_bits binary64 (upper_bits b)) i (leb (2 ^ 63) b) A B
   far : 537 ≤ i
 
 module _ (b : ℕ) (h : b < 2 ^ 64) (n : b % 2 ^ 63 ≤ 2047 * 2 ^ 52) where
   abbrev c : ℕ
-  c = upperBits b
+  c = upper_bits b
 
   c-is : c ≡ (b + 2 ^ 26) / 2 ^ 27 * 2 ^ 27
   c-is = upper_is b h n
@@ -138,7 +138,7 @@ module _ (b : ℕ) (h : b < 2 ^ 64) (n : b % 2 ^ 63 ≤ 2047 * 2 ^ 52) where
           none c e = omega arith
 
 -- ---- A NUMBER WITH ROOM, and its upper part
-module _ (x : Float) (f : T (fits binary64 x)) (r : roomyOf x ≡ true) where
+module _ (x : Float) (f : T (fits binary64 x)) (r : roomy_of x ≡ true) where
   abbrev b : ℕ
   b = to_bits binary64 x
 
@@ -152,17 +152,17 @@ module _ (x : Float) (f : T (fits binary64 x)) (r : roomyOf x ≡ true) where
       by true q e g k = inl (g tt)
       by false q e g k = inr (k (subst T (sym e) tt))
 
-  upper-bits : upperOf x ≡ of_bits binary64 (upperBits b)
+  upper-bits : upper_of x ≡ of_bits binary64 (upper_bits b)
   upper-bits = by (is_nan x) is_number
     where
-      by : (t : Bool) → T (not t) → cond t x (of_bits binary64 (upperBits b)) ≡ of_bits binary64 (upperBits b)
+      by : (t : Bool) → T (not t) → cond t x (of_bits binary64 (upper_bits b)) ≡ of_bits binary64 (upper_bits b)
       by true n = absurd n
       by false n = refl
 
-  pub upper_halves : T (finite (sub binary64 x (upperOf x))) → (i : ℕ) × Halved x (upperOf x) (sub binary64 x (upperOf x)) i × (537 ≤ i)
+  pub upper_halves : T (finite (sub binary64 x (upper_of x))) → (i : ℕ) × Halved x (upper_of x) (sub binary64 x (upper_of x)) i × (537 ≤ i)
   upper_halves t =
       subst (λ (h : Float). T (finite (sub binary64 x h)) → (i : ℕ) × Halved x h (sub binary64 x h) i × (537 ≤ i)) (sym upper-bits)
-      (subst (λ (y : Float). T (finite (sub binary64 y (of_bits binary64 (upperBits b)))) → (i : ℕ) × Halved y (of_bits binary64 (upperBits b)) (sub binary64 y (of_bits binary64 (upperBits b))) i × (537 ≤ i)) (of_bits-to_bits binary64 x f) at_bits)
+      (subst (λ (y : Float). T (finite (sub binary64 y (of_bits binary64 (upper_bits b)))) → (i : ℕ) × Halved y (of_bits binary64 (upper_bits b)) (sub binary64 y (of_bits binary64 (upper_bits b))) i × (537 ≤ i)) (of_bits-to_bits binary64 x f) at_bits)
       t
     where
       h : b < 2 ^ 64
@@ -174,8 +174,8 @@ module _ (x : Float) (f : T (fits binary64 x)) (r : roomyOf x ≡ true) where
       field : (m : ℕ) → 0x21a0_0000_0000_0000 ≤ m → (m / 2 ^ 52 ≡ suc (m / 2 ^ 52 - 1)) × (537 ≤ m / 2 ^ 52 - 1)
       field m l = (omega arith, omega arith)
 
-      at_bits : T (finite (sub binary64 (of_bits binary64 b) (of_bits binary64 (upperBits b)))) → (i : ℕ) × Halved (of_bits binary64 b) (of_bits binary64 (upperBits b)) (sub binary64 (of_bits binary64 b) (of_bits binary64 (upperBits b))) i × (537 ≤ i)
+      at_bits : T (finite (sub binary64 (of_bits binary64 b) (of_bits binary64 (upper_bits b)))) → (i : ℕ) × Halved (of_bits binary64 b) (of_bits binary64 (upper_bits b)) (sub binary64 (of_bits binary64 b) (of_bits binary64 (upper_bits b))) i × (537 ≤ i)
       at_bits t =
-          let o = sub-finite binary64 (of_bits binary64 b) (of_bits binary64 (upperBits b)) t in
+          let o = sub-finite binary64 (of_bits binary64 b) (of_bits binary64 (upper_bits b)) t in
           let p : UpperSteps b = elim size [ inl z ↦ zero b h n z | inr l ↦ normal b h n (b % 2 ^ 63 / 2 ^ 52 - 1) (field (b % 2 ^ 63) l).0 (field (b % 2 ^ 63) l).1 o.0 o.1 ] in
-          (p.i, halved (of_bits binary64 b) (of_bits binary64 (upperBits b)) p.i (leb (2 ^ 63) b) p.A p.B p.steps t, p.far)
+          (p.i, halved (of_bits binary64 b) (of_bits binary64 (upper_bits b)) p.i (leb (2 ^ 63) b) p.A p.B p.steps t, p.far)

@@ -9,17 +9,17 @@ use lib.Ieee.{Float, binary64, fits, of_bits, unlike, add, sub, mul, eq}
 use lib.Ieee.Fits.{add-fits, sub-fits, mul-fits}
 use lib.Ieee.Scale.{finite}
 use Rattle.exact.specs.Doubles.{nought, zero_of}
-use Rattle.exact.specs.Value.{sign_of, unitsOf}
+use Rattle.exact.specs.Value.{sign_of, units_of}
 use Rattle.exact.proofs.Value.{units-are}
 use Rattle.exact.proofs.Compare.{none}
 use Rattle.exact.proofs.Zeros.{none-times}
 use Rattle.exact.proofs.Valued.{add-finite, sub-finite, mul-finite}
 use Rattle.fma.specs.Fused.{fma}
 use Rattle.roundoff.specs.declared.Enclosure.{Enclosure}
-use Rattle.roundoff.specs.Roundoff.{sumOff, productOff, ABOVE}
+use Rattle.roundoff.specs.Roundoff.{sum_off, product_off, ABOVE}
 use Rattle.roundoff.proofs.Settled.{far-finite, sum-finite, settled, settled-exactly}
 use Rattle.roundoff.proofs.Product.{Halved}
-use Rattle.quick_fma.specs.Quick.{roomyOf, upperOf, trialOf}
+use Rattle.quick_fma.specs.Quick.{roomy_of, upper_of, trial_of}
 use Rattle.quick_fma.proofs.Parting.{upper_halves}
 use Rattle.quick_fma.proofs.Answer.{fused}
 
@@ -33,15 +33,15 @@ nought-above = none-times false ABOVE above-finite ∙ ap zero_of plus
     plus : unlike false (sign_of ABOVE) ≡ false
     plus = unfold of_bits in refl
 
-module _ (a x c : Float) (fa : T (fits binary64 a)) (fx : T (fits binary64 x)) (fc : T (fits binary64 c)) (ra : roomyOf a ≡ true) (rx : roomyOf x ≡ true) where
+module _ (a x c : Float) (fa : T (fits binary64 a)) (fx : T (fits binary64 x)) (fc : T (fits binary64 c)) (ra : roomy_of a ≡ true) (rx : roomy_of x ≡ true) where
   abbrev h : Float
-  h = upperOf a
+  h = upper_of a
 
   abbrev l : Float
   l = sub binary64 a h
 
   abbrev g : Float
-  g = upperOf x
+  g = upper_of x
 
   abbrev m : Float
   m = sub binary64 x g
@@ -53,10 +53,10 @@ module _ (a x c : Float) (fa : T (fits binary64 a)) (fx : T (fits binary64 x)) (
   s = add binary64 p c
 
   abbrev t : Float
-  t = sumOff p c
+  t = sum_off p c
 
   abbrev e : Float
-  e = productOff a h l x g m
+  e = product_off a h l x g m
 
   abbrev v : Float
   v = add binary64 t e
@@ -78,7 +78,7 @@ module _ (a x c : Float) (fa : T (fits binary64 a)) (fx : T (fits binary64 x)) (
         by : (i j : ℕ) → 537 ≤ i → 537 ≤ j → 1074 ≤ i + j
         by i j h k = omega arith
 
-  pub settled_is : eq (trialOf a h l x g m c).off nought ≡ true → (trialOf a h l x g m c).far ≡ fma binary64 a x c
+  pub settled_is : eq (trial_of a h l x g m c).off nought ≡ true → (trial_of a h l x g m c).far ≡ fma binary64 a x c
   settled_is z =
       let ft = add-fits binary64 _ _ in
       let fe = sub-fits binary64 _ _ in
@@ -96,19 +96,19 @@ module _ (a x c : Float) (fa : T (fits binary64 a)) (fx : T (fits binary64 x)) (
       fused a h l x g m c (A vt).0 (X vt).0 (A vt).1 (X vt).1 (room vt) fc vt
       v (add-fits binary64 t e) o (settled-exactly s t e (add-fits binary64 p c) ft fe o (either (eq t nought) (eq e nought) z refl refl)) (λ n. n)
     where
-      either : (b d : Bool) → (b || d) ≡ true → eq t nought ≡ b → eq e nought ≡ d → (unitsOf t ≡ 0) ⊎ (unitsOf e ≡ 0)
+      either : (b d : Bool) → (b || d) ≡ true → eq t nought ≡ b → eq e nought ≡ d → (units_of t ≡ 0) ⊎ (units_of e ≡ 0)
       either true d z i j = inl (units-are t (sign_of t) 0 (none t i))
       either false d z i j = inr (units-are e (sign_of e) 0 (none e (j ∙ z)))
 
   -- ---- with the parts as the code has them
-  pub tried : (h l g m : Float) (w : Enclosure) → h ≡ upperOf a → l ≡ sub binary64 a h → g ≡ upperOf x → m ≡ sub binary64 x g → w ≡ trialOf a h l x g m c → eq w.off nought ≡ true → w.far ≡ fma binary64 a x c
+  pub tried : (h l g m : Float) (w : Enclosure) → h ≡ upper_of a → l ≡ sub binary64 a h → g ≡ upper_of x → m ≡ sub binary64 x g → w ≡ trial_of a h l x g m c → eq w.off nought ≡ true → w.far ≡ fma binary64 a x c
   tried h l g m w hi li gi mi wi z =
-      let W : w ≡ trialOf a (upperOf a) (sub binary64 a (upperOf a)) x (upperOf x) (sub binary64 x (upperOf x)) c =
-      wi ∙ (λ i. trialOf a (hi i) ((li ∙ (λ j. sub binary64 a (hi j))) i) x (gi i) ((mi ∙ (λ j. sub binary64 x (gi j))) i) c) in
+      let W : w ≡ trial_of a (upper_of a) (sub binary64 a (upper_of a)) x (upper_of x) (sub binary64 x (upper_of x)) c =
+      wi ∙ (λ i. trial_of a (hi i) ((li ∙ (λ j. sub binary64 a (hi j))) i) x (gi i) ((mi ∙ (λ j. sub binary64 x (gi j))) i) c) in
       ap (λ (r : Enclosure). r.far) W ∙ settled_is (sym (ap (λ (r : Enclosure). eq r.off nought) W) ∙ z)
 
-  pub exactly-tried : (h g t e : Float) → h ≡ upperOf a → g ≡ upperOf x → t ≡ sumOff p c → e ≡ productOff a h (sub binary64 a h) x g (sub binary64 x g) → (eq t nought || eq e nought) ≡ true
+  pub exactly-tried : (h g t e : Float) → h ≡ upper_of a → g ≡ upper_of x → t ≡ sum_off p c → e ≡ product_off a h (sub binary64 a h) x g (sub binary64 x g) → (eq t nought || eq e nought) ≡ true
       → finite (sub binary64 s (add binary64 t e)) ≡ true → sub binary64 s (add binary64 t e) ≡ fma binary64 a x c
   exactly-tried h g t e hi gi ti ei z k =
-      let E : e ≡ productOff a (upperOf a) (sub binary64 a (upperOf a)) x (upperOf x) (sub binary64 x (upperOf x)) = ei ∙ (λ i. productOff a (hi i) (sub binary64 a (hi i)) x (gi i) (sub binary64 x (gi i))) in
+      let E : e ≡ product_off a (upper_of a) (sub binary64 a (upper_of a)) x (upper_of x) (sub binary64 x (upper_of x)) = ei ∙ (λ i. product_off a (hi i) (sub binary64 a (hi i)) x (gi i) (sub binary64 x (gi i))) in
       (λ i. sub binary64 s (add binary64 (ti i) (E i))) ∙ exact-is (sym (λ i. eq (ti i) nought || eq (E i) nought) ∙ z) (sym (λ i. finite (sub binary64 s (add binary64 (ti i) (E i)))) ∙ k)

@@ -5,7 +5,7 @@ ghost use Rattle.std.specs.Float.{binary64};
 ghost use Rattle.std.specs.Float.Ieee.{eq};
 ghost use Rattle.exact.specs.Doubles.{nought};
 ghost use Rattle.fma.specs.Fused.{fma};
-ghost use Rattle.quick_fma.specs.Quick.{roomyOf, upperOf, trialOf};
+ghost use Rattle.quick_fma.specs.Quick.{roomy_of, upper_of, trial_of};
 
 use ieee::finite::is_finite;
 use roundoff::{Enclosure, enclose, product_off, sum_off};
@@ -24,7 +24,7 @@ pub fn mul_add(a: f64, x: f64, c: f64) -> f64
 
 // With p the rounded product, s the rounded sum of p and c, e what p is off by and t what s is, s - (t + e) is to be rounded.
 fn by_doubles(a: f64, x: f64, c: f64) -> f64
-    requires { (roomyOf a ≡ true) × (roomyOf x ≡ true) }
+    requires { (roomy_of a ≡ true) × (roomy_of x ≡ true) }
     ensures { result ≡ fma binary64 a x c }
 {
     let h = upper(a);
@@ -59,7 +59,7 @@ fn either_none(t: f64, e: f64) -> bool
 
 // 0, or from 2^-485 on in size: the product of two such has no digit below the smallest double.
 pub fn roomy(x: f64) -> bool
-    ensures { result ≡ roomyOf x }
+    ensures { result ≡ roomy_of x }
 {
     if x != x {
         return false;
@@ -73,7 +73,7 @@ pub fn roomy(x: f64) -> bool
 
 // The upper 26 digits, rounded; a NaN is one.
 pub fn upper(x: f64) -> f64
-    ensures { result ≡ upperOf x }
+    ensures { result ≡ upper_of x }
 {
     if x != x {
         return x;
@@ -83,7 +83,7 @@ pub fn upper(x: f64) -> f64
 
 // For an a and an x that are split once for many products: a is h + l, and x is g + m. Where `off` is 0 and all are as `upper` splits them, `far` is the answer.
 pub fn trial(a: f64, h: f64, l: f64, x: f64, g: f64, m: f64, c: f64) -> Enclosure
-    ensures { result ≡ trialOf a h l x g m c }
+    ensures { result ≡ trial_of a h l x g m c }
 {
     let p = a * x;
     enclose(p + c, sum_off(p, c), product_off(a, h, l, x, g, m))

@@ -18,11 +18,11 @@ pub record Adding (product : ℕ → Float) (old : List Float) (p : ℕ) (sums :
   pub next : (q : ℕ) → p ≤ q → get_or sums q nan ≡ get_or old q nan
 
 module _ (product : ℕ → Float) (old : List Float) where
-  pub adding-none : length old ≡ 8 → Adding product old 0 old
-  adding-none room = record { within = omega arith; room = room; past = λ q h. absurd (not-suc-le-zero h); next = λ q h. refl }
+  pub adding_none : length old ≡ 8 → Adding product old 0 old
+  adding_none room = record { within = omega arith; room = room; past = λ q h. absurd (not-suc-le-zero h); next = λ q h. refl }
 
-  pub adding-more : (sums : List Float) (p : ℕ) (v : Float) → p < 8 → v ≡ product p → Adding product old p sums → Adding product old (p + 1) (set sums p (add binary64 v (get_or sums p nan)))
-  adding-more sums p v h e a =
+  pub adding_more : (sums : List Float) (p : ℕ) (v : Float) → p < 8 → v ≡ product p → Adding product old p sums → Adding product old (p + 1) (set sums p (add binary64 v (get_or sums p nan)))
+  adding_more sums p v h e a =
       let y = add binary64 v (get_or sums p nan) in
       let here : y ≡ add binary64 (product p) (get_or old p nan) = λ i. add binary64 (e i) (a.next p (le_refl p) i) in
       let inside : p < length sums = omega (arith, a.room) in
@@ -36,5 +36,5 @@ module _ (product : ℕ → Float) (old : List Float) where
         next = λ q l. get_or-set_other sums p q y nan (λ same. omega arith) ∙ a.next q (omega arith);
       }
 
-  pub adding-all : (sums : List Float) (p : ℕ) → 8 ≤ p → Adding product old p sums → EachAdded product old sums
-  adding-all sums p h a = record { room = a.room; each = λ q l. a.past q (omega arith) }
+  pub adding_all : (sums : List Float) (p : ℕ) → 8 ≤ p → Adding product old p sums → EachAdded product old sums
+  adding_all sums p h a = record { room = a.room; each = λ q l. a.past q (omega arith) }

@@ -10,7 +10,7 @@ use lib.ListN.{length, take, drop, get_or, set, replicate, length-append, length
 use lib.Seq.{sets, sets-eq, length-sets, take_at, drop_at, drop-cons, drop-drop, length-take-le}
 use lib.Ieee.{Float, nan}
 use Rattle.exact.specs.Doubles.{nought}
-use Rattle.ring.specs.Ring.{ringSum, filteredFrom, slot_of}
+use Rattle.ring.specs.Ring.{ring_sum, filtered_from, slot_of}
 use Rattle.ring.specs.Inside.{output, Summed, Moved}
 use Rattle.ring.proofs.Slots.{next}
 
@@ -48,20 +48,20 @@ put_count xs row k h e = ap length (put_all xs row k h e) ∙ eight-there row k 
 
 module _ (taps : List Float) where
   -- ys are the outputs of the samples xs, whose slots are those from s on
-  outputs : (xs ys ring : List Float) (k s : ℕ) (rest : List Float) → length ys ≡ length xs → ((p : ℕ) → p < length xs → s + p ≡ slot_of taps (k + p)) → ((p : ℕ) → p < length xs → get_or ys p nan ≡ output taps ring s xs p) → filteredFrom taps k ring (xs ++ rest) ≡ ys ++ filteredFrom taps (k + length xs) (sets ring s xs) rest
-  unfolding filteredFrom
-  outputs [] [] ring k s rest e slots each = ap (λ (m : ℕ). filteredFrom taps m ring rest) (sym (add-zero k))
+  outputs : (xs ys ring : List Float) (k s : ℕ) (rest : List Float) → length ys ≡ length xs → ((p : ℕ) → p < length xs → s + p ≡ slot_of taps (k + p)) → ((p : ℕ) → p < length xs → get_or ys p nan ≡ output taps ring s xs p) → filtered_from taps k ring (xs ++ rest) ≡ ys ++ filtered_from taps (k + length xs) (sets ring s xs) rest
+  unfolding filtered_from
+  outputs [] [] ring k s rest e slots each = ap (λ (m : ℕ). filtered_from taps m ring rest) (sym (add-zero k))
   outputs [] (y ∷ ys) ring k s rest e slots each = absurd (suc-ne-zero (length ys) e)
   outputs (x ∷ xs) [] ring k s rest e slots each = absurd (suc-ne-zero (length xs) (sym e))
   outputs (x ∷ xs) (y ∷ ys) ring k s rest e slots each =
       let here : s ≡ slot_of taps k = sym (add-zero s) ∙ slots 0 (zero-lt-suc (length xs)) ∙ ap (slot_of taps) (add-zero k) in
-      let first : y ≡ ringSum taps (set ring s x) s = each 0 (zero-lt-suc (length xs)) ∙ ap (ringSum taps (set ring s x)) (add-zero s) in
+      let first : y ≡ ring_sum taps (set ring s x) s = each 0 (zero-lt-suc (length xs)) ∙ ap (ring_sum taps (set ring s x)) (add-zero s) in
       let later = outputs xs ys (set ring s x) (suc k) (suc s) rest (suc_inj e)
       (λ p h. sym (next s p) ∙ slots (suc p) (suc-le-suc h) ∙ ap (slot_of taps) (next k p))
-      (λ p h. each (suc p) (suc-le-suc h) ∙ ap (ringSum taps (sets (set ring s x) (suc s) (take (suc p) xs))) (next s p)) in
-      ap (λ (t : ℕ). ringSum taps (set ring t x) t ∷ filteredFrom taps (suc k) (set ring t x) (xs ++ rest)) (sym here)
+      (λ p h. each (suc p) (suc-le-suc h) ∙ ap (ring_sum taps (sets (set ring s x) (suc s) (take (suc p) xs))) (next s p)) in
+      ap (λ (t : ℕ). ring_sum taps (set ring t x) t ∷ filtered_from taps (suc k) (set ring t x) (xs ++ rest)) (sym here)
       ∙ (λ i. sym first i ∷ later i)
-      ∙ ap (λ (m : ℕ). y ∷ ys ++ filteredFrom taps m (sets (set ring s x) (suc s) xs) rest) (sym (next k (length xs)))
+      ∙ ap (λ (m : ℕ). y ∷ ys ++ filtered_from taps m (sets (set ring s x) (suc s) xs) rest) (sym (next k (length xs)))
 
   pub moves : (xs ys ring row : List Float) (k s w : ℕ) → length xs ≡ w → length ys ≡ w → k + w ≤ length row → xs ≡ take w (drop k row) → s ≡ slot_of taps k → s + w ≤ length taps → ((p : ℕ) → p < w → get_or ys p nan ≡ output taps ring s xs p) → Moved taps k w ring row (sets ring s xs) (sets row k ys)
   moves xs ys ring row k s w a b left e slot turn each =
@@ -69,15 +69,15 @@ module _ (taps : List Float) where
       let samples : xs ++ rest ≡ drop k row = ap (λ (l : List Float). xs ++ l) (sym (drop-drop w k row)) ∙ ap (λ (l : List Float). l ++ drop w (drop k row)) e ∙ take-append-drop w (drop k row) in
       let done : sets row k ys ≡ take k row ++ ys ++ rest = sets-eq ys row k (omega (arith, b)) ∙ ap (λ (m : ℕ). take k row ++ ys ++ drop (k + m) row) b in
       let front : length (take k row ++ ys) ≡ k + w = length-append (take k row) ys ∙ (λ i. length-take-le k row (omega arith) i + b i) in
-      let after = filteredFrom taps (k + w) (sets ring s xs) in
+      let after = filtered_from taps (k + w) (sets ring s xs) in
       record {
         left =
             ap (λ (l : List Float). take (k + w) l ++ after (drop (k + w) l)) done
             ∙ (λ i. take_at (take k row ++ ys) rest (k + w) front i ++ after (drop_at (take k row ++ ys) rest (k + w) front i))
             ∙ append_assoc (take k row) ys (after rest)
-            ∙ ap (λ (m : ℕ). take k row ++ (ys ++ filteredFrom taps (k + m) (sets ring s xs) rest)) (sym a)
+            ∙ ap (λ (m : ℕ). take k row ++ (ys ++ filtered_from taps (k + m) (sets ring s xs) rest)) (sym a)
             ∙ ap (λ (l : List Float). take k row ++ l) (sym (outputs xs ys ring k s rest (b ∙ sym a) (λ p h. slot-on (length taps) k s p slot (omega (arith, a))) (λ p h. each p (omega (arith, a)))))
-            ∙ ap (λ (l : List Float). take k row ++ filteredFrom taps k ring l) samples;
+            ∙ ap (λ (l : List Float). take k row ++ filtered_from taps k ring l) samples;
         same = length-sets row k ys;
         room = length-sets ring s xs;
       }

@@ -9,9 +9,9 @@ use native.Mathlib.Omega.{arith}
 use lib.ListN.{length, take, get_or, set, length-set}
 use lib.Seq.{sets, get_or-set_same, get_or-set_other, get_or-take, length-take-le}
 use lib.Ieee.{Float, nan, binary64, add, mul}
-use Rattle.ring.specs.Ring.{tapAt, sum_to}
-use Rattle.ring.specs.Inside.{Ready, outputTo}
-use Rattle.ring.proofs.Tap.{tap-back, tap-round}
+use Rattle.ring.specs.Ring.{tap_at, sum_to}
+use Rattle.ring.specs.Inside.{Ready, output_to}
+use Rattle.ring.proofs.Tap.{tap_back, tap_round}
 
 -- ---- places
 pub next : (s p : ℕ) → s + suc p ≡ suc s + p
@@ -44,28 +44,28 @@ sets-at (x ∷ xs) l s (suc m) h g =
 
 -- ---- the product of output p at slot j
 abbrev pub product : List Float → List Float → ℕ → List Float → ℕ → ℕ → Float
-product taps ring s xs j p = mul binary64 (tapAt taps (s + p) j) (get_or (sets ring s (take (suc p) xs)) j nan)
+product taps ring s xs j p = mul binary64 (tap_at taps (s + p) j) (get_or (sets ring s (take (suc p) xs)) j nan)
 
 module _ (taps ring : List Float) (s : ℕ) (xs : List Float) (turn : s + length xs ≤ length taps) (room : length taps ≤ length ring) (p : ℕ) (output : p < length xs) where
   new_is : length (take (suc p) xs) ≡ suc p
   new_is = length-take-le (suc p) xs output
 
   -- a tap and a sample by which the code multiplies
-  both : (j : ℕ) {t x : Float} → tapAt taps (s + p) j ≡ t → get_or (sets ring s (take (suc p) xs)) j nan ≡ x → mul binary64 t x ≡ product taps ring s xs j p
+  both : (j : ℕ) {t x : Float} → tap_at taps (s + p) j ≡ t → get_or (sets ring s (take (suc p) xs)) j nan ≡ x → mul binary64 t x ≡ product taps ring s xs j p
   both j e f = λ i. mul binary64 (sym e i) (sym f i)
 
   -- one slot more
-  pub more : (j j' : ℕ) {v sum : Float} → j + 1 ≡ j' → v ≡ product taps ring s xs j p → sum ≡ outputTo taps ring s xs j p → add binary64 v sum ≡ outputTo taps ring s xs j' p
+  pub more : (j j' : ℕ) {v sum : Float} → j + 1 ≡ j' → v ≡ product taps ring s xs j p → sum ≡ output_to taps ring s xs j p → add binary64 v sum ≡ output_to taps ring s xs j' p
   unfolding sum_to
-  more j j' on e f = (λ i. add binary64 (e i) (f i)) ∙ ap (λ (k : ℕ). outputTo taps ring s xs k p) (sym (add-one j) ∙ on)
+  more j j' on e f = (λ i. add binary64 (e i) (f i)) ∙ ap (λ (k : ℕ). output_to taps ring s xs k p) (sym (add-one j) ∙ on)
 
   -- ---- slot j, where the tap t is the right one
   module _ (j t : ℕ) where
-    back : j ≤ s + p → t + j ≡ s + p → tapAt taps (s + p) j ≡ get_or taps t nan
-    back h e = tap-back taps (s + p) j (omega arith) h ∙ ap (λ (m : ℕ). get_or taps m nan) (rest (s + p) j t e)
+    back : j ≤ s + p → t + j ≡ s + p → tap_at taps (s + p) j ≡ get_or taps t nan
+    back h e = tap_back taps (s + p) j (omega arith) h ∙ ap (λ (m : ℕ). get_or taps m nan) (rest (s + p) j t e)
 
-    round : s + p < j → j < length taps → t + j ≡ length taps + (s + p) → tapAt taps (s + p) j ≡ get_or taps t nan
-    round h g e = tap-round taps (s + p) j h g ∙ ap (λ (m : ℕ). get_or taps m nan) (rest (length taps + (s + p)) j t e)
+    round : s + p < j → j < length taps → t + j ≡ length taps + (s + p) → tap_at taps (s + p) j ≡ get_or taps t nan
+    round h g e = tap_round taps (s + p) j h g ∙ ap (λ (m : ℕ). get_or taps m nan) (rest (length taps + (s + p)) j t e)
 
     pub at_before : j < s → t + j ≡ s + p → mul binary64 (get_or taps t nan) (get_or ring j nan) ≡ product taps ring s xs j p
     at_before h e = both j (back (omega arith) e) (sets-before (take (suc p) xs) ring s j h)

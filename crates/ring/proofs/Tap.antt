@@ -6,7 +6,7 @@ use native.Mathlib.Nat.{mod-lt, mod-eq_of_lt, add-mod_left}
 use native.Mathlib.Omega.{arith}
 use lib.ListN.{length, get_or}
 use lib.Ieee.{Float, nan}
-use Rattle.ring.specs.Ring.{delay, tapAt}
+use Rattle.ring.specs.Ring.{delay, tap_at}
 
 -- up to the newest sample's slot
 pub delay-back : (n s j : ℕ) → s < n → j ≤ s → delay n s j ≡ s - j
@@ -22,13 +22,13 @@ delay-round n s j h g = mod-eq_of_lt (omega arith)
 pub delay-within : (n s j : ℕ) → 1 ≤ n → delay n s j < n
 delay-within n s j h = mod-lt (n + s - j) h
 
-pub tap-is : (taps : List Float) (s j : ℕ) → tapAt taps s j ≡ get_or taps (delay (length taps) s j) nan
-unfolding tapAt
-tap-is taps s j = refl
+pub tap_is : (taps : List Float) (s j : ℕ) → tap_at taps s j ≡ get_or taps (delay (length taps) s j) nan
+unfolding tap_at
+tap_is taps s j = refl
 
 module _ (taps : List Float) (s j : ℕ) where
-  pub tap-back : s < length taps → j ≤ s → tapAt taps s j ≡ get_or taps (s - j) nan
-  tap-back h g = tap-is taps s j ∙ ap (λ (m : ℕ). get_or taps m nan) (delay-back (length taps) s j h g)
+  pub tap_back : s < length taps → j ≤ s → tap_at taps s j ≡ get_or taps (s - j) nan
+  tap_back h g = tap_is taps s j ∙ ap (λ (m : ℕ). get_or taps m nan) (delay-back (length taps) s j h g)
 
-  pub tap-round : s < j → j < length taps → tapAt taps s j ≡ get_or taps (length taps + s - j) nan
-  tap-round h g = tap-is taps s j ∙ ap (λ (m : ℕ). get_or taps m nan) (delay-round (length taps) s j h g)
+  pub tap_round : s < j → j < length taps → tap_at taps s j ≡ get_or taps (length taps + s - j) nan
+  tap_round h g = tap_is taps s j ∙ ap (λ (m : ℕ). get_or taps m nan) (delay-round (length taps) s j h g)

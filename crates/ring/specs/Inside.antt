@@ -4,7 +4,7 @@ use Rattle.std.proofs.lemmas.List.Edits.{sets}
 use Rattle.std.specs.Float.{nan, binary64}
 use Rattle.std.specs.Float.Ieee.{add, mul}
 use Rattle.exact.specs.Doubles.{nought}
-use Rattle.ring.specs.Ring.{sum_to, filteredFrom}
+use Rattle.ring.specs.Ring.{sum_to, filtered_from}
 
 -- the sizes hold
 pub record Ready (taps ring : List Float) : Type 0 where
@@ -13,20 +13,20 @@ pub record Ready (taps ring : List Float) : Type 0 where
   pub room : length ring ≡ 256
 
 -- one tap: what becomes of a sample, and of a row
-abbrev pub byTap : Float → Float → Float
-byTap t x = add binary64 (mul binary64 t x) nought
+abbrev pub by_tap : Float → Float → Float
+by_tap t x = add binary64 (mul binary64 t x) nought
 
-abbrev pub byOneTap : Float → List Float → List Float
-byOneTap t row = map (byTap t) row
+abbrev pub by_one_tap : Float → List Float → List Float
+by_one_tap t row = map (by_tap t) row
 
 -- ---- several outputs: of the samples xs, the first of which goes to slot s, the p-th finds those up to itself in the ring
 -- its sum over the first j slots
-abbrev pub outputTo : List Float → List Float → ℕ → List Float → ℕ → ℕ → Float
-outputTo taps ring s xs j p = sum_to taps (sets ring s (take (suc p) xs)) (s + p) j
+abbrev pub output_to : List Float → List Float → ℕ → List Float → ℕ → ℕ → Float
+output_to taps ring s xs j p = sum_to taps (sets ring s (take (suc p) xs)) (s + p) j
 
 -- over all
 abbrev pub output : List Float → List Float → ℕ → List Float → ℕ → Float
-output taps ring s xs p = outputTo taps ring s xs (length taps) p
+output taps ring s xs p = output_to taps ring s xs (length taps) p
 
 -- ---- eight outputs
 -- slot j is none of the eight from slot s on, but for the first
@@ -45,7 +45,7 @@ pub record EachAdded (product : ℕ → Float) (sums sums' : List Float) : Type 
 -- each is the sum over the first j slots
 pub record Summed (taps ring : List Float) (s : ℕ) (xs : List Float) (j : ℕ) (sums : List Float) : Type 0 where
   pub room : length sums ≡ 8
-  pub each : (p : ℕ) → p < 8 → get_or sums p nan ≡ outputTo taps ring s xs j p
+  pub each : (p : ℕ) → p < 8 → get_or sums p nan ≡ output_to taps ring s xs j p
 
 -- r slots more
 pub record SlotsTaken (taps ring : List Float) (s : ℕ) (xs : List Float) (j r : ℕ) (sums : List Float) : Type 0 where
@@ -56,12 +56,12 @@ pub record SlotsTaken (taps ring : List Float) (s : ℕ) (xs : List Float) (j r 
 
 -- ---- the row as it is to be
 -- the samples before the k-th are filtered, and the others will be
-abbrev pub rowToBe : List Float → ℕ → List Float → List Float → List Float
-rowToBe taps k ring row = take k row ++ filteredFrom taps k ring (drop k row)
+abbrev pub row_to_be : List Float → ℕ → List Float → List Float → List Float
+row_to_be taps k ring row = take k row ++ filtered_from taps k ring (drop k row)
 
 -- w samples from the k-th on are filtered
 pub record Moved (taps : List Float) (k w : ℕ) (ring row ring' row' : List Float) : Type 0 where
-  pub left : rowToBe taps (k + w) ring' row' ≡ rowToBe taps k ring row
+  pub left : row_to_be taps (k + w) ring' row' ≡ row_to_be taps k ring row
   pub same : length row' ≡ length row
   pub room : length ring' ≡ length ring
 

@@ -11,8 +11,8 @@ abbrev pub delay : ℕ → ℕ → ℕ → ℕ
 delay n s j = (n + s - j) % n
 
 -- the tap that meets slot j while the newest sample stands in slot s
-unfoldable pub tapAt : List Float → ℕ → ℕ → Float
-tapAt taps s j = get_or taps (delay (length taps) s j) nan
+unfoldable pub tap_at : List Float → ℕ → ℕ → Float
+tap_at taps s j = get_or taps (delay (length taps) s j) nan
 
 -- ---- the ring: sample k goes to slot k % n, in the place of the one n samples before it
 abbrev pub slot_of : List Float → ℕ → ℕ
@@ -24,21 +24,21 @@ put taps k x ring = set ring (slot_of taps k) x
 -- the sum over the first j slots, slot 0 first: the product is rounded, then the sum
 unfoldable pub sum_to : List Float → List Float → ℕ → ℕ → Float
 sum_to taps ring s zero = nought
-sum_to taps ring s (suc j) = add binary64 (mul binary64 (tapAt taps s j) (get_or ring j nan)) (sum_to taps ring s j)
+sum_to taps ring s (suc j) = add binary64 (mul binary64 (tap_at taps s j) (get_or ring j nan)) (sum_to taps ring s j)
 
 -- over as many slots as there are taps
-abbrev pub ringSum : List Float → List Float → ℕ → Float
-ringSum taps ring s = sum_to taps ring s (length taps)
+abbrev pub ring_sum : List Float → List Float → ℕ → Float
+ring_sum taps ring s = sum_to taps ring s (length taps)
 
 -- ---- the samples from the k-th on, filtered; the ring is as the sample before left it
-unfoldable pub filteredFrom : List Float → ℕ → List Float → List Float → List Float
-filteredFrom taps k ring [] = []
-filteredFrom taps k ring (x ∷ xs) = ringSum taps (put taps k x ring) (slot_of taps k) ∷ filteredFrom taps (suc k) (put taps k x ring) xs
+unfoldable pub filtered_from : List Float → ℕ → List Float → List Float → List Float
+filtered_from taps k ring [] = []
+filtered_from taps k ring (x ∷ xs) = ring_sum taps (put taps k x ring) (slot_of taps k) ∷ filtered_from taps (suc k) (put taps k x ring) xs
 
 -- a row: the ring is all zero before it
-abbrev pub filteredRow : List Float → List Float → List Float
-filteredRow taps row = filteredFrom taps 0 (replicate 256 nought) row
+abbrev pub filtered_row : List Float → List Float → List Float
+filtered_row taps row = filtered_from taps 0 (replicate 256 nought) row
 
 -- 1 to 256 taps; else the row stays
-abbrev pub filteredOrKept : List Float → List Float → List Float
-filteredOrKept taps row = cond (leb 1 (length taps) && leb (length taps) 256) (filteredRow taps row) row
+abbrev pub filtered_or_kept : List Float → List Float → List Float
+filtered_or_kept taps row = cond (leb 1 (length taps) && leb (length taps) 256) (filtered_row taps row) row

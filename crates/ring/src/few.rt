@@ -4,11 +4,11 @@ ghost use Rattle.std.specs.Prelude.{◌≡◌, [], ◌∷◌, ◌+◌, ◌≤◌
 ghost use Rattle.std.specs.Float.{nan, binary64};
 ghost use Rattle.std.specs.Float.Ieee.{add, mul};
 ghost use Rattle.ring.specs.Ring.{slot_of};
-ghost use Rattle.ring.specs.Inside.{Ready, byOneTap, output, Moved};
+ghost use Rattle.ring.specs.Inside.{Ready, by_one_tap, output, Moved};
 
 // One tap has a ring of one slot, so that nothing is left of the sample before.
 pub(crate) fn only_tap(row: &mut [f64], tap: f64)
-    ensures { row.new ≡ byOneTap tap row.old }
+    ensures { row.new ≡ by_one_tap tap row.old }
 {
     let mut k: usize = 0;
     while k < row.len() {

@@ -1,7 +1,7 @@
 // A row through taps, by a ring of slots: the Rust's `pulse/fir.rs` at one lane. The taps stay where the caller has them, each found by wrapping
 // round.
 ghost use Rattle.std.specs.Prelude.{◌≡◌, ◌%◌, ◌≤◌, ◌<◌, min, length};
-ghost use Rattle.ring.specs.Ring.{slot_of, filteredFrom, filteredOrKept};
+ghost use Rattle.ring.specs.Ring.{slot_of, filtered_from, filtered_or_kept};
 ghost use Rattle.ring.specs.Inside.{Ready, Advanced};
 
 mod eight;
@@ -12,7 +12,7 @@ use few::{one, only_tap, two};
 
 // The ring is all zero before the row. With no tap, or more than 256, the row stays.
 pub fn filter(row: &mut [f64], taps: &[f64])
-    ensures { row.new ≡ filteredOrKept taps.now row.old }
+    ensures { row.new ≡ filtered_or_kept taps.now row.old }
 {
     if taps.len() < 1 {
         return;
@@ -27,7 +27,7 @@ pub fn filter(row: &mut [f64], taps: &[f64])
 // Through the row: the k-th sample goes to slot s.
 fn go_round(row: &mut [f64], ring: &mut [f64], taps: &[f64])
     requires { Ready taps.now ring.old }
-    ensures { row.new ≡ filteredFrom taps.now 0 ring.old row.old }
+    ensures { row.new ≡ filtered_from taps.now 0 ring.old row.old }
 {
     if taps.len() == 1 {
         only_tap(row, taps[0]);

@@ -7,7 +7,7 @@ use Prim.Native.Nat.{ℕ, zero, suc, ◌+◌, ◌-◌, ◌*◌, ◌^◌, ◌≤�
 use native.Mathlib.Nat.{le_trans, le_of_eq, le_of_lt, lt_of_le_of_lt, mul_assoc, mul-one, pow-suc}
 use native.Mathlib.Omega.{arith}
 use lib.Pow.{pow-add}
-use Rattle.exact.specs.Signed.{Signed, Same, Apart, signed, plusS, lessS, dist, mag}
+use Rattle.exact.specs.Signed.{Signed, Same, Apart, signed, plus_s, less_s, dist, mag}
 use Rattle.exact.specs.Rounds.{rnd, Rounds}
 use Rattle.exact.proofs.Naturals.{below_or}
 use Rattle.exact.proofs.Few.{Few, few-sub}
@@ -17,10 +17,10 @@ use Rattle.exact.proofs.Rounds.{Double, rounds-at, rounds-near}
 use Rattle.roundoff.proofs.Multiples.{multiple-plus, multiple-less, double-below, rounds-multiple}
 
 -- THE ERROR OF A SUM IS A DOUBLE
-pub error-double : (a b y : Signed) → Double a → Double b → Rounds (plusS a b) y → Double (lessS y (plusS a b))
+pub error-double : (a b y : Signed) → Double a → Double b → Rounds (plus_s a b) y → Double (less_s y (plus_s a b))
 error-double a b y f g r =
-    let x = plusS a b in
-    double-below a b (lessS y x) f g
+    let x = plus_s a b in
+    double-below a b (less_s y x) f g
     (apart-mag y x (mag a) (rounds-near x y b (mag a) r g (second a.plus a.less b.plus b.less)))
     (apart-mag y x (mag b) (rounds-near x y a (mag b) r f (first a.plus a.less b.plus b.less)))
     (λ k m n. multiple-less y x k (rounds-multiple x y k r (multiple-plus a b k m n)) (multiple-plus a b k m n))
@@ -32,7 +32,7 @@ error-double a b y f g r =
     second p q r s = record { over = omega arith; under = omega arith }
 
 -- ---- two numbers with one sign are as far apart as their sizes
-one-sign : (x y : Signed) (s : Bool) (m p : ℕ) → Same x (signed s m) → Same y (signed s p) → mag (lessS y x) ≡ dist p m
+one-sign : (x y : Signed) (s : Bool) (m p : ℕ) → Same x (signed s m) → Same y (signed s p) → mag (less_s y x) ≡ dist p m
 one-sign x y s m p h k = by x.plus x.less y.plus y.less s h k
   where
     by : (a b c d : ℕ) (s : Bool) → a + (signed s m).less ≡ (signed s m).plus + b → c + (signed s p).less ≡ (signed s p).plus + d → dist (c + b) (d + a) ≡ dist p m
@@ -46,13 +46,13 @@ beneath : (p m : ℕ) → p ≤ m → dist p m ≡ m - p
 beneath p m h = omega arith
 
 -- ---- Sterbenz: a difference of two doubles that is at most half of the first is a double
-pub sterbenz : (b v : Signed) → Double b → Double v → mag (lessS b v) * 2 ≤ mag b → Double (lessS b v)
+pub sterbenz : (b v : Signed) → Double b → Double v → mag (less_s b v) * 2 ≤ mag b → Double (less_s b v)
 sterbenz b v f g h =
     let s = signed_is b in
     let t = signed_is v in
     by s.0 t.0 (mag b) (mag v) s.1 t.1 f g h
   where
-    near : (s : Bool) (m n : ℕ) → Same b (signed s m) → Same v (signed s n) → Few m → Few n → mag (lessS b v) * 2 ≤ m → Double (lessS b v)
+    near : (s : Bool) (m n : ℕ) → Same b (signed s m) → Same v (signed s n) → Few m → Few n → mag (less_s b v) * 2 ≤ m → Double (less_s b v)
     near s m n h k f g l =
         let e = one-sign v b s n m k h in
         subst Few (sym e) (few (subst (λ (z : ℕ). z * 2 ≤ m) e l))
@@ -66,14 +66,14 @@ sterbenz b v f g h =
         zero : k ≡ m + n → 0 ≡ k
         zero e = omega arith
 
-    by : (s t : Bool) (m n : ℕ) → Same b (signed s m) → Same v (signed t n) → Few m → Few n → mag (lessS b v) * 2 ≤ m → Double (lessS b v)
+    by : (s t : Bool) (m n : ℕ) → Same b (signed s m) → Same v (signed t n) → Few m → Few n → mag (less_s b v) * 2 ≤ m → Double (less_s b v)
     by false false m n h k f g l = near false m n h k f g l
     by true true m n h k f g l = near true m n h k f g l
-    by false true m n h k f g l = none m n (mag (lessS b v)) (apart b.plus b.less v.plus v.less h k) l
+    by false true m n h k f g l = none m n (mag (less_s b v)) (apart b.plus b.less v.plus v.less h k) l
       where
         apart : (a b c d : ℕ) → a + 0 ≡ m + b → c + n ≡ 0 + d → dist (a + d) (b + c) ≡ m + n
         apart a b c d h k = omega arith
-    by true false m n h k f g l = none m n (mag (lessS b v)) (apart b.plus b.less v.plus v.less h k) l
+    by true false m n h k f g l = none m n (mag (less_s b v)) (apart b.plus b.less v.plus v.less h k) l
       where
         apart : (a b c d : ℕ) → a + m ≡ 0 + b → c + 0 ≡ n + d → dist (a + d) (b + c) ≡ m + n
         apart a b c d h k = omega arith
@@ -123,48 +123,48 @@ unlike-few a b f g l =
         half x k = omega arith
 
 -- ---- a sum, with the larger term's sign
-sums : (a b z : Signed) (s t : Bool) (m n : ℕ) → Same a (signed s m) → Same b (signed t n) → Same (plusS (signed s m) (signed t n)) z → Same (plusS a b) z
+sums : (a b z : Signed) (s t : Bool) (m n : ℕ) → Same a (signed s m) → Same b (signed t n) → Same (plus_s (signed s m) (signed t n)) z → Same (plus_s a b) z
 sums a b z s t m n h k e = omega arith
 
 -- a + b rounded, less the larger term a
-pub fast : (a b y : Signed) → Double a → Double b → mag b ≤ mag a → Rounds (plusS a b) y → Double (lessS y a)
+pub fast : (a b y : Signed) → Double a → Double b → mag b ≤ mag a → Rounds (plus_s a b) y → Double (less_s y a)
 fast a b y f g l r =
     let s = signed_is a in
     let t = signed_is b in
     by s.0 t.0 (mag a) (mag b) s.1 t.1 f g l
   where
-    less : (s : Bool) (m o : ℕ) → Same a (signed s m) → Same (plusS a b) (signed s o) → Few (dist (rnd o) m) → Double (lessS y a)
-    less s m o h e f = subst Few (sym (one-sign a y s m (rnd o) h (rounds-at (plusS a b) y s o r e))) f
+    less : (s : Bool) (m o : ℕ) → Same a (signed s m) → Same (plus_s a b) (signed s o) → Few (dist (rnd o) m) → Double (less_s y a)
+    less s m o h e f = subst Few (sym (one-sign a y s m (rnd o) h (rounds-at (plus_s a b) y s o r e))) f
 
-    by : (s t : Bool) (m n : ℕ) → Same a (signed s m) → Same b (signed t n) → Few m → Few n → n ≤ m → Double (lessS y a)
+    by : (s t : Bool) (m n : ℕ) → Same a (signed s m) → Same b (signed t n) → Few m → Few n → n ≤ m → Double (less_s y a)
     by false false m n h k f g l = less false m (m + n) h (sums a b (signed false (m + n)) false false m n h k (omega arith)) (like-few m n f l)
     by true true m n h k f g l = less true m (m + n) h (sums a b (signed true (m + n)) true true m n h k (omega arith)) (like-few m n f l)
     by false true m n h k f g l = less false m (m - n) h (sums a b (signed false (m - n)) false true m n h k (omega arith)) (unlike-few m n f g l)
     by true false m n h k f g l = less true m (m - n) h (sums a b (signed true (m - n)) true false m n h k (omega arith)) (unlike-few m n f g l)
 
 -- where a is the smaller term: the sum is exact, or no smaller than a
-pub no-smaller : (a b y : Signed) → Double a → Double b → mag a ≤ mag b → Rounds (plusS a b) y → Double (plusS a b) ⊎ (mag a ≤ mag y)
+pub no-smaller : (a b y : Signed) → Double a → Double b → mag a ≤ mag b → Rounds (plus_s a b) y → Double (plus_s a b) ⊎ (mag a ≤ mag y)
 no-smaller a b y f g l r =
     let s = signed_is a in
     let t = signed_is b in
     by s.0 t.0 (mag a) (mag b) s.1 t.1 f g l
   where
-    size : (s : Bool) (p : ℕ) → Same (plusS a b) (signed s p) → mag y ≡ rnd p
-    size s p h = mag_same y (signed s (rnd p)) (rounds-at (plusS a b) y s p r h) ∙ mag-signed s (rnd p)
+    size : (s : Bool) (p : ℕ) → Same (plus_s a b) (signed s p) → mag y ≡ rnd p
+    size s p h = mag_same y (signed s (rnd p)) (rounds-at (plus_s a b) y s p r h) ∙ mag-signed s (rnd p)
 
-    like : (s : Bool) (m n : ℕ) → Same (plusS a b) (signed s (n + m)) → Few n → m ≤ n → m ≤ mag y
+    like : (s : Bool) (m n : ℕ) → Same (plus_s a b) (signed s (n + m)) → Few n → m ≤ n → m ≤ mag y
     like s m n h f l = le_trans l (le_trans (like-low n m f) (le_of_eq (sym (size s (n + m) h))))
 
-    unlike : (s : Bool) (m n : ℕ) → Same (plusS a b) (signed s (n - m)) → Few m → Few n → Double (plusS a b) ⊎ (m ≤ mag y)
+    unlike : (s : Bool) (m n : ℕ) → Same (plus_s a b) (signed s (n - m)) → Few m → Few n → Double (plus_s a b) ⊎ (m ≤ mag y)
     unlike s m n h f g = elim (below_or n (m * 2)) [
-      | inl c ↦ inl (subst Few (sym (mag_same (plusS a b) (signed s (n - m)) h ∙ mag-signed s (n - m))) (few-sub m n f g (le_of_lt c)))
+      | inl c ↦ inl (subst Few (sym (mag_same (plus_s a b) (signed s (n - m)) h ∙ mag-signed s (n - m))) (few-sub m n f g (le_of_lt c)))
       | inr c ↦ inr (le_trans (le_of_eq (sym (rnd-exact m f))) (le_trans (rnd-mono m (n - m) (room m n c)) (le_of_eq (sym (size s (n - m) h)))))
     ]
       where
         room : (m n : ℕ) → m * 2 ≤ n → m ≤ n - m
         room m n c = omega arith
 
-    by : (s t : Bool) (m n : ℕ) → Same a (signed s m) → Same b (signed t n) → Few m → Few n → m ≤ n → Double (plusS a b) ⊎ (m ≤ mag y)
+    by : (s t : Bool) (m n : ℕ) → Same a (signed s m) → Same b (signed t n) → Few m → Few n → m ≤ n → Double (plus_s a b) ⊎ (m ≤ mag y)
     by false false m n h k f g l = inr (like false m n (sums a b (signed false (n + m)) false false m n h k (omega arith)) g l)
     by true true m n h k f g l = inr (like true m n (sums a b (signed true (n + m)) true true m n h k (omega arith)) g l)
     by false true m n h k f g l = unlike true m n (sums a b (signed true (n - m)) false true m n h k (omega arith)) f g

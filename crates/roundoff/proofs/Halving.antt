@@ -11,7 +11,7 @@ use lib.Ieee.{Float, binary64, fits, sub}
 use lib.Ieee.Fits.{sub-fits}
 use lib.Ieee.Scale.{finite}
 use Rattle.exact.specs.Value.{Units, value_of}
-use Rattle.exact.specs.Signed.{Signed, Same, signed, times, plusS, lessS, mag}
+use Rattle.exact.specs.Signed.{Signed, Same, signed, times, plus_s, less_s, mag}
 use Rattle.exact.proofs.Few.{Few, value-finite}
 use Rattle.exact.proofs.Sizes.{mag_same, mag-signed, mag-by}
 use Rattle.exact.proofs.Nearest.{few-most}
@@ -34,13 +34,13 @@ pub record InSteps (x h : Float) (i : ℕ) (s : Bool) (A B : ℕ) : Type 0 where
   pub large : (A ≡ 0) ⊎ (2 ^ 52 ≤ A)
 
 abbrev rest : Bool → ℕ → ℕ → Signed
-rest s A B = lessS (signed s A) (signed s B)
+rest s A B = less_s (signed s A) (signed s B)
 
 rest-most : (s : Bool) (A B : ℕ) → A ≤ B + 2 ^ 26 → B ≤ A + 2 ^ 26 → mag (rest s A B) ≤ 2 ^ 26
 rest-most true A B h k = omega arith
 rest-most false A B h k = omega arith
 
-whole : (s : Bool) (A B : ℕ) → Same (signed s A) (plusS (signed s B) (rest s A B))
+whole : (s : Bool) (A B : ℕ) → Same (signed s A) (plus_s (signed s B) (rest s A B))
 whole true A B = omega arith
 whole false A B = omega arith
 
@@ -60,7 +60,7 @@ halved x h i s A B c t =
           record {
             fit = c.x_fits;
             here = value-finite x s (A * 2 ^ i) c.x-units;
-            value = same (2 ^ i) (signed s A) (plusS (signed s B) (rest s A B)) (value_of x) (units-value x s A i c.x-units) (whole s A B);
+            value = same (2 ^ i) (signed s A) (plus_s (signed s B) (rest s A B)) (value_of x) (units-value x s A i c.x-units) (whole s A B);
           };
       h-is = record { fit = c.h_fits; here = value-finite h s (B * 2 ^ i) c.h-units; value = units-value h s B i c.h-units };
       l-is =
@@ -68,7 +68,7 @@ halved x h i s A B c t =
             fit = sub-fits binary64 x h;
             here = t;
             value =
-                rounds-to (lessS (value_of x) (value_of h)) (value_of (sub binary64 x h)) (times (2 ^ i) (rest s A B)) (sub-value x h c.x_fits c.h_fits t)
+                rounds-to (less_s (value_of x) (value_of h)) (value_of (sub binary64 x h)) (times (2 ^ i) (rest s A B)) (sub-value x h c.x_fits c.h_fits t)
                 (less (2 ^ i) (signed s A) (signed s B) (value_of x) (value_of h) (units-value x s A i c.x-units) (units-value h s B i c.h-units))
                 (subst Few (sym (mag-by (2 ^ i) (rest s A B) ∙ mul_comm (2 ^ i) (mag (rest s A B)))) (few-most (mag (rest s A B)) i (le_trans (rest-most s A B c.over c.under) (lit≤ tt))));
           };
@@ -82,11 +82,11 @@ halved x h i s A B c t =
           };
     }
   where
-    size : mag (plusS (signed s B) (rest s A B)) ≡ A
-    size = sym (mag_same (signed s A) (plusS (signed s B) (rest s A B)) (whole s A B)) ∙ mag-signed s A
+    size : mag (plus_s (signed s B) (rest s A B)) ≡ A
+    size = sym (mag_same (signed s A) (plus_s (signed s B) (rest s A B)) (whole s A B)) ∙ mag-signed s A
 
     same : (u : ℕ) (a b v : Signed) → Same v (times u a) → Same a b → Same v (times u b)
     same u a b v h k = let l : u * (a.plus + b.less) ≡ u * (b.plus + a.less) = ap (λ (z : ℕ). u * z) k in omega arith
 
-    less : (u : ℕ) (a b v w : Signed) → Same v (times u a) → Same w (times u b) → Same (lessS v w) (times u (lessS a b))
+    less : (u : ℕ) (a b v w : Signed) → Same v (times u a) → Same w (times u b) → Same (less_s v w) (times u (less_s a b))
     less u a b v w h k = omega arith

@@ -7,7 +7,7 @@ use Prim.Native.Nat.{ℕ, ◌+◌, ◌-◌, ◌*◌, ◌^◌, ◌≤◌}
 use native.Mathlib.Nat.{le_of_mul-le-mul_right, le_of_eq, le_of_lt, le_trans, lt_of_le_of_lt, mul_assoc, mul_comm}
 use native.Mathlib.Omega.{arith}
 use lib.Pow.{pow-add, pow_pos}
-use Rattle.exact.specs.Signed.{Signed, Same, signed, times, plusS, lessS, timesS, mag}
+use Rattle.exact.specs.Signed.{Signed, Same, signed, times, plus_s, less_s, times_s, mag}
 use Rattle.exact.specs.Rounds.{Rounds}
 use Rattle.exact.proofs.Naturals.{below_or}
 use Rattle.exact.proofs.Value.{pow-split}
@@ -32,16 +32,16 @@ multiple-of x k r e = let s = signed_is x in record { part = signed s.0 r; is = 
     by false n h e = omega arith
 
 -- ---- sums, differences and products
-pub multiple-plus : (x y : Signed) (k : ℕ) → Multiple x k → Multiple y k → Multiple (plusS x y) k
+pub multiple-plus : (x y : Signed) (k : ℕ) → Multiple x k → Multiple y k → Multiple (plus_s x y) k
 multiple-plus x y k m n =
-    record { part = plusS m.part n.part; is = by x.plus x.less y.plus y.less m.part.plus m.part.less n.part.plus n.part.less (2 ^ k) m.is n.is }
+    record { part = plus_s m.part n.part; is = by x.plus x.less y.plus y.less m.part.plus m.part.less n.part.plus n.part.less (2 ^ k) m.is n.is }
   where
     by : (a b c d p q r s u : ℕ) → a + u * q ≡ u * p + b → c + u * s ≡ u * r + d → a + c + u * (q + s) ≡ u * (p + r) + (b + d)
     by a b c d p q r s u h k = omega arith
 
-pub multiple-less : (x y : Signed) (k : ℕ) → Multiple x k → Multiple y k → Multiple (lessS x y) k
+pub multiple-less : (x y : Signed) (k : ℕ) → Multiple x k → Multiple y k → Multiple (less_s x y) k
 multiple-less x y k m n =
-    record { part = lessS m.part n.part; is = by x.plus x.less y.plus y.less m.part.plus m.part.less n.part.plus n.part.less (2 ^ k) m.is n.is }
+    record { part = less_s m.part n.part; is = by x.plus x.less y.plus y.less m.part.plus m.part.less n.part.plus n.part.less (2 ^ k) m.is n.is }
   where
     by : (a b c d p q r s u : ℕ) → a + u * q ≡ u * p + b → c + u * s ≡ u * r + d → a + d + u * (q + r) ≡ u * (p + s) + (b + c)
     by a b c d p q r s u h k = omega arith
@@ -54,15 +54,15 @@ multiple-lower x m n l f =
     let r = multiple-mag x n f in
     multiple-of x m (r.0 * 2 ^ (n - m)) (r.1 ∙ ap (λ (z : ℕ). r.0 * z) (sym (pow-split m n l)) ∙ sym (mul_assoc r.0 (2 ^ (n - m)) (2 ^ m)))
 
-pub multiple-product : (x y : Signed) (m n : ℕ) → Multiple x m → Multiple y n → Multiple (timesS x y) (m + n)
+pub multiple-product : (x y : Signed) (m n : ℕ) → Multiple x m → Multiple y n → Multiple (times_s x y) (m + n)
 multiple-product x y m n f g =
     let p = f.part in
     let q = g.part in
     record {
-      part = timesS p q;
+      part = times_s p q;
       is =
-          subst (λ (z : ℕ). Same (timesS x y) (times z (timesS p q))) (sym (pow-add 2 m n))
-          (same-via (timesS x y) (timesS (times (2 ^ m) p) (times (2 ^ n) q)) (times (2 ^ m * 2 ^ n) (timesS p q))
+          subst (λ (z : ℕ). Same (times_s x y) (times z (times_s p q))) (sym (pow-add 2 m n))
+          (same-via (times_s x y) (times_s (times (2 ^ m) p) (times (2 ^ n) q)) (times (2 ^ m * 2 ^ n) (times_s p q))
           (same-product x y (times (2 ^ m) p) (times (2 ^ n) q) f.is g.is) (factors-out (2 ^ m) (2 ^ n) p q));
     }
 

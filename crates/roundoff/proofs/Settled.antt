@@ -13,8 +13,8 @@ use lib.Ieee.Fits.{add-fits, sub-fits, mul-fits}
 use lib.Ieee.Scale.{finite, grid}
 use Rattle.exact.specs.Doubles.{nought}
 use Rattle.exact.specs.Near.{Part, Within}
-use Rattle.exact.specs.Value.{Units, sign_of, unitsOf, value_of}
-use Rattle.exact.specs.Signed.{Signed, Same, signed, plusS, lessS, dist, mag}
+use Rattle.exact.specs.Value.{Units, sign_of, units_of, value_of}
+use Rattle.exact.specs.Signed.{Signed, Same, signed, plus_s, less_s, dist, mag}
 use Rattle.exact.specs.Rounds.{rnd, Rounds}
 use Rattle.exact.proofs.Naturals.{below_or}
 use Rattle.exact.proofs.Truth.{like-false}
@@ -27,7 +27,7 @@ use Rattle.exact.proofs.Sizes.{mag-signed, signed_is, same-via}
 use Rattle.exact.proofs.Nearest.{few-short, few-most, rnd-exact, rnd-part, rnd-mono}
 use Rattle.exact.proofs.Rounds.{rounds-at, rounds-mag, rounds-none, rounds-same, rounds-exact, rounds-between}
 use Rattle.exact.proofs.Valued.{value-is, add-finite, sub-finite, mul-finite, add-value, sub-value}
-use Rattle.roundoff.specs.Roundoff.{ABOVE, BELOW, farEnd, nearEnd}
+use Rattle.roundoff.specs.Roundoff.{ABOVE, BELOW, far_end, near_end}
 
 -- ---- M / 2 ^ 50, rounded to W, where M is N 2 ^ 51 at most: off by a quarter of N / 2 ^ 50 and a half at most
 record ScaledTo (W M N : ℕ) : Type 0 where
@@ -60,11 +60,11 @@ scaled W M N Z n c P l i j h =
 record ByFactor (v F : Float) (K : ℕ) : Type 0 where
   size : ℕ
   value : value_of (mul binary64 v F) ≡ signed (sign_of v) size
-  near : ScaledTo size (unitsOf v * K) (unitsOf v)
+  near : ScaledTo size (units_of v * K) (units_of v)
 
 product : (v F : Float) (K : ℕ) → K ≤ 2 ^ 51 → Units F false (K * 2 ^ 1024) → T (fits binary64 v) → T (finite (mul binary64 v F)) → ByFactor v F K
 product v F K l u f t =
-    let n = unitsOf v in
+    let n = units_of v in
     let q = 2 ^ 1074 in
     let p = pow_pos 1074 in
     let s = unlike (sign_of v) false in
@@ -135,10 +135,10 @@ between n N W U p (inr l) w u =
     (short-of n N U t p.over (far-below N U l u.over), past n N W t p.under (far-above N W l w.under))
 
 -- ---- of signed numbers: S less something
-ends : (S E r q : Signed) (s : Bool) (n W U : ℕ) → Same E (signed s n) → U ≤ n → n ≤ W → Rounds (lessS S (signed s W)) r → Rounds (lessS S (signed s U)) q → Same r q → Rounds (lessS S E) r
+ends : (S E r q : Signed) (s : Bool) (n W U : ℕ) → Same E (signed s n) → U ≤ n → n ≤ W → Rounds (less_s S (signed s W)) r → Rounds (less_s S (signed s U)) q → Same r q → Rounds (less_s S E) r
 ends S E r q false n W U h k l a b e =
-    rounds-same (lessS S E) q (lessS S E) r refl (sym e) (rounds-between (lessS S (signed false W)) (lessS S E) (lessS S (signed false U)) q r a b (sym e) (omega arith) (omega arith))
-ends S E r q true n W U h k l a b e = rounds-between (lessS S (signed true U)) (lessS S E) (lessS S (signed true W)) r q b a e (omega arith) (omega arith)
+    rounds-same (less_s S E) q (less_s S E) r refl (sym e) (rounds-between (less_s S (signed false W)) (less_s S E) (less_s S (signed false U)) q r a b (sym e) (omega arith) (omega arith))
+ends S E r q true n W U h k l a b e = rounds-between (less_s S (signed true U)) (less_s S E) (less_s S (signed true W)) r q b a e (omega arith) (omega arith)
 
 -- the sign of a rounded number is the number's
 its-sign : (s t : Bool) (N n : ℕ) → (N ≡ 0 → n ≡ 0) → Same (signed s N) (signed t N) → Same (signed t n) (signed s n)
@@ -153,13 +153,13 @@ module _ (s t e : Float) (fs : T (fits binary64 s)) (ft : T (fits binary64 t)) (
   v = add binary64 t e
 
   abbrev E : Signed
-  E = plusS (value_of t) (value_of e)
+  E = plus_s (value_of t) (value_of e)
 
   abbrev far : Float
-  far = farEnd s t e
+  far = far_end s t e
 
   abbrev near : Float
-  near = nearEnd s t e
+  near = near_end s t e
 
   -- a difference of 0 is one of two finite and equal doubles
   module _ (settles : eq (sub binary64 far near) nought ≡ true) where
@@ -178,8 +178,8 @@ module _ (s t e : Float) (fs : T (fits binary64 s)) (ft : T (fits binary64 t)) (
     equal : Same (value_of far) (value_of near)
     equal =
         by (value_of far).plus (value_of far).less (value_of near).plus (value_of near).less
-        (rounds-none (lessS (value_of far) (value_of near)) (value_of (sub binary64 far near)) (sub-value far near (sub-fits binary64 s (mul binary64 v ABOVE)) (sub-fits binary64 s (mul binary64 v BELOW)) off-finite)
-        (mag-signed (sign_of (sub binary64 far near)) (unitsOf (sub binary64 far near)) ∙ units-are (sub binary64 far near) (sign_of (sub binary64 far near)) 0 zero))
+        (rounds-none (less_s (value_of far) (value_of near)) (value_of (sub binary64 far near)) (sub-value far near (sub-fits binary64 s (mul binary64 v ABOVE)) (sub-fits binary64 s (mul binary64 v BELOW)) off-finite)
+        (mag-signed (sign_of (sub binary64 far near)) (units_of (sub binary64 far near)) ∙ units-are (sub binary64 far near) (sign_of (sub binary64 far near)) 0 zero))
       where
         by : (a b c d : ℕ) → dist (a + d) (b + c) ≡ 0 → a + d ≡ c + b
         by a b c d e = omega arith
@@ -190,10 +190,10 @@ module _ (s t e : Float) (fs : T (fits binary64 s)) (ft : T (fits binary64 t)) (
     pub sum-finite : T (finite v)
     sum-finite = (mul-finite binary64 v ABOVE above-finite).0
 
-    pub settled : Rounds (lessS (value_of s) E) (value_of far)
+    pub settled : Rounds (less_s (value_of s) E) (value_of far)
     settled =
         let n = mag E in
-        let N = unitsOf v in
+        let N = units_of v in
         let r = add-value t e ft fe sum-finite in
         let N-is : N ≡ rnd n = sym (mag-signed (sign_of v) N) ∙ rounds-mag E (value_of v) r in
         let g = signed_is E in
@@ -204,39 +204,39 @@ module _ (s t e : Float) (fs : T (fits binary64 s)) (ft : T (fits binary64 t)) (
         let same : Same (signed (sign_of v) N) (signed g.0 N) = subst (λ (z : ℕ). Same (value_of v) (signed g.0 z)) (sym N-is) (rounds-at E (value_of v) g.0 n r g.1) in
         ends (value_of s) E (value_of far) (value_of near) (sign_of v) n w.size u.size
         (same-via E (signed g.0 n) (signed (sign_of v) n) g.1 (its-sign (sign_of v) g.0 N n (gone n N p.under) same)) c.0 c.1
-        (subst (λ (z : Signed). Rounds (lessS (value_of s) z) (value_of far)) w.value (sub-value s (mul binary64 v ABOVE) fs (mul-fits binary64 v ABOVE) both.0))
-        (subst (λ (z : Signed). Rounds (lessS (value_of s) z) (value_of near)) u.value (sub-value s (mul binary64 v BELOW) fs (mul-fits binary64 v BELOW) both.1))
+        (subst (λ (z : Signed). Rounds (less_s (value_of s) z) (value_of far)) w.value (sub-value s (mul binary64 v ABOVE) fs (mul-fits binary64 v ABOVE) both.0))
+        (subst (λ (z : Signed). Rounds (less_s (value_of s) z) (value_of near)) u.value (sub-value s (mul binary64 v BELOW) fs (mul-fits binary64 v BELOW) both.1))
         equal
       where
         gone : (n N : ℕ) → n * 2 ^ 53 ≤ N * 2 ^ 53 + n → N ≡ 0 → n ≡ 0
         gone n N h e = omega arith
 
   -- ---- where t or e is 0, nothing of t + e is lost
-  pub sum-exact : T (finite v) → ((unitsOf t ≡ 0) ⊎ (unitsOf e ≡ 0)) → Same (value_of v) E
+  pub sum-exact : T (finite v) → ((units_of t ≡ 0) ⊎ (units_of e ≡ 0)) → Same (value_of v) E
   sum-exact h z =
       let o = add-finite binary64 t e h in
       rounds-exact E (value_of v) (add-value t e ft fe h)
       (elim z [
-        | inl a ↦ subst Few (first (sign_of t) (sign_of e) (unitsOf t) (unitsOf e) a) (few-of e fe o.1)
-        | inr a ↦ subst Few (second (sign_of t) (sign_of e) (unitsOf t) (unitsOf e) a) (few-of t ft o.0)
+        | inl a ↦ subst Few (first (sign_of t) (sign_of e) (units_of t) (units_of e) a) (few-of e fe o.1)
+        | inr a ↦ subst Few (second (sign_of t) (sign_of e) (units_of t) (units_of e) a) (few-of t ft o.0)
       ])
     where
-      first : (s r : Bool) (m n : ℕ) → m ≡ 0 → n ≡ mag (plusS (signed s m) (signed r n))
+      first : (s r : Bool) (m n : ℕ) → m ≡ 0 → n ≡ mag (plus_s (signed s m) (signed r n))
       first true true m n e = omega arith
       first true false m n e = omega arith
       first false true m n e = omega arith
       first false false m n e = omega arith
 
-      second : (s r : Bool) (m n : ℕ) → n ≡ 0 → m ≡ mag (plusS (signed s m) (signed r n))
+      second : (s r : Bool) (m n : ℕ) → n ≡ 0 → m ≡ mag (plus_s (signed s m) (signed r n))
       second true true m n e = omega arith
       second true false m n e = omega arith
       second false true m n e = omega arith
       second false false m n e = omega arith
 
-  pub settled-exactly : T (finite (sub binary64 s v)) → ((unitsOf t ≡ 0) ⊎ (unitsOf e ≡ 0)) → Rounds (lessS (value_of s) E) (value_of (sub binary64 s v))
+  pub settled-exactly : T (finite (sub binary64 s v)) → ((units_of t ≡ 0) ⊎ (units_of e ≡ 0)) → Rounds (less_s (value_of s) E) (value_of (sub binary64 s v))
   settled-exactly h z =
       let o = sub-finite binary64 s v h in
-      rounds-same (lessS (value_of s) (value_of v)) (value_of (sub binary64 s v)) (lessS (value_of s) E) (value_of (sub binary64 s v)) (by (value_of s) (value_of v) E (sum-exact o.1 z)) refl (sub-value s v fs (add-fits binary64 t e) h)
+      rounds-same (less_s (value_of s) (value_of v)) (value_of (sub binary64 s v)) (less_s (value_of s) E) (value_of (sub binary64 s v)) (by (value_of s) (value_of v) E (sum-exact o.1 z)) refl (sub-value s v fs (add-fits binary64 t e) h)
     where
-      by : (s v E : Signed) → Same v E → Same (lessS s v) (lessS s E)
+      by : (s v E : Signed) → Same v E → Same (less_s s v) (less_s s E)
       by s v E e = omega arith

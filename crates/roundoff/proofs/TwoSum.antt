@@ -11,7 +11,7 @@ use lib.Ieee.{Float, binary64, fits, add, sub}
 use lib.Ieee.Fits.{add-fits, sub-fits}
 use lib.Ieee.Scale.{finite}
 use Rattle.exact.specs.Value.{value_of}
-use Rattle.exact.specs.Signed.{Signed, Same, Apart, times, plusS, lessS, dist, mag}
+use Rattle.exact.specs.Signed.{Signed, Same, Apart, times, plus_s, less_s, dist, mag}
 use Rattle.exact.specs.Rounds.{Rounds}
 use Rattle.exact.proofs.Naturals.{below_or}
 use Rattle.exact.proofs.Few.{Few}
@@ -19,11 +19,11 @@ use Rattle.exact.proofs.Sizes.{mag-over, mag-under, mag-le}
 use Rattle.exact.proofs.Nearest.{few-none}
 use Rattle.exact.proofs.Rounds.{Double, rounds-exact, rounds-to, rounds-double, rounds-error}
 use Rattle.exact.proofs.Valued.{double-of, add-finite, sub-finite, add-value, sub-value}
-use Rattle.roundoff.specs.Roundoff.{sumOff}
+use Rattle.roundoff.specs.Roundoff.{sum_off}
 use Rattle.roundoff.proofs.Errors.{error-double, sterbenz, fast, no-smaller}
 
 -- the same size, with the other sign
-turned : (x y : Signed) → Double (lessS x y) → Double (lessS y x)
+turned : (x y : Signed) → Double (less_s x y) → Double (less_s y x)
 turned x y f = subst Few (by x.plus x.less y.plus y.less) f
   where
     by : (a b c d : ℕ) → dist (a + d) (b + c) ≡ dist (c + b) (d + a)
@@ -36,26 +36,26 @@ abbrev none : Signed
 none = record { plus = 0; less = 0 }
 
 -- v is x - a, x is a + b, each but for a part in 2 ^ 53: b and v are close
-close : (a b x v : Signed) → mag a ≤ mag b → Apart (times (2 ^ 53) x) (times (2 ^ 53) (plusS a b)) (mag (plusS a b))
-    → Apart (times (2 ^ 53) v) (times (2 ^ 53) (lessS x a)) (mag (lessS x a)) → mag (lessS b v) * 2 ≤ mag b
+close : (a b x v : Signed) → mag a ≤ mag b → Apart (times (2 ^ 53) x) (times (2 ^ 53) (plus_s a b)) (mag (plus_s a b))
+    → Apart (times (2 ^ 53) v) (times (2 ^ 53) (less_s x a)) (mag (less_s x a)) → mag (less_s b v) * 2 ≤ mag b
 close a b x v l h k =
-    let M : mag (plusS a b) ≤ mag b * 2 = two a b (mag a) (mag b) (mag-over a) (mag-under a) (mag-over b) (mag-under b) l in
-    let N : mag (lessS x a) ≤ mag b * 4 = four a b x (mag a) (mag b) (mag (plusS a b)) (mag-over a) (mag-under a) (mag-over b) (mag-under b) l M h.over h.under in
-    third (mag (lessS b v)) (mag b) (mag (plusS a b)) (mag (lessS x a)) M N (mag-half b v (six a b x v (mag (plusS a b)) (mag (lessS x a)) h k))
+    let M : mag (plus_s a b) ≤ mag b * 2 = two a b (mag a) (mag b) (mag-over a) (mag-under a) (mag-over b) (mag-under b) l in
+    let N : mag (less_s x a) ≤ mag b * 4 = four a b x (mag a) (mag b) (mag (plus_s a b)) (mag-over a) (mag-under a) (mag-over b) (mag-under b) l M h.over h.under in
+    third (mag (less_s b v)) (mag b) (mag (plus_s a b)) (mag (less_s x a)) M N (mag-half b v (six a b x v (mag (plus_s a b)) (mag (less_s x a)) h k))
   where
-    two : (a b : Signed) (m n : ℕ) → a.plus ≤ a.less + m → a.less ≤ a.plus + m → b.plus ≤ b.less + n → b.less ≤ b.plus + n → m ≤ n → mag (plusS a b) ≤ n * 2
-    two a b m n p q r s l = mag-le (plusS a b) (n * 2) (omega arith) (omega arith)
+    two : (a b : Signed) (m n : ℕ) → a.plus ≤ a.less + m → a.less ≤ a.plus + m → b.plus ≤ b.less + n → b.less ≤ b.plus + n → m ≤ n → mag (plus_s a b) ≤ n * 2
+    two a b m n p q r s l = mag-le (plus_s a b) (n * 2) (omega arith) (omega arith)
 
     four : (a b x : Signed) (m n o : ℕ) → a.plus ≤ a.less + m → a.less ≤ a.plus + m → b.plus ≤ b.less + n → b.less ≤ b.plus + n → m ≤ n → o ≤ n * 2
         → 2 ^ 53 * x.plus + 2 ^ 53 * (a.less + b.less) ≤ 2 ^ 53 * (a.plus + b.plus) + 2 ^ 53 * x.less + o
-        → 2 ^ 53 * (a.plus + b.plus) + 2 ^ 53 * x.less ≤ 2 ^ 53 * x.plus + 2 ^ 53 * (a.less + b.less) + o → mag (lessS x a) ≤ n * 4
-    four a b x m n o p q r s l M h k = mag-le (lessS x a) (n * 4) (omega arith) (omega arith)
+        → 2 ^ 53 * (a.plus + b.plus) + 2 ^ 53 * x.less ≤ 2 ^ 53 * x.plus + 2 ^ 53 * (a.less + b.less) + o → mag (less_s x a) ≤ n * 4
+    four a b x m n o p q r s l M h k = mag-le (less_s x a) (n * 4) (omega arith) (omega arith)
 
-    six : (a b x v : Signed) (m n : ℕ) → Apart (times (2 ^ 53) x) (times (2 ^ 53) (plusS a b)) m → Apart (times (2 ^ 53) v) (times (2 ^ 53) (lessS x a)) n
+    six : (a b x v : Signed) (m n : ℕ) → Apart (times (2 ^ 53) x) (times (2 ^ 53) (plus_s a b)) m → Apart (times (2 ^ 53) v) (times (2 ^ 53) (less_s x a)) n
         → Apart (times (2 ^ 53) b) (times (2 ^ 53) v) (m + n)
     six a b x v m n h k = record { over = omega (arith, h.over, h.under, k.over, k.under); under = omega (arith, h.over, h.under, k.over, k.under) }
 
-    mag-half : (b v : Signed) {e : ℕ} → Apart (times (2 ^ 53) b) (times (2 ^ 53) v) e → mag (lessS b v) * 2 ^ 53 ≤ e
+    mag-half : (b v : Signed) {e : ℕ} → Apart (times (2 ^ 53) b) (times (2 ^ 53) v) e → mag (less_s b v) * 2 ^ 53 ≤ e
     mag-half b v {e} h = by b.plus b.less v.plus v.less h.over h.under
       where
         by : (p q r s : ℕ) → 2 ^ 53 * p + 2 ^ 53 * s ≤ 2 ^ 53 * r + 2 ^ 53 * q + e → 2 ^ 53 * r + 2 ^ 53 * q ≤ 2 ^ 53 * p + 2 ^ 53 * s + e → dist (p + s) (q + r) * 2 ^ 53 ≤ e
@@ -66,49 +66,49 @@ close a b x v l h k =
 
 -- ---- THE SIX STEPS, of numbers
 pub record Steps (a b x v u w z t : Signed) : Type 0 where
-  pub sum : Rounds (plusS a b) x
-  pub second : Rounds (lessS x a) v
-  pub first : Rounds (lessS x v) u
-  pub first_off : Rounds (lessS u a) w
-  pub second-off : Rounds (lessS v b) z
-  pub off : Rounds (plusS w z) t
+  pub sum : Rounds (plus_s a b) x
+  pub second : Rounds (less_s x a) v
+  pub first : Rounds (less_s x v) u
+  pub first_off : Rounds (less_s u a) w
+  pub second-off : Rounds (less_s v b) z
+  pub off : Rounds (plus_s w z) t
 
-pub two-sum : (a b x v u w z t : Signed) → Double a → Double b → Steps a b x v u w z t → Same (lessS x t) (plusS a b)
+pub two-sum : (a b x v u w z t : Signed) → Double a → Double b → Steps a b x v u w z t → Same (less_s x t) (plus_s a b)
 two-sum a b x v u w z t f g s = elim (below_or (mag a) (mag b)) [ inl l ↦ elim (no-smaller a b x f g (le_of_lt l) s.sum) [ inl e ↦ nothing e | inr m ↦ smaller l m ] | inr l ↦ larger l ]
   where
     -- x less the exact sum
-    error : Double (lessS x (plusS a b))
+    error : Double (less_s x (plus_s a b))
     error = error-double a b x f g s.sum
 
-    larger : mag b ≤ mag a → Same (lessS x t) (plusS a b)
+    larger : mag b ≤ mag a → Same (less_s x t) (plus_s a b)
     larger l =
-        let vi : Same v (lessS x a) = rounds-exact (lessS x a) v s.second (fast a b x f g l s.sum) in
-        let ui : Same u a = rounds-to (lessS x v) u a s.first (omega arith) f in
-        let wi : Same w none = rounds-to (lessS u a) w none s.first_off (omega arith) few-none in
-        let zi : Same z (lessS x (plusS a b)) = rounds-to (lessS v b) z (lessS x (plusS a b)) s.second-off (omega arith) error in
-        let ti : Same t (lessS x (plusS a b)) = rounds-to (plusS w z) t (lessS x (plusS a b)) s.off (omega arith) error in
+        let vi : Same v (less_s x a) = rounds-exact (less_s x a) v s.second (fast a b x f g l s.sum) in
+        let ui : Same u a = rounds-to (less_s x v) u a s.first (omega arith) f in
+        let wi : Same w none = rounds-to (less_s u a) w none s.first_off (omega arith) few-none in
+        let zi : Same z (less_s x (plus_s a b)) = rounds-to (less_s v b) z (less_s x (plus_s a b)) s.second-off (omega arith) error in
+        let ti : Same t (less_s x (plus_s a b)) = rounds-to (plus_s w z) t (less_s x (plus_s a b)) s.off (omega arith) error in
         omega arith
 
-    nothing : Double (plusS a b) → Same (lessS x t) (plusS a b)
+    nothing : Double (plus_s a b) → Same (less_s x t) (plus_s a b)
     nothing e =
-        let xi : Same x (plusS a b) = rounds-exact (plusS a b) x s.sum e in
-        let vi : Same v b = rounds-to (lessS x a) v b s.second (omega arith) g in
-        let ui : Same u a = rounds-to (lessS x v) u a s.first (omega arith) f in
-        let wi : Same w none = rounds-to (lessS u a) w none s.first_off (omega arith) few-none in
-        let zi : Same z none = rounds-to (lessS v b) z none s.second-off (omega arith) few-none in
-        let ti : Same t none = rounds-to (plusS w z) t none s.off (omega arith) few-none in
+        let xi : Same x (plus_s a b) = rounds-exact (plus_s a b) x s.sum e in
+        let vi : Same v b = rounds-to (less_s x a) v b s.second (omega arith) g in
+        let ui : Same u a = rounds-to (less_s x v) u a s.first (omega arith) f in
+        let wi : Same w none = rounds-to (less_s u a) w none s.first_off (omega arith) few-none in
+        let zi : Same z none = rounds-to (less_s v b) z none s.second-off (omega arith) few-none in
+        let ti : Same t none = rounds-to (plus_s w z) t none s.off (omega arith) few-none in
         omega arith
 
-    smaller : mag a < mag b → mag a ≤ mag x → Same (lessS x t) (plusS a b)
+    smaller : mag a < mag b → mag a ≤ mag x → Same (less_s x t) (plus_s a b)
     smaller l m =
-        let y = rounds-double (plusS a b) x s.sum in
+        let y = rounds-double (plus_s a b) x s.sum in
         let n = opposite-double f in
-        let ui : Same u (lessS x v) = rounds-exact (lessS x v) u s.first (turned v x (fast x (opposite a) v y n (size m) s.second)) in
-        let wi : Same w (lessS (lessS x a) v) = rounds-to (lessS u a) w (lessS (lessS x a) v) s.first_off (omega arith) (turned v (lessS x a) (error-double x (opposite a) v y n s.second)) in
-        let zi : Same z (lessS v b) =
-        rounds-exact (lessS v b) z s.second-off
-        (turned b v (sterbenz b v g (rounds-double (lessS x a) v s.second) (close a b x v (le_of_lt l) (rounds-error (plusS a b) x s.sum) (rounds-error (lessS x a) v s.second)))) in
-        let ti : Same t (lessS x (plusS a b)) = rounds-to (plusS w z) t (lessS x (plusS a b)) s.off (omega arith) error in
+        let ui : Same u (less_s x v) = rounds-exact (less_s x v) u s.first (turned v x (fast x (opposite a) v y n (size m) s.second)) in
+        let wi : Same w (less_s (less_s x a) v) = rounds-to (less_s u a) w (less_s (less_s x a) v) s.first_off (omega arith) (turned v (less_s x a) (error-double x (opposite a) v y n s.second)) in
+        let zi : Same z (less_s v b) =
+        rounds-exact (less_s v b) z s.second-off
+        (turned b v (sterbenz b v g (rounds-double (less_s x a) v s.second) (close a b x v (le_of_lt l) (rounds-error (plus_s a b) x s.sum) (rounds-error (less_s x a) v s.second)))) in
+        let ti : Same t (less_s x (plus_s a b)) = rounds-to (plus_s w z) t (less_s x (plus_s a b)) s.off (omega arith) error in
         omega arith
       where
         flip : (p q : ℕ) → dist p q ≡ dist q p
@@ -121,7 +121,7 @@ two-sum a b x v u w z t f g s = elim (below_or (mag a) (mag b)) [ inl l ↦ elim
         size h = subst (λ (k : ℕ). k ≤ mag x) (flip a.plus a.less) h
 
 -- ---- TWO-SUM, of doubles: where the last result is finite, the sum less it is a + b
-pub two-sum-exact : (a b : Float) → T (fits binary64 a) → T (fits binary64 b) → T (finite (sumOff a b)) → Same (lessS (value_of (add binary64 a b)) (value_of (sumOff a b))) (plusS (value_of a) (value_of b))
+pub two-sum-exact : (a b : Float) → T (fits binary64 a) → T (fits binary64 b) → T (finite (sum_off a b)) → Same (less_s (value_of (add binary64 a b)) (value_of (sum_off a b))) (plus_s (value_of a) (value_of b))
 two-sum-exact a b f g t =
     let s = add binary64 a b in
     let v = sub binary64 s a in

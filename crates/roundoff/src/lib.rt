@@ -1,10 +1,10 @@
 // What a rounded sum and a rounded product are off by, exactly, as doubles; and whether a sum with such an error can only round one way.
 ghost use Rattle.std.specs.Prelude.{◌≡◌};
-ghost use Rattle.roundoff.specs.Roundoff.{sumOff, productOff, enclosureOf};
+ghost use Rattle.roundoff.specs.Roundoff.{sum_off, product_off, enclosure_of};
 
 // Knuth's two-sum: a + b, rounded, less a + b. Exact where it is finite.
 pub fn sum_off(a: f64, b: f64) -> f64
-    ensures { result ≡ sumOff a b }
+    ensures { result ≡ sum_off a b }
 {
     let s = a + b;
     let v = s - a;
@@ -13,7 +13,7 @@ pub fn sum_off(a: f64, b: f64) -> f64
 
 // a x, rounded, less a x, of parts: a is h + l, and x is g + m. Exact where it is finite, and the parts are halves of their numbers (`Halved`).
 pub fn product_off(a: f64, h: f64, l: f64, x: f64, g: f64, m: f64) -> f64
-    ensures { result ≡ productOff a h l x g m }
+    ensures { result ≡ product_off a h l x g m }
 {
     a * x - h * g - h * m - l * g - l * m
 }
@@ -27,7 +27,7 @@ pub struct Enclosure {
 }
 
 pub fn enclose(s: f64, t: f64, e: f64) -> Enclosure
-    ensures { result ≡ enclosureOf s t e }
+    ensures { result ≡ enclosure_of s t e }
 {
     let v = t + e;
     let far = s - v * 1.0000000000000009;

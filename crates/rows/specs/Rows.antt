@@ -6,12 +6,12 @@ use Rattle.quant.specs.declared.refusal.Answer.TheVariants.{Done, Refused}
 use Rattle.quant.specs.declared.refusal.Refusal.TheVariants.{Malformed, WrongSize}
 
 -- one row, and then the second has no samples, or two of equal length; at most 65,536 samples
-abbrev pub rowsFit : ℕ → ℕ → ℕ → Bool
-rowsFit rows i q = leb i 65536 && cond (eqb rows 1) (eqb q 0) (cond (eqb rows 2) (eqb i q) false)
+abbrev pub rows_fit : ℕ → ℕ → ℕ → Bool
+rows_fit rows i q = leb i 65536 && cond (eqb rows 1) (eqb q 0) (cond (eqb rows 2) (eqb i q) false)
 
-unfoldable pub allFinite : List Float → Bool
-allFinite [] = true
-allFinite (x ∷ xs) = finite x && allFinite xs
+unfoldable pub all_finite : List Float → Bool
+all_finite [] = true
+all_finite (x ∷ xs) = finite x && all_finite xs
 
 -- the order of a step's refusals: 13 for sizes, then 2 for a number that is not finite; both before any sample changes
 abbrev pub answer_of : Bool → Bool → Answer

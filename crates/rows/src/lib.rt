@@ -1,13 +1,13 @@
 // What the steps on rows share: the sizes that rows may have, and the test that numbers are finite.
 ghost use Rattle.std.specs.Prelude.{◌≡◌};
-ghost use Rattle.rows.specs.Rows.{rowsFit, allFinite, answer_of};
+ghost use Rattle.rows.specs.Rows.{rows_fit, all_finite, answer_of};
 
 use ieee::finite::is_finite;
 use quant::refusal::{Answer, Refusal};
 
 // One row, and then the second has no samples, or two rows of equal length; at most 65,536 samples.
 pub fn rows_fit(rows: usize, i: usize, q: usize) -> bool
-    ensures { result ≡ rowsFit rows i q }
+    ensures { result ≡ rows_fit rows i q }
 {
     if i > 65536 {
         return false;
@@ -22,7 +22,7 @@ pub fn rows_fit(rows: usize, i: usize, q: usize) -> bool
 }
 
 pub fn all_finite(numbers: &[f64]) -> bool
-    ensures { result ≡ allFinite numbers.now }
+    ensures { result ≡ all_finite numbers.now }
 {
     let mut k: usize = 0;
     while k < numbers.len() {

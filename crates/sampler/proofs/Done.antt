@@ -1,4 +1,4 @@
--- A sampling call that is done: its settings fit, its sizes fit, its plan is accepted, and it is `eachPulse`. Assumes nothing.
+-- A sampling call that is done: its settings fit, its sizes fit, its plan is accepted, and it is `each_pulse`. Assumes nothing.
 use Prim.Native.Nat.{ℕ}
 use native.Mathlib.Omega.{arith}
 use mathlib.Core.Path.{◌≡◌, refl, sym, ◌∙◌}
@@ -13,7 +13,7 @@ use Rattle.quant.specs.declared.refusal.Refusal.TheVariants as why
 use Rattle.quant.specs.declared.settings.Fitting.{Fitting}
 use Rattle.quant.specs.declared.settings.Fitting.TheVariants.{Fit, Unfit}
 use Rattle.quant.specs.declared.settings.Settings.{Settings}
-use Rattle.quant.specs.Settings.{fittingOf}
+use Rattle.quant.specs.Settings.{fitting_of}
 use Rattle.pulse.specs.declared.list.Pulse.{Pulse}
 use Rattle.tables.specs.declared.Tables.{Tables}
 use Rattle.crosstalk.specs.declared.names.Crosstalk.{Crosstalk}
@@ -22,8 +22,8 @@ use Rattle.crosstalk.specs.Crosstalk.{planned}
 use Rattle.crosstalk.proofs.Laws.{Way, wrong_size, malformed, at-fault, unknown, accepted, way}
 use Rattle.mixdown.specs.Sampled.{Rowed}
 use Rattle.sampler.specs.declared.Request.{Request}
-use Rattle.sampler.specs.Sizes.{sizesFit}
-use Rattle.sampler.specs.Sampler.{eachPulse, byClock, sampled}
+use Rattle.sampler.specs.Sizes.{sizes_fit}
+use Rattle.sampler.specs.Sampler.{each_pulse, by_clock, sampled}
 
 -- a refused plan is not done
 module _ (t : Tables) (channel : Name) (c : Crosstalk) (factors : List Float) where
@@ -42,18 +42,18 @@ module _ (t : Tables) (channel : Name) (c : Crosstalk) (factors : List Float) wh
 
 module _ (t : Tables) (r : Request) (c : Crosstalk) (factors : List Float) (bins : List (List Float)) (pulses : List Pulse) (st : Rowed) (work : List (List Float)) (marks : List ℕ) where
   abbrev sized : Bool
-  sized = sizesFit r.rows (length st.i) (length st.q) (length st.scratch) (length bins) (length pulses) (length work) (length marks)
+  sized = sizes_fit r.rows (length st.i) (length st.q) (length st.scratch) (length bins) (length pulses) (length work) (length marks)
 
   pub record Accepted : Type 0 where
     pub settings : Settings
-    pub fit : fittingOf r.rate r.delay r.level ≡ Fit settings
+    pub fit : fitting_of r.rate r.delay r.level ≡ Fit settings
     pub sizes : sized ≡ true
     pub plan : (planned t r.channel c factors).refused ≡ false
-    pub is : sampled t r c factors bins pulses st work marks ≡ eachPulse t r bins pulses st work marks settings (planned t r.channel c factors).taking
+    pub is : sampled t r c factors bins pulses st work marks ≡ each_pulse t r bins pulses st work marks settings (planned t r.channel c factors).taking
 
   -- the same, of the flags
-  by_flags : (s : Settings) (n : ℕ) (b d : Bool) → fittingOf r.rate r.delay r.level ≡ Fit s → sized ≡ b → (planned t r.channel c factors).refused ≡ d
-      → (byClock t r bins pulses st work marks c factors (Fit s)).answer ≡ Done n → Accepted
+  by_flags : (s : Settings) (n : ℕ) (b d : Bool) → fitting_of r.rate r.delay r.level ≡ Fit s → sized ≡ b → (planned t r.channel c factors).refused ≡ d
+      → (by_clock t r bins pulses st work marks c factors (Fit s)).answer ≡ Done n → Accepted
   unfolding sampled
   by_flags s n false d f g h e = let z : ◌≡◌ {A = ℕ} 0 1 = let no = rw g at e in cc in absurd (omega arith)
   by_flags s n true true f g h e =
@@ -64,8 +64,8 @@ module _ (t : Tables) (r : Request) (c : Crosstalk) (factors : List Float) (bins
 
   pub call-done : (n : ℕ) → (sampled t r c factors bins pulses st work marks).answer ≡ Done n → Accepted
   unfolding sampled
-  call-done n e = by (fittingOf r.rate r.delay r.level) refl e
+  call-done n e = by (fitting_of r.rate r.delay r.level) refl e
     where
-      by : (f : Fitting) → fittingOf r.rate r.delay r.level ≡ f → (byClock t r bins pulses st work marks c factors f).answer ≡ Done n → Accepted
+      by : (f : Fitting) → fitting_of r.rate r.delay r.level ≡ f → (by_clock t r bins pulses st work marks c factors f).answer ≡ Done n → Accepted
       by Unfit h g = let z : ◌≡◌ {A = ℕ} 0 1 = cc in absurd (omega arith)
       by (Fit s) h g = by_flags s n sized (planned t r.channel c factors).refused h refl refl g

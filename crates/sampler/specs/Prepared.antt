@@ -10,58 +10,58 @@ use Rattle.quant.specs.declared.refusal.Refusal.TheVariants as why
 use Rattle.quant.specs.declared.settings.Fitting.{Fitting}
 use Rattle.quant.specs.declared.settings.Fitting.TheVariants.{Fit, Unfit}
 use Rattle.quant.specs.declared.settings.Settings.{Settings}
-use Rattle.quant.specs.Settings.{fittingOf}
+use Rattle.quant.specs.Settings.{fitting_of}
 use Rattle.pulse.specs.declared.list.Pulse.{Pulse}
 use Rattle.tables.specs.declared.Tables.{Tables}
 use Rattle.merge.specs.declared.taking.Taking.{Taking}
 use Rattle.merge.specs.Taking.{packed, parts_in}
-use Rattle.merge.specs.Work.{gatheredOf}
+use Rattle.merge.specs.Work.{gathered_of}
 use Rattle.crosstalk.specs.declared.names.Crosstalk.{Crosstalk}
 use Rattle.crosstalk.specs.declared.parts.Plan.{Plan}
 use Rattle.crosstalk.specs.Crosstalk.{planned}
-use Rattle.mixdown.specs.Sampled.{Rowed, mixedDown}
+use Rattle.mixdown.specs.Sampled.{Rowed, mixed_down}
 use Rattle.sampler.specs.declared.Prepared.{Prepared}
 use Rattle.sampler.specs.declared.Request.{Request}
-use Rattle.sampler.specs.Sizes.{sizesFit}
+use Rattle.sampler.specs.Sizes.{sizes_fit}
 use Rattle.sampler.specs.Sampler.{Left, left}
 
 -- the settings, whether they fit or not
-abbrev pub settingsOf : Request → Settings
-settingsOf r = record { rate = r.rate; dt = record { 0 = div binary64 one r.rate.0 }; delay = r.delay; level = r.level }
+abbrev pub settings_of : Request → Settings
+settings_of r = record { rate = r.rate; dt = record { 0 = div binary64 one r.rate.0 }; delay = r.delay; level = r.level }
 
 abbrev pub fits : Fitting → Bool
 fits (Fit s) = true
 fits Unfit = false
 
-abbrev pub isFit : Request → Bool
-isFit r = fits (fittingOf r.rate r.delay r.level)
+abbrev pub is_fit : Request → Bool
+is_fit r = fits (fitting_of r.rate r.delay r.level)
 
 -- a call passes its refusals, and each pulse is judged: it meets no 1, no 13 for what is lent, and none of 13, 2, 17, 18 and 7 for the crosstalk and the channel
 pub record Passes (t : Tables) (r : Request) (c : Crosstalk) (factors : List Float) (bins : List (List Float)) (pulses : List Pulse) (st : Rowed) (work : List (List Float)) (marks : List ℕ) : Type 0 where
-  pub fit : fittingOf r.rate r.delay r.level ≡ Fit (settingsOf r)
-  pub sizes : sizesFit r.rows (length st.i) (length st.q) (length st.scratch) (length bins) (length pulses) (length work) (length marks) ≡ true
+  pub fit : fitting_of r.rate r.delay r.level ≡ Fit (settings_of r)
+  pub sizes : sizes_fit r.rows (length st.i) (length st.q) (length st.scratch) (length bins) (length pulses) (length work) (length marks) ≡ true
   pub plan : (planned t r.channel c factors).refused ≡ false
 
-abbrev pub refusedBefore : Request → Refusal → Prepared
-refusedBefore r why = record { refused = true; answer = Refused why 0; settings = settingsOf r; taking = packed [] }
+abbrev pub refused_before : Request → Refusal → Prepared
+refused_before r why = record { refused = true; answer = Refused why 0; settings = settings_of r; taking = packed [] }
 
-abbrev pub preparedBy : Request → Plan → Prepared
-preparedBy r p = record { refused = p.refused; answer = p.answer; settings = settingsOf r; taking = p.taking }
+abbrev pub prepared_by : Request → Plan → Prepared
+prepared_by r p = record { refused = p.refused; answer = p.answer; settings = settings_of r; taking = p.taking }
 
 -- 1, 13, then 13, 2, 17 and 18, 7 of the crosstalk and the channel
-unfoldable pub preparedOf : Tables → Request → Crosstalk → List Float → ℕ → ℕ → ℕ → ℕ → ℕ → ℕ → ℕ → Prepared
-preparedOf t r c factors bins pulses i q scratch work marks =
-    cond (isFit r)
-    (cond (sizesFit r.rows i q scratch bins pulses work marks) (preparedBy r (planned t r.channel c factors)) (refusedBefore r why.WrongSize))
-    (refusedBefore r why.Unfit)
+unfoldable pub prepared_of : Tables → Request → Crosstalk → List Float → ℕ → ℕ → ℕ → ℕ → ℕ → ℕ → ℕ → Prepared
+prepared_of t r c factors bins pulses i q scratch work marks =
+    cond (is_fit r)
+    (cond (sizes_fit r.rows i q scratch bins pulses work marks) (prepared_by r (planned t r.channel c factors)) (refused_before r why.WrongSize))
+    (refused_before r why.Unfit)
 
 -- the pulses as the code takes them: out of the work rows
-abbrev pub eachMixed : Tables → Request → List (List Float) → List Pulse → Rowed → List (List Float) → List ℕ → Settings → Taking → Left
-eachMixed t r bins pulses st work marks s taking =
-    let g = gatheredOf t (parts_in taking) pulses work marks in
-    let o = mixedDown s t taking g.ends bins g.rows g.marks r.rows st in
+abbrev pub each_mixed : Tables → Request → List (List Float) → List Pulse → Rowed → List (List Float) → List ℕ → Settings → Taking → Left
+each_mixed t r bins pulses st work marks s taking =
+    let g = gathered_of t (parts_in taking) pulses work marks in
+    let o = mixed_down s t taking g.ends bins g.rows g.marks r.rows st in
     left o.answer o.left g.rows g.marks
 
 -- a refused call leaves all as it came
-abbrev pub sampledBy : Tables → Request → List (List Float) → List Pulse → Rowed → List (List Float) → List ℕ → Prepared → Left
-sampledBy t r bins pulses st work marks p = cond p.refused (left p.answer st work marks) (eachMixed t r bins pulses st work marks p.settings p.taking)
+abbrev pub sampled_by : Tables → Request → List (List Float) → List Pulse → Rowed → List (List Float) → List ℕ → Prepared → Left
+sampled_by t r bins pulses st work marks p = cond p.refused (left p.answer st work marks) (each_mixed t r bins pulses st work marks p.settings p.taking)

@@ -4,8 +4,8 @@ ghost use Rattle.std.specs.Prelude.{◌≡◌, []};
 ghost use Rattle.merge.specs.Taking.{packed};
 ghost use Rattle.mixdown.specs.Sampled.{rowed};
 ghost use Rattle.sampler.specs.Sampler.{left, sampled};
-ghost use Rattle.sampler.specs.Prepared.{settingsOf, isFit, refusedBefore, preparedBy, preparedOf};
-ghost use Rattle.sampler.specs.Sizes.{sizesFit};
+ghost use Rattle.sampler.specs.Prepared.{settings_of, is_fit, refused_before, prepared_by, prepared_of};
+ghost use Rattle.sampler.specs.Sizes.{sizes_fit};
 
 use crosstalk::names::Crosstalk;
 use crosstalk::parts::Plan;
@@ -94,7 +94,7 @@ fn prepare(
     work: usize,
     marks: usize,
 ) -> Prepared
-    ensures { result ≡ preparedOf t r c factors.now bins pulses i q scratch work marks }
+    ensures { result ≡ prepared_of t r c factors.now bins pulses i q scratch work marks }
 {
     if !is_fit(r) {
         return refused(r, Refusal::Unfit);
@@ -106,7 +106,7 @@ fn prepare(
 }
 
 fn is_fit(r: Request) -> bool
-    ensures { result ≡ isFit r }
+    ensures { result ≡ is_fit r }
 {
     match set_up(r.rate, r.delay, r.level) {
         Fitting::Fit(_) => true,
@@ -124,7 +124,7 @@ fn sizes_fit(
     work: usize,
     marks: usize,
 ) -> bool
-    ensures { result ≡ sizesFit rows i q scratch bins pulses work marks }
+    ensures { result ≡ sizes_fit rows i q scratch bins pulses work marks }
 {
     let waves = both(rows_fit(rows, i, q), i <= scratch);
     let stored = both(both(waves, bins == 512), pulses == 8192);
@@ -132,7 +132,7 @@ fn sizes_fit(
 }
 
 fn settings(r: Request) -> Settings
-    ensures { result ≡ settingsOf r }
+    ensures { result ≡ settings_of r }
 {
     let rate = r.rate;
     let dt = rate.dt();
@@ -146,7 +146,7 @@ fn settings(r: Request) -> Settings
 }
 
 fn refused(r: Request, why: Refusal) -> Prepared
-    ensures { result ≡ refusedBefore r why }
+    ensures { result ≡ refused_before r why }
 {
     let settings = settings(r);
     let taking = none();
@@ -159,7 +159,7 @@ fn refused(r: Request, why: Refusal) -> Prepared
 }
 
 fn planned_for(r: Request, plan: Plan) -> Prepared
-    ensures { result ≡ preparedBy r plan }
+    ensures { result ≡ prepared_by r plan }
 {
     let answer = plan.answer;
     let settings = settings(r);

@@ -5,12 +5,12 @@ use Rattle.quant.specs.declared.refusal.Answer.TheVariants.{Done, Refused}
 use Rattle.quant.specs.declared.settings.Settings.{Settings}
 use Rattle.pulse.specs.declared.bin.Bin.{Bin}
 use Rattle.pulse.specs.declared.list.Pulse.{Pulse}
-use Rattle.pulse.specs.Bin.{bin_of, numbersOf}
+use Rattle.pulse.specs.Bin.{bin_of, numbers_of}
 use Rattle.placing.specs.declared.Judged.{Judged}
 use Rattle.placing.specs.declared.Judged.TheVariants as judgement
 use Rattle.placing.specs.declared.Judged.TheVariants.{Plateau, Shaped}
 use Rattle.placing.specs.Judged.{judged}
-use Rattle.mixdown.specs.Sampled.{Rowed, addedTo}
+use Rattle.mixdown.specs.Sampled.{Rowed, added_to}
 
 -- a pulse with its bin, and the numbers of the bin's spline
 pub record Due : Type 0 where
@@ -26,25 +26,25 @@ dues_of b numbers [] = []
 dues_of b numbers (p ∷ ps) = due b numbers p ∷ dues_of b numbers ps
 
 -- bin by bin
-unfoldable pub allDues : (List Float → List Pulse) → List (List Float) → List Due
-allDues merged [] = []
-allDues merged (r ∷ rs) = dues_of (bin_of r) (numbersOf r) (merged r) ++ allDues merged rs
+unfoldable pub all_dues : (List Float → List Pulse) → List (List Float) → List Due
+all_dues merged [] = []
+all_dues merged (r ∷ rs) = dues_of (bin_of r) (numbers_of r) (merged r) ++ all_dues merged rs
 
 -- the rows with some pulses added, one after another
-unfoldable pub withAll : Settings → ℕ → List Due → Rowed → Rowed
-withAll s rows [] st = st
-withAll s rows (d ∷ ds) st = withAll s rows ds (addedTo s d.bin d.numbers rows (judged s d.bin d.numbers d.pulse (length st.i)) st)
+unfoldable pub with_all : Settings → ℕ → List Due → Rowed → Rowed
+with_all s rows [] st = st
+with_all s rows (d ∷ ds) st = with_all s rows ds (added_to s d.bin d.numbers rows (judged s d.bin d.numbers d.pulse (length st.i)) st)
 
 -- the count or the place of an answer
-abbrev pub countIn : Answer → ℕ
-countIn (Done k) = k
-countIn (Refused r k) = k
+abbrev pub count_in : Answer → ℕ
+count_in (Done k) = k
+count_in (Refused r k) = k
 
 -- the samples that an accepted pulse is added onto: from where, and how many; of a refused one none
-abbrev pub fromOf : Judged → ℕ
-fromOf (Plateau f) = f.start
-fromOf (Shaped c) = c.start
-fromOf (judgement.Refused r) = 0
+abbrev pub from_of : Judged → ℕ
+from_of (Plateau f) = f.start
+from_of (Shaped c) = c.start
+from_of (judgement.Refused r) = 0
 
 abbrev pub length_of : Judged → ℕ
 length_of (Plateau f) = f.count

@@ -10,19 +10,19 @@ use Rattle.shape.specs.declared.parts.Parts.{Parts}
 use Rattle.shape.specs.declared.parts.Parted.{Parted}
 use Rattle.shape.specs.declared.parts.Parted.TheVariants as parted
 use Rattle.shape.specs.declared.envelope.Enveloped.TheVariants.{Points, Refused}
-use Rattle.points.specs.Points.{pointAt}
-use Rattle.shape.specs.Segment.{envelopeAt, values}
-use Rattle.shape.specs.Parts.{index_at, t1, t3, unbroken, broken, inOrder, partedOf}
-use Rattle.shape.specs.Envelope.{shape_of, finePoints, filledOf, envelopedOf, scratchAfter, Fitting}
+use Rattle.points.specs.Points.{point_at}
+use Rattle.shape.specs.Segment.{envelope_at, values}
+use Rattle.shape.specs.Parts.{index_at, t1, t3, unbroken, broken, in_order, parted_of}
+use Rattle.shape.specs.Envelope.{shape_of, fine_points, filled_of, enveloped_of, scratch_after, Fitting}
 use Rattle.shape.proofs.Filling.{values_length, within-fits}
 
 module _ (shape : Shape) (numbers : List Float) where
   -- the value at point k of a segment
-  pub values-at : (n i : ℕ) (x dx : Float) (k : ℕ) → k < n → get_or (values shape numbers n i x dx) k nan ≡ envelopeAt shape numbers (pointAt x dx (i + k))
+  pub values-at : (n i : ℕ) (x dx : Float) (k : ℕ) → k < n → get_or (values shape numbers n i x dx) k nan ≡ envelope_at shape numbers (point_at x dx (i + k))
   unfolding values
   values-at zero i x dx k h = absurd (not-suc-le-zero h)
-  values-at (suc n) i x dx zero h = ap (λ (j : ℕ). envelopeAt shape numbers (pointAt x dx j)) (omega arith)
-  values-at (suc n) i x dx (suc k) h = values-at n (suc i) x dx k (le_of_suc-le-suc h) ∙ ap (λ (j : ℕ). envelopeAt shape numbers (pointAt x dx j)) (omega arith)
+  values-at (suc n) i x dx zero h = ap (λ (j : ℕ). envelope_at shape numbers (point_at x dx j)) (omega arith)
+  values-at (suc n) i x dx (suc k) h = values-at n (suc i) x dx k (le_of_suc-le-suc h) ∙ ap (λ (j : ℕ). envelope_at shape numbers (point_at x dx j)) (omega arith)
 
   -- parts in order have as many points as they say
   pub shape-length : (p : Parts) (n : ℕ) → Fitting p n → length (shape_of shape numbers p) ≡ p.length
@@ -48,8 +48,8 @@ module _ (shape : Shape) (numbers : List Float) where
   rest-stays p old fit = drop_at (shape_of shape numbers p) (drop p.length old) p.length (shape-length p (length old) fit)
 
   -- a refused call leaves it as it came
-  pub refused-stays : (q : Parted) (old : List Float) (r : Refusal) → envelopedOf shape numbers q ≡ Refused r → scratchAfter shape numbers q old ≡ old
-  refused-stays (parted.Within p) old r e = by (finePoints shape numbers p) e
+  pub refused-stays : (q : Parted) (old : List Float) (r : Refusal) → enveloped_of shape numbers q ≡ Refused r → scratch_after shape numbers q old ≡ old
+  refused-stays (parted.Within p) old r e = by (fine_points shape numbers p) e
     where
       by : (b : Bool) → cond b (Points p.length) (Refused NotFinite) ≡ Refused r → cond b (shape_of shape numbers p ++ drop p.length old) old ≡ old
       by true e = let z : ◌≡◌ {A = ℕ} 0 1 = cc in absurd (omega arith)
@@ -57,58 +57,58 @@ module _ (shape : Shape) (numbers : List Float) where
   refused-stays (parted.Refused s) old r e = refl
 
   -- accepted, the envelope has no more points than there is room for
-  pub points-fit : (w p o rate dt : Float) (room n : ℕ) → envelopedOf shape numbers (partedOf w p o rate dt room) ≡ Points n → n ≤ room
-  points-fit w p o rate dt room n e = by (partedOf w p o rate dt room) refl e
+  pub points-fit : (w p o rate dt : Float) (room n : ℕ) → enveloped_of shape numbers (parted_of w p o rate dt room) ≡ Points n → n ≤ room
+  points-fit w p o rate dt room n e = by (parted_of w p o rate dt room) refl e
     where
       within : (q : Parts) (b : Bool) → Fitting q room → cond b (Points q.length) (Refused NotFinite) ≡ Points n → n ≤ room
       within q true fit e = let z : q.length ≡ n = cc in omega (arith, z, fit.room)
       within q false fit e = let z : ◌≡◌ {A = ℕ} 0 1 = cc in absurd (omega arith)
 
-      by : (q : Parted) → partedOf w p o rate dt room ≡ q → envelopedOf shape numbers q ≡ Points n → n ≤ room
-      by (parted.Within q) f e = within q (finePoints shape numbers q) (within-fits room q w p o rate dt f) e
+      by : (q : Parted) → parted_of w p o rate dt room ≡ q → enveloped_of shape numbers q ≡ Points n → n ≤ room
+      by (parted.Within q) f e = within q (fine_points shape numbers q) (within-fits room q w p o rate dt f) e
       by (parted.Refused r) f e = let z : ◌≡◌ {A = ℕ} 0 1 = cc in absurd (omega arith)
 
   -- ---- 11 is given exactly where t1 < 0 (that it is given there is `too_short` of proofs/Laying.antt)
-  not-eleven : (p : Parts) → filledOf shape numbers p ≡ Refused ShapeTooShort → ⊥
-  not-eleven p e = by (finePoints shape numbers p) e
+  not_eleven : (p : Parts) → filled_of shape numbers p ≡ Refused ShapeTooShort → ⊥
+  not_eleven p e = by (fine_points shape numbers p) e
     where
       by : (b : Bool) → cond b (Points p.length) (Refused NotFinite) ≡ Refused ShapeTooShort → ⊥
       by true e = let z : ◌≡◌ {A = ℕ} 0 1 = cc in omega arith
       by false e = let z : ◌≡◌ {A = ℕ} 0 1 = cc in omega arith
 
-  pub eleven : (w p o rate dt : Float) (room : ℕ) → envelopedOf shape numbers (partedOf w p o rate dt room) ≡ Refused ShapeTooShort → lt (t1 w p o rate dt) nought ≡ true
-  unfolding partedOf
+  pub eleven : (w p o rate dt : Float) (room : ℕ) → enveloped_of shape numbers (parted_of w p o rate dt room) ≡ Refused ShapeTooShort → lt (t1 w p o rate dt) nought ≡ true
+  unfolding parted_of
   eleven w p o rate dt room e =
       let n = index_at (t3 w p o rate dt) rate in
       let v = broken w p o rate dt n in
-      by (unbroken w p o rate dt n) v (lt (t1 w p o rate dt) nought) (ltb room n) (eq p nought) (inOrder v.start v.end n) e
+      by (unbroken w p o rate dt n) v (lt (t1 w p o rate dt) nought) (ltb room n) (eq p nought) (in_order v.start v.end n) e
     where
       by : (u v : Parts) (a b c d : Bool)
-          → envelopedOf shape numbers (cond a (parted.Refused ShapeTooShort) (cond b (parted.Refused EndPastRow) (cond c (parted.Within u) (cond d (parted.Within v) (parted.Refused EndPastRow))))) ≡ Refused ShapeTooShort
+          → enveloped_of shape numbers (cond a (parted.Refused ShapeTooShort) (cond b (parted.Refused EndPastRow) (cond c (parted.Within u) (cond d (parted.Within v) (parted.Refused EndPastRow))))) ≡ Refused ShapeTooShort
           → a ≡ true
       by u v true b c d e = refl
       by u v false true c d e = let z : ◌≡◌ {A = ℕ} 0 1 = cc in absurd (omega arith)
-      by u v false false true d e = absurd (not-eleven u e)
-      by u v false false false true e = absurd (not-eleven v e)
+      by u v false false true d e = absurd (not_eleven u e)
+      by u v false false false true e = absurd (not_eleven v e)
       by u v false false false false e = let z : ◌≡◌ {A = ℕ} 0 1 = cc in absurd (omega arith)
 
   -- ---- no other number than 11, 12 and 8 is given
-  filled-refused : (p : Parts) (r : Refusal) → filledOf shape numbers p ≡ Refused r → (r ≡ ShapeTooShort) ⊎ ((r ≡ EndPastRow) ⊎ (r ≡ NotFinite))
-  filled-refused p r e = by (finePoints shape numbers p) e
+  filled-refused : (p : Parts) (r : Refusal) → filled_of shape numbers p ≡ Refused r → (r ≡ ShapeTooShort) ⊎ ((r ≡ EndPastRow) ⊎ (r ≡ NotFinite))
+  filled-refused p r e = by (fine_points shape numbers p) e
     where
       by : (b : Bool) → cond b (Points p.length) (Refused NotFinite) ≡ Refused r → (r ≡ ShapeTooShort) ⊎ ((r ≡ EndPastRow) ⊎ (r ≡ NotFinite))
       by true e = let z : ◌≡◌ {A = ℕ} 0 1 = cc in absurd (omega arith)
       by false e = inr (inr (cc))
 
-  pub refused-by : (w p o rate dt : Float) (room : ℕ) (r : Refusal) → envelopedOf shape numbers (partedOf w p o rate dt room) ≡ Refused r → (r ≡ ShapeTooShort) ⊎ ((r ≡ EndPastRow) ⊎ (r ≡ NotFinite))
-  unfolding partedOf
+  pub refused-by : (w p o rate dt : Float) (room : ℕ) (r : Refusal) → enveloped_of shape numbers (parted_of w p o rate dt room) ≡ Refused r → (r ≡ ShapeTooShort) ⊎ ((r ≡ EndPastRow) ⊎ (r ≡ NotFinite))
+  unfolding parted_of
   refused-by w p o rate dt room r e =
       let n = index_at (t3 w p o rate dt) rate in
       let v = broken w p o rate dt n in
-      by (unbroken w p o rate dt n) v (lt (t1 w p o rate dt) nought) (ltb room n) (eq p nought) (inOrder v.start v.end n) e
+      by (unbroken w p o rate dt n) v (lt (t1 w p o rate dt) nought) (ltb room n) (eq p nought) (in_order v.start v.end n) e
     where
       by : (u v : Parts) (a b c d : Bool)
-          → envelopedOf shape numbers (cond a (parted.Refused ShapeTooShort) (cond b (parted.Refused EndPastRow) (cond c (parted.Within u) (cond d (parted.Within v) (parted.Refused EndPastRow))))) ≡ Refused r
+          → enveloped_of shape numbers (cond a (parted.Refused ShapeTooShort) (cond b (parted.Refused EndPastRow) (cond c (parted.Within u) (cond d (parted.Within v) (parted.Refused EndPastRow))))) ≡ Refused r
           → (r ≡ ShapeTooShort) ⊎ ((r ≡ EndPastRow) ⊎ (r ≡ NotFinite))
       by u v true b c d e = inl (cc)
       by u v false true c d e = inr (inl (cc))

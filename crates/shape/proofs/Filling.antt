@@ -11,8 +11,8 @@ use Rattle.shape.specs.declared.parts.Parts.{Parts}
 use Rattle.shape.specs.declared.parts.Parted.TheVariants as parted
 use Rattle.shape.specs.declared.envelope.Enveloped.TheVariants.{Points, Refused}
 use Rattle.shape.specs.Segment.{values}
-use Rattle.shape.specs.Parts.{index_at, t1, t3, unbroken, broken, inOrder, partedOf}
-use Rattle.shape.specs.Envelope.{least, limitOf, shape_of, finePoints, filledOf, scratchFilled, Fitting}
+use Rattle.shape.specs.Parts.{index_at, t1, t3, unbroken, broken, in_order, parted_of}
+use Rattle.shape.specs.Envelope.{least, limit_of, shape_of, fine_points, filled_of, scratch_filled, Fitting}
 
 -- ys are put into the place from a to e of a scratch that holds `front` and then what it held from a on
 pub laid : (old xs front ys : List Float) (a e : ℕ) → xs ≡ front ++ drop a old → length front ≡ a → a ≤ e → put_mid a (e - a) xs ys ≡ (front ++ ys) ++ drop e old
@@ -90,10 +90,10 @@ module _ (shape : Shape) (numbers : List Float) (p : Parts) (old : List Float) (
 
 -- ---- what the call answers and leaves
 module _ (shape : Shape) (numbers : List Float) (p : Parts) (old : List Float) where
-  pub refused : finePoints shape numbers p ≡ false → (Refused NotFinite ≡ filledOf shape numbers p) × (old ≡ scratchFilled shape numbers p old)
+  pub refused : fine_points shape numbers p ≡ false → (Refused NotFinite ≡ filled_of shape numbers p) × (old ≡ scratch_filled shape numbers p old)
   refused e = (rw e, rw e)
 
-  pub filled : finePoints shape numbers p ≡ true → (xs : List Float) → xs ≡ shape_of shape numbers p ++ drop p.length old → (Points p.length ≡ filledOf shape numbers p) × (xs ≡ scratchFilled shape numbers p old)
+  pub filled : fine_points shape numbers p ≡ true → (xs : List Float) → xs ≡ shape_of shape numbers p ++ drop p.length old → (Points p.length ≡ filled_of shape numbers p) × (xs ≡ scratch_filled shape numbers p old)
   filled e xs is = (rw e, rw (e, is))
 
 -- ---- parts that are within a room
@@ -107,13 +107,13 @@ module _ (room : ℕ) (q : Parts) where
   settled u v false false false true f g e = let z : v ≡ q = cc in subst (λ (r : Parts). Fitting r room) z (g refl refl)
   settled u v false false false false f g e = let z : ◌≡◌ {A = ℕ} 0 1 = cc in absurd (omega arith)
 
-  pub within-fits : (w p o rate dt : Float) → partedOf w p o rate dt room ≡ parted.Within q → Fitting q room
-  unfolding partedOf
+  pub within-fits : (w p o rate dt : Float) → parted_of w p o rate dt room ≡ parted.Within q → Fitting q room
+  unfolding parted_of
   within-fits w p o rate dt e =
       let n = index_at (t3 w p o rate dt) rate in
       let u = unbroken w p o rate dt n in
       let v = broken w p o rate dt n in
-      settled u v (lt (t1 w p o rate dt) nought) (ltb room n) (eq p nought) (inOrder v.start v.end n)
+      settled u v (lt (t1 w p o rate dt) nought) (ltb room n) (eq p nought) (in_order v.start v.end n)
       (λ h. record { head = le_refl n; tail = le_refl n; room = ltb-false room n h })
       (λ h k. let k' = both (leb v.start v.end) (leb v.end n) k in record { head = leb-true v.start v.end k'.0; tail = leb-true v.end n k'.1; room = ltb-false room n h })
       e
@@ -136,12 +136,12 @@ least-right a b = by (leb a b) (leb-true a b)
     by true f = f refl
     by false f = le_refl b
 
-pub limit-scratch : (room n : ℕ) → limitOf room n ≤ n
+pub limit-scratch : (room n : ℕ) → limit_of room n ≤ n
 limit-scratch room n = le_trans (least-left (least room n) 65536) (least-right room n)
 
-pub limit-row : (room n : ℕ) → limitOf room n ≤ 65536
+pub limit-row : (room n : ℕ) → limit_of room n ≤ 65536
 limit-row room n = least-right (least room n) 65536
 
 -- with a scratch no shorter than the room, `envelope` has the room that `measure` has
-pub limit-same : (room n : ℕ) → room ≤ n → limitOf room n ≡ least room 65536
+pub limit-same : (room n : ℕ) → room ≤ n → limit_of room n ≡ least room 65536
 limit-same room n h = rw (le-leb room n h)

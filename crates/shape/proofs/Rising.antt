@@ -18,13 +18,13 @@ use Rattle.exact.proofs.Compare.{lt-is}
 use Rattle.exact.proofs.Few.{Few, few-of, few-value, value-finite, units-below}
 use Rattle.exact.proofs.Rounding.{round-value}
 use Rattle.exact.proofs.Value.{unique, units-are}
-use Rattle.ieee.specs.Ceiling.{ceiling, wholeAbove}
+use Rattle.ieee.specs.Ceiling.{ceiling, whole_above}
 use Rattle.ieee.specs.Cut.{cut_of}
 use Rattle.ieee.specs.Cut as Cut
 use Rattle.ieee.proofs.Ceiling.{value}
 use Rattle.ieee.proofs.Comparing.{fractions-of-le}
 use Rattle.ieee.proofs.Cutting.{cut-value, index-within, index-above}
-use Rattle.shape.specs.Parts.{index_of, index_at, t1, t2, t3, inOrder}
+use Rattle.shape.specs.Parts.{index_of, index_at, t1, t2, t3, in_order}
 use Rattle.exact.proofs.Finite.{smaller-finite, round-either}
 
 abbrev Q : ℕ
@@ -110,10 +110,10 @@ saturated-rises v w h = by (compare w (2 ^ 64)) (compared w (2 ^ 64))
     by Ordering.gt k = omega (arith, at-most-last v, large w (omega arith))
 
 -- of a finite number that is not negative
-index-of : (x : Float) (m : ℕ) → T (fits binary64 x) → Units x false m → index_of (cut_of (ceiling x)) ≡ saturated (wholeAbove m Q)
+index-of : (x : Float) (m : ℕ) → T (fits binary64 x) → Units x false m → index_of (cut_of (ceiling x)) ≡ saturated (whole_above m Q)
 index-of x m f u =
-    let up : HasValue (ceiling x) false (wholeAbove m Q) 1 = value x false m Q (pow_pos 1074) f u in
-    ap index_of (cut-value (ceiling x) false (wholeAbove m Q) 1 (omega arith) up ∙ ap (Cut.index_of false) (div-one (wholeAbove m Q)))
+    let up : HasValue (ceiling x) false (whole_above m Q) 1 = value x false m Q (pow_pos 1074) f u in
+    ap index_of (cut-value (ceiling x) false (whole_above m Q) 1 (omega arith) up ∙ ap (Cut.index_of false) (div-one (whole_above m Q)))
 
 rises-fit : (x y : Float) → Rises x y → T (fits binary64 x) × T (fits binary64 y)
 rises-fit x y r = (subst (λ (z : Float). T (fits binary64 z)) (sym r.x-is) (round-fits binary64 false r.a r.c), subst (λ (z : Float). T (fits binary64 z)) (sym r.y-is) (round-fits binary64 false r.b r.c))
@@ -122,8 +122,8 @@ index-rises : (x y : Float) → Rises x y → T (finite y) → index_of (cut_of 
 index-rises x y r t =
     let s = sizes x y r t in
     let f = rises-fit x y r in
-    let above : wholeAbove s.m Q ≤ wholeAbove s.n Q = div_mono (s.m + (Q - 1)) Q (s.n + (Q - 1)) Q (pow_pos 1074) (pow_pos 1074) (mul-le-mul_right Q (more s.m s.n (Q - 1) s.order)) in
-    rw (index-of x s.m f.0 s.x-size, index-of y s.n f.1 s.y-size) (saturated-rises (wholeAbove s.m Q) (wholeAbove s.n Q) above)
+    let above : whole_above s.m Q ≤ whole_above s.n Q = div_mono (s.m + (Q - 1)) Q (s.n + (Q - 1)) Q (pow_pos 1074) (pow_pos 1074) (mul-le-mul_right Q (more s.m s.n (Q - 1) s.order)) in
+    rw (index-of x s.m f.0 s.x-size, index-of y s.n f.1 s.y-size) (saturated-rises (whole_above s.m Q) (whole_above s.n Q) above)
 
 -- ---- less an offset: the first difference is not below 0
 module _ (x y off : Float) (s : Bool) (o : ℕ) (u : Units off s o) (r : Rises x y) (t : T (finite y)) where
@@ -285,20 +285,20 @@ module _ (w p o rate dt : Float) (wu pu ru ou : ℕ) (s : Bool) (fit : T (fits b
   half_is : half ≡ round binary64 false hu Q
   half_is = itself half hu (div-fits binary64 w two) halves.x-size
 
-  second-is' : add binary64 half p ≡ round binary64 false (hu + pu) Q
-  second-is' = add_rounds binary64 half p false false hu pu Q (pow_pos 1074) halves.x-size P ∙ sum_like binary64 false false hu pu Q refl
+  second_is' : add binary64 half p ≡ round binary64 false (hu + pu) Q
+  second_is' = add_rounds binary64 half p false false hu pu Q (pow_pos 1074) halves.x-size P ∙ sum_like binary64 false false hu pu Q refl
 
   third-is : add binary64 w p ≡ round binary64 false (vu + pu) Q
   third-is = add_rounds binary64 w p false false vu pu Q (pow_pos 1074) halves.y-size P ∙ sum_like binary64 false false vu pu Q refl
 
   one-two : Rises half (add binary64 half p)
-  one-two = record { a = hu; b = hu + pu; c = Q; positive = pow_pos 1074; x-is = half_is; y-is = second-is'; order = wider hu pu }
+  one-two = record { a = hu; b = hu + pu; c = Q; positive = pow_pos 1074; x-is = half_is; y-is = second_is'; order = wider hu pu }
     where
       wider : (a b : ℕ) → a ≤ a + b
       wider a b = omega arith
 
   two-three : Rises (add binary64 half p) (add binary64 w p)
-  two-three = record { a = hu + pu; b = vu + pu; c = Q; positive = pow_pos 1074; x-is = second-is'; y-is = third-is; order = more hu vu pu halves.order }
+  two-three = record { a = hu + pu; b = vu + pu; c = Q; positive = pow_pos 1074; x-is = second_is'; y-is = third-is; order = more hu vu pu halves.order }
 
   -- the third time times the rate is no infinity
   no_overflow : mul binary64 (t3 w p o rate dt) rate ≡ inf false → ⊥
@@ -340,9 +340,9 @@ module _ (w p o rate dt : Float) (wu pu ru ou : ℕ) (s : Bool) (fit : T (fits b
       subst (λ (z : Float). T (finite z)) (sym end-length.y-is)
       (elim (round-either false end-length.b end-length.c) [ inl t ↦ t | inr e ↦ absurd (no_overflow (end-length.y-is ∙ e)) ])
 
-  pub in_order : inOrder (index_at (t1 w p o rate dt) rate) (index_at (t2 w p o rate dt) rate) (index_at (t3 w p o rate dt) rate) ≡ true
+  pub in_order_lem : in_order (index_at (t1 w p o rate dt) rate) (index_at (t2 w p o rate dt) rate) (index_at (t3 w p o rate dt) rate) ≡ true
   unfolding index_at
-  in_order =
+  in_order_lem =
       let a = index-rises (mul binary64 (t1 w p o rate dt) rate) (mul binary64 (t2 w p o rate dt) rate) start-end (lower-finite _ _ end-length length-finite) in
       let b = index-rises (mul binary64 (t2 w p o rate dt) rate) (mul binary64 (t3 w p o rate dt) rate) end-length length-finite in
       rw (le-leb _ _ a, le-leb _ _ b)

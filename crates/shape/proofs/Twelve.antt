@@ -5,7 +5,7 @@ use lib.Ieee.{Float, binary64, mul, lt, eq, fits}
 use lib.Ieee.Fits.{mul-fits}
 use lib.Ieee.Scale.{finite}
 use Rattle.exact.specs.Doubles.{nought}
-use Rattle.exact.specs.Value.{Units, sign_of, unitsOf}
+use Rattle.exact.specs.Value.{Units, sign_of, units_of}
 use Rattle.exact.proofs.Compare.{lt-is, above, some}
 use Rattle.exact.proofs.Value.{own}
 use Rattle.quant.specs.declared.refusal.Refusal.TheVariants.{ShapeTooShort, EndPastRow, NotFinite}
@@ -14,25 +14,25 @@ use Rattle.shape.specs.declared.parts.Parts.{Parts}
 use Rattle.shape.specs.declared.parts.Parted.{Parted}
 use Rattle.shape.specs.declared.parts.Parted.TheVariants.{Within, Refused}
 use Rattle.shape.specs.declared.envelope.Enveloped.TheVariants as enveloped
-use Rattle.shape.specs.Parts.{index_at, t1, t2, t3, unbroken, broken, inOrder, partedOf}
-use Rattle.shape.specs.Envelope.{finePoints, envelopedOf}
-use Rattle.shape.proofs.Rising.{last, zero-size, in_order}
+use Rattle.shape.specs.Parts.{index_at, t1, t2, t3, unbroken, broken, in_order, parted_of}
+use Rattle.shape.specs.Envelope.{fine_points, enveloped_of}
+use Rattle.shape.proofs.Rising.{last, zero-size, in_order_lem}
 
 -- a double that is neither below 0 nor 0
-above_zero : (x : Float) → T (fits binary64 x) → T (finite x) → lt x nought ≡ false → eq x nought ≡ false → Units x false (unitsOf x)
+above_zero : (x : Float) → T (fits binary64 x) → T (finite x) → lt x nought ≡ false → eq x nought ≡ false → Units x false (units_of x)
 above_zero x f t low apart = by (sign_of x) (own x f t)
   where
-    by : (s : Bool) → Units x s (unitsOf x) → Units x false (unitsOf x)
+    by : (s : Bool) → Units x s (units_of x) → Units x false (units_of x)
     by false u = u
     by true u =
-        let none = ltb-false 0 (unitsOf x + 0) (sym (lt-is x nought true false (unitsOf x) 0 (2 ^ 1074) (pow_pos 1074) u zero-size) ∙ low) in
+        let none = ltb-false 0 (units_of x + 0) (sym (lt-is x nought true false (units_of x) 0 (2 ^ 1074) (pow_pos 1074) u zero-size) ∙ low) in
         let more = some x f t apart in
         absurd (omega (arith, none, more))
 
 -- an envelope that is refused by 12 has parts that are
-parts-past : (shape : Shape) (numbers : List Float) (q : Parted) → envelopedOf shape numbers q ≡ enveloped.Refused EndPastRow → q ≡ Refused EndPastRow
+parts-past : (shape : Shape) (numbers : List Float) (q : Parted) → enveloped_of shape numbers q ≡ enveloped.Refused EndPastRow → q ≡ Refused EndPastRow
 parts-past shape numbers (Refused r) e = cc
-parts-past shape numbers (Within p) e = by (finePoints shape numbers p) e
+parts-past shape numbers (Within p) e = by (fine_points shape numbers p) e
   where
     by : (b : Bool) → cond b (enveloped.Points p.length) (enveloped.Refused NotFinite) ≡ enveloped.Refused EndPastRow → Within p ≡ Refused EndPastRow
     by true f = let z : ◌≡◌ {A = ℕ} 0 1 = cc in absurd (omega arith)
@@ -62,23 +62,23 @@ module _ (w p o rate dt : Float) (m : Measurable w p o rate dt) where
   n = index_at (t3 w p o rate dt) rate
 
   -- with a plateau
-  parts-ordered : eq p nought ≡ false → lt (t1 w p o rate dt) nought ≡ false → n < last → inOrder (index_at (t1 w p o rate dt) rate) (index_at (t2 w p o rate dt) rate) n ≡ true
+  parts-ordered : eq p nought ≡ false → lt (t1 w p o rate dt) nought ≡ false → n < last → in_order (index_at (t1 w p o rate dt) rate) (index_at (t2 w p o rate dt) rate) n ≡ true
   parts-ordered e f within =
       let off = mul binary64 o dt in
       let up = above rate nought 0 m.rate-fits m.rate-finite zero-size m.rate-above in
-      in_order w p o rate dt (unitsOf w) (unitsOf p) (unitsOf rate) (unitsOf off) (sign_of off) m.width_fits
+      in_order_lem w p o rate dt (units_of w) (units_of p) (units_of rate) (units_of off) (sign_of off) m.width_fits
       (above_zero w m.width_fits m.width-finite m.width_low m.width_some)
       (above_zero p m.plateau-fits m.plateau-finite m.plateau-low e)
-      (subst (λ (s : Bool). Units rate s (unitsOf rate)) up.0 (own rate m.rate-fits m.rate-finite))
+      (subst (λ (s : Bool). Units rate s (units_of rate)) up.0 (own rate m.rate-fits m.rate-finite))
       up.1
       (own off (mul-fits binary64 o dt) m.offset-finite)
       f within
 
-  parts-twelve : (room : ℕ) → room < last → partedOf w p o rate dt room ≡ Refused EndPastRow → PastRoom w p o rate dt room
-  unfolding partedOf
-  parts-twelve room h e = by (unbroken w p o rate dt n) (broken w p o rate dt n) (lt (t1 w p o rate dt) nought) (ltb room n) (eq p nought) (inOrder (index_at (t1 w p o rate dt) rate) (index_at (t2 w p o rate dt) rate) n) refl refl refl refl e
+  parts_twelve : (room : ℕ) → room < last → parted_of w p o rate dt room ≡ Refused EndPastRow → PastRoom w p o rate dt room
+  unfolding parted_of
+  parts_twelve room h e = by (unbroken w p o rate dt n) (broken w p o rate dt n) (lt (t1 w p o rate dt) nought) (ltb room n) (eq p nought) (in_order (index_at (t1 w p o rate dt) rate) (index_at (t2 w p o rate dt) rate) n) refl refl refl refl e
     where
-      by : (u v : Parts) (a b c d : Bool) → lt (t1 w p o rate dt) nought ≡ a → ltb room n ≡ b → eq p nought ≡ c → inOrder (index_at (t1 w p o rate dt) rate) (index_at (t2 w p o rate dt) rate) n ≡ d
+      by : (u v : Parts) (a b c d : Bool) → lt (t1 w p o rate dt) nought ≡ a → ltb room n ≡ b → eq p nought ≡ c → in_order (index_at (t1 w p o rate dt) rate) (index_at (t2 w p o rate dt) rate) n ≡ d
           → cond a (Refused ShapeTooShort) (cond b (Refused EndPastRow) (cond c (Within u) (cond d (Within v) (Refused EndPastRow)))) ≡ Refused EndPastRow
           → PastRoom w p o rate dt room
       by u v true b c d f g j k e = let z : ◌≡◌ {A = ℕ} 0 1 = cc in absurd (omega arith)
@@ -88,5 +88,5 @@ module _ (w p o rate dt : Float) (m : Measurable w p o rate dt) where
       by u v false false false false f g j k e = absurd (true≢false (sym (parts-ordered j f (omega (arith, ltb-false room n g))) ∙ k))
 
   -- that it is given there is `past_row` of proofs/Laying.antt
-  pub twelve : (shape : Shape) (numbers : List Float) (room : ℕ) → room < last → envelopedOf shape numbers (partedOf w p o rate dt room) ≡ enveloped.Refused EndPastRow → PastRoom w p o rate dt room
-  twelve shape numbers room h e = parts-twelve room h (parts-past shape numbers (partedOf w p o rate dt room) e)
+  pub twelve : (shape : Shape) (numbers : List Float) (room : ℕ) → room < last → enveloped_of shape numbers (parted_of w p o rate dt room) ≡ enveloped.Refused EndPastRow → PastRoom w p o rate dt room
+  twelve shape numbers room h e = parts_twelve room h (parts-past shape numbers (parted_of w p o rate dt room) e)

@@ -5,7 +5,7 @@ use Rattle.exact.specs.Doubles.{one}
 use Rattle.quant.specs.declared.refusal.Answer.{Answer}
 use Rattle.quant.specs.declared.refusal.Answer.TheVariants as answer
 use Rattle.quant.specs.declared.refusal.Refusal.TheVariants.{NotFinite}
-use Rattle.rows.specs.Rows.{allFinite}
+use Rattle.rows.specs.Rows.{all_finite}
 use Rattle.shape.specs.declared.parts.Parts.{Parts}
 use Rattle.shape.specs.declared.parts.Parted.{Parted}
 use Rattle.shape.specs.declared.parts.Parted.TheVariants as parted
@@ -14,7 +14,7 @@ use Rattle.shape.specs.declared.envelope.Enveloped.TheVariants.{Points, Refused}
 use Rattle.points.specs.Points.{points}
 use Rattle.pulse.specs.declared.envelope.Shape.{Shape}
 use Rattle.pulse.specs.declared.envelope.Shape.TheVariants.{Spline}
-use Rattle.shape.specs.Segment.{values, allFine}
+use Rattle.shape.specs.Segment.{values, all_fine}
 
 -- the smaller of two
 abbrev pub least : ℕ → ℕ → ℕ
@@ -22,17 +22,17 @@ least a b = cond (nat_le a b) a b
 
 -- Room for the envelope: what is left of the row, where the scratch has n samples. Document 01 lends a scratch no shorter than the row, and rows have
 -- at most 65,536 samples; for a call with another scratch or room these are the limits.
-abbrev pub limitOf : ℕ → ℕ → ℕ
-limitOf room n = least (least room n) 65536
+abbrev pub limit_of : ℕ → ℕ → ℕ
+limit_of room n = least (least room n) 65536
 
 -- each point taken is finite
-unfoldable pub finitePoints : Parts → Bool
-finitePoints p = allFinite (points p.start 0 p.x0 p.dx) && allFinite (points (p.length - p.end) 0 p.x2 p.dx)
+unfoldable pub finite_points : Parts → Bool
+finite_points p = all_finite (points p.start 0 p.x0 p.dx) && all_finite (points (p.length - p.end) 0 p.x2 p.dx)
 
 -- of a spline every step at each point taken
-abbrev pub stepsFine : List Float → Parts → Bool
-stepsFine numbers p =
-    allFine Spline numbers (points p.start 0 p.x0 p.dx) && allFine Spline numbers (points (p.length - p.end) 0 p.x2 p.dx)
+abbrev pub steps_fine : List Float → Parts → Bool
+steps_fine numbers p =
+    all_fine Spline numbers (points p.start 0 p.x0 p.dx) && all_fine Spline numbers (points (p.length - p.end) 0 p.x2 p.dx)
 
 -- ---- of a shape, with the numbers of a spline beside it
 module _ (shape : Shape) (numbers : List Float) where
@@ -43,30 +43,30 @@ module _ (shape : Shape) (numbers : List Float) where
       ++ (replicate (p.end - p.start) one ++ values shape numbers (p.length - p.end) 0 p.x2 p.dx)
 
   -- each point taken is finite, and so is every step on the way to its value
-  unfoldable pub finePoints : Parts → Bool
-  finePoints p =
-      finitePoints p
-      && (allFine shape numbers (points p.start 0 p.x0 p.dx) && allFine shape numbers (points (p.length - p.end) 0 p.x2 p.dx))
+  unfoldable pub fine_points : Parts → Bool
+  fine_points p =
+      finite_points p
+      && (all_fine shape numbers (points p.start 0 p.x0 p.dx) && all_fine shape numbers (points (p.length - p.end) 0 p.x2 p.dx))
 
-  abbrev pub filledOf : Parts → Enveloped
-  filledOf p = cond (finePoints p) (Points p.length) (Refused NotFinite)
+  abbrev pub filled_of : Parts → Enveloped
+  filled_of p = cond (fine_points p) (Points p.length) (Refused NotFinite)
 
-  abbrev pub scratchFilled : Parts → List Float → List Float
-  scratchFilled p old = cond (finePoints p) (shape_of p ++ drop p.length old) old
+  abbrev pub scratch_filled : Parts → List Float → List Float
+  scratch_filled p old = cond (fine_points p) (shape_of p ++ drop p.length old) old
 
   -- what the call answers, and the scratch afterwards; refused, it stays as it came
-  abbrev pub envelopedOf : Parted → Enveloped
-  envelopedOf (parted.Within p) = filledOf p
-  envelopedOf (parted.Refused r) = Refused r
+  abbrev pub enveloped_of : Parted → Enveloped
+  enveloped_of (parted.Within p) = filled_of p
+  enveloped_of (parted.Refused r) = Refused r
 
-  abbrev pub scratchAfter : Parted → List Float → List Float
-  scratchAfter (parted.Within p) old = scratchFilled p old
-  scratchAfter (parted.Refused r) old = old
+  abbrev pub scratch_after : Parted → List Float → List Float
+  scratch_after (parted.Within p) old = scratch_filled p old
+  scratch_after (parted.Refused r) old = old
 
 -- what the cases answer
-abbrev pub envelopedAnswer : Enveloped → Answer
-envelopedAnswer (Points n) = answer.Done 0
-envelopedAnswer (Refused r) = answer.Refused r 0
+abbrev pub enveloped_answer : Enveloped → Answer
+enveloped_answer (Points n) = answer.Done 0
+enveloped_answer (Refused r) = answer.Refused r 0
 
 -- parts in order, within a scratch of n samples
 pub record Fitting (p : Parts) (n : ℕ) : Type 0 where

@@ -58,21 +58,21 @@ module _ (width plateau offset rate dt : Float) where
 
 -- start, end and length in this order. So they are for every pulse with a shape: its width and its plateau are not below 0, so t1 is at most t2
 -- and that at most t3, and rounding and ceilings keep the order (proofs/Rising.antt). Other doubles are refused as an end that is past the row.
-abbrev pub inOrder : ℕ → ℕ → ℕ → Bool
-inOrder start end length = nat_le start end && nat_le end length
+abbrev pub in_order : ℕ → ℕ → ℕ → Bool
+in_order start end length = nat_le start end && nat_le end length
 
 abbrev pub ordered : Parts → Parted
-ordered p = cond (inOrder p.start p.end p.length) (Within p) (Refused EndPastRow)
+ordered p = cond (in_order p.start p.end p.length) (Within p) (Refused EndPastRow)
 
 -- 11 where t1 < 0, then 12 where the envelope has more samples than there is room for, which is so where its end overflows
-unfoldable pub partedOf : Float → Float → Float → Float → Float → ℕ → Parted
-partedOf width plateau offset rate dt room =
+unfoldable pub parted_of : Float → Float → Float → Float → Float → ℕ → Parted
+parted_of width plateau offset rate dt room =
     let n = index_at (t3 width plateau offset rate dt) rate in
     cond (lt (t1 width plateau offset rate dt) nought) (Refused ShapeTooShort)
     (cond (nat_lt room n) (Refused EndPastRow)
     (cond (eq plateau nought) (Within (unbroken width plateau offset rate dt n)) (ordered (broken width plateau offset rate dt n))))
 
 -- what the cases answer
-abbrev pub partedAnswer : Parted → Answer
-partedAnswer (Within p) = answer.Done 0
-partedAnswer (Refused r) = answer.Refused r 0
+abbrev pub parted_answer : Parted → Answer
+parted_answer (Within p) = answer.Done 0
+parted_answer (Refused r) = answer.Refused r 0

@@ -3,33 +3,33 @@ use Rattle.std.specs.Prelude.{ℕ, zero, suc, ◌-◌, ◌*◌, ◌^◌, ◌<◌
 use Rattle.std.specs.Float.{nan}
 use Rattle.exact.specs.Doubles.{one}
 use Rattle.exact.specs.Value.{AtMost}
-use Rattle.spline.specs.Value.{valueIn, fineIn}
+use Rattle.spline.specs.Value.{value_in, fine_in}
 use Rattle.pulse.specs.declared.envelope.Shape.{Shape}
 use Rattle.pulse.specs.declared.envelope.Shape.TheVariants.{Plain, Hann, Spline}
-use Rattle.points.specs.Points.{pointAt}
-use Rattle.shape.specs.Hann.{hannOf}
+use Rattle.points.specs.Points.{point_at}
+use Rattle.shape.specs.Hann.{hann_of}
 
 -- the value of a shape at a point, with the numbers of a spline beside it: no shape holds 1
-unfoldable pub envelopeAt : Shape → List Float → Float → Float
-envelopeAt Plain numbers x = one
-envelopeAt Hann numbers x = hannOf x
-envelopeAt Spline numbers x = valueIn numbers x
+unfoldable pub envelope_at : Shape → List Float → Float → Float
+envelope_at Plain numbers x = one
+envelope_at Hann numbers x = hann_of x
+envelope_at Spline numbers x = value_in numbers x
 
 -- whether a point meets no 8: with request P1 "8 also where a step of the recurrence at a point taken is not finite"
-unfoldable pub pointFine : Shape → List Float → Float → Bool
-pointFine Plain numbers x = true
-pointFine Hann numbers x = true
-pointFine Spline numbers x = fineIn numbers x
+unfoldable pub point_fine : Shape → List Float → Float → Bool
+point_fine Plain numbers x = true
+point_fine Hann numbers x = true
+point_fine Spline numbers x = fine_in numbers x
 
 module _ (shape : Shape) (numbers : List Float) where
   -- at n points from the i-th on
   unfoldable pub values : ℕ → ℕ → Float → Float → List Float
   values zero i x dx = []
-  values (suc n) i x dx = envelopeAt shape numbers (pointAt x dx i) ∷ values n (suc i) x dx
+  values (suc n) i x dx = envelope_at shape numbers (point_at x dx i) ∷ values n (suc i) x dx
 
-  unfoldable pub allFine : List Float → Bool
-  allFine [] = true
-  allFine (x ∷ xs) = pointFine shape numbers x && allFine xs
+  unfoldable pub all_fine : List Float → Bool
+  all_fine [] = true
+  all_fine (x ∷ xs) = point_fine shape numbers x && all_fine xs
 
 -- of at most 2 ^ 100
 abbrev pub Moderate : Float → Type 0

@@ -1,7 +1,7 @@
 // An envelope, worked out into a lent scratch. The Rust's `get_envelope`.
 ghost use Rattle.std.specs.Prelude.{◌≡◌, length};
-ghost use Rattle.shape.specs.Parts.{partedOf};
-ghost use Rattle.shape.specs.Envelope.{least, limitOf, envelopedOf, scratchAfter, filledOf, scratchFilled, finitePoints, stepsFine, finePoints, Fitting};
+ghost use Rattle.shape.specs.Parts.{parted_of};
+ghost use Rattle.shape.specs.Envelope.{least, limit_of, enveloped_of, scratch_after, filled_of, scratch_filled, finite_points, steps_fine, fine_points, Fitting};
 
 use super::parts::{Parted, Parts, lay_out};
 use super::segment::{all_fine, hold, points_finite, sample};
@@ -15,7 +15,7 @@ use spline::over::always_fine;
 pub enum Enveloped {
     // How many points the scratch holds.
     Points(usize),
-    // ShapeTooShort, EndPastRow or NotFinite, in this order. `envelopedAnswer` says what it answers.
+    // ShapeTooShort, EndPastRow or NotFinite, in this order. `enveloped_answer` says what it answers.
     Refused(Refusal),
 }
 
@@ -32,8 +32,8 @@ pub fn envelope(
     room: usize,
     scratch: &mut [f64],
 ) -> Enveloped
-    ensures value { result ≡ envelopedOf shape numbers.now (partedOf width.0 plateau.0 offset rate.0 dt.0 (limitOf room (length scratch.old))) }
-    ensures scratch_after { scratch.new ≡ scratchAfter shape numbers.now (partedOf width.0 plateau.0 offset rate.0 dt.0 (limitOf room (length scratch.old))) scratch.old }
+    ensures value { result ≡ enveloped_of shape numbers.now (parted_of width.0 plateau.0 offset rate.0 dt.0 (limit_of room (length scratch.old))) }
+    ensures scratch_after { scratch.new ≡ scratch_after shape numbers.now (parted_of width.0 plateau.0 offset rate.0 dt.0 (limit_of room (length scratch.old))) scratch.old }
 {
     let limit = smaller(smaller(room, scratch.len()), 65536);
     match lay_out(width, plateau, offset, rate, dt, limit) {
@@ -53,7 +53,7 @@ pub fn measure(
     dt: Time,
     room: usize,
 ) -> Enveloped
-    ensures { result ≡ envelopedOf shape numbers.now (partedOf width.0 plateau.0 offset rate.0 dt.0 (least room 65536)) }
+    ensures { result ≡ enveloped_of shape numbers.now (parted_of width.0 plateau.0 offset rate.0 dt.0 (least room 65536)) }
 {
     match lay_out(width, plateau, offset, rate, dt, smaller(room, 65536)) {
         Parted::Within(p) => count(shape, numbers, p),
@@ -63,7 +63,7 @@ pub fn measure(
 
 fn count(shape: Shape, numbers: &[f64], p: Parts) -> Enveloped
     requires { Fitting p 65536 }
-    ensures { result ≡ filledOf shape numbers.now p }
+    ensures { result ≡ filled_of shape numbers.now p }
 {
     if fine_points(shape, numbers, p) {
         return Enveloped::Points(p.length);
@@ -74,8 +74,8 @@ fn count(shape: Shape, numbers: &[f64], p: Parts) -> Enveloped
 // All points are judged before the first is stored.
 fn fill(shape: Shape, numbers: &[f64], p: Parts, scratch: &mut [f64]) -> Enveloped
     requires { Fitting p (length scratch.old) × Fitting p 65536 }
-    ensures value { result ≡ filledOf shape numbers.now p }
-    ensures scratch_after { scratch.new ≡ scratchFilled shape numbers.now p scratch.old }
+    ensures value { result ≡ filled_of shape numbers.now p }
+    ensures scratch_after { scratch.new ≡ scratch_filled shape numbers.now p scratch.old }
 {
     let start = p.start;
     let end = p.end;
@@ -91,7 +91,7 @@ fn fill(shape: Shape, numbers: &[f64], p: Parts, scratch: &mut [f64]) -> Envelop
 
 fn fine_points(shape: Shape, numbers: &[f64], p: Parts) -> bool
     requires { Fitting p 65536 }
-    ensures { result ≡ finePoints shape numbers.now p }
+    ensures { result ≡ fine_points shape numbers.now p }
 {
     if !finite_points(p) {
         return false;
@@ -106,7 +106,7 @@ fn fine_points(shape: Shape, numbers: &[f64], p: Parts) -> bool
 // A spline whose numbers show that no point meets 8 is not judged point by point.
 fn steps_fine(numbers: &[f64], p: Parts) -> bool
     requires { Fitting p 65536 }
-    ensures { result ≡ stepsFine numbers.now p }
+    ensures { result ≡ steps_fine numbers.now p }
 {
     if always_fine(numbers) {
         return true;
@@ -119,7 +119,7 @@ fn steps_fine(numbers: &[f64], p: Parts) -> bool
 
 fn finite_points(p: Parts) -> bool
     requires { Fitting p 65536 }
-    ensures { result ≡ finitePoints p }
+    ensures { result ≡ finite_points p }
 {
     both(
         points_finite(p.x0, p.dx, p.start),

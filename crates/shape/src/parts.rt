@@ -1,6 +1,6 @@
 // Where the parts of an envelope begin and end among the samples. The Rust's `get_envelope_cached`, without its points.
 ghost use Rattle.std.specs.Prelude.{◌≡◌};
-ghost use Rattle.shape.specs.Parts.{index_at, inOrder, broken, ordered, partedOf};
+ghost use Rattle.shape.specs.Parts.{index_at, in_order, broken, ordered, parted_of};
 
 use ieee::ceil::ceil;
 use ieee::cut::{Cut, cut_off};
@@ -24,7 +24,7 @@ pub struct Parts {
 #[derive(Drop)]
 pub enum Parted {
     Within(Parts),
-    // ShapeTooShort or EndPastRow, in this order. `partedAnswer` says what it answers.
+    // ShapeTooShort or EndPastRow, in this order. `parted_answer` says what it answers.
     Refused(Refusal),
 }
 
@@ -37,7 +37,7 @@ pub fn lay_out(
     dt: Time,
     room: usize,
 ) -> Parted
-    ensures { result ≡ partedOf width.0 plateau.0 offset rate.0 dt.0 room }
+    ensures { result ≡ parted_of width.0 plateau.0 offset rate.0 dt.0 room }
 {
     let late = offset * dt.0;
     let t1 = width.0 / 2.0 - late;
@@ -106,7 +106,7 @@ fn index(t: f64, rate: f64) -> usize
 }
 
 fn in_order(start: usize, end: usize, length: usize) -> bool
-    ensures { result ≡ inOrder start end length }
+    ensures { result ≡ in_order start end length }
 {
     if start <= end {
         return end <= length;

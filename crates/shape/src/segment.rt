@@ -1,12 +1,12 @@
 // The values of one part of an envelope. The Rust's `sample_array`.
 ghost use Rattle.std.specs.Prelude.{◌≡◌, ◌≤◌, true, map, length, replicate};
 ghost use Rattle.exact.specs.Doubles.{one};
-ghost use Rattle.rows.specs.Rows.{allFinite};
+ghost use Rattle.rows.specs.Rows.{all_finite};
 ghost use Rattle.points.specs.Points.{points};
 ghost use Rattle.pulse.specs.declared.envelope.Shape.TheVariants.{Spline};
-ghost use Rattle.spline.specs.Value.{valueIn};
-ghost use Rattle.shape.specs.Hann.{hannOf, hannWrapped};
-ghost use Rattle.shape.specs.Segment.{values, allFine, Moderate, Near, EndsNear};
+ghost use Rattle.spline.specs.Value.{value_in};
+ghost use Rattle.shape.specs.Hann.{hann_of, hann_wrapped};
+ghost use Rattle.shape.specs.Segment.{values, all_fine, Moderate, Near, EndsNear};
 
 use super::hann::{hann, hann_wrapped};
 use ieee::finite::is_finite;
@@ -20,7 +20,7 @@ use spline::value::is_fine;
 // these two are judged.
 pub(crate) fn points_finite(x: f64, dx: f64, count: usize) -> bool
     requires { count ≤ 65536 }
-    ensures { result ≡ allFinite (points count 0 x dx) }
+    ensures { result ≡ all_finite (points count 0 x dx) }
 {
     if count == 0 {
         return true;
@@ -49,7 +49,7 @@ fn is_moderate(z: f64) -> bool
 // Whether no step at the first `count` points from x on meets 8, point by point.
 pub(crate) fn all_fine(numbers: &[f64], x: f64, dx: f64, count: usize) -> bool
     requires { count ≤ 65536 }
-    ensures { result ≡ allFine Spline numbers.now (points count 0 x dx) }
+    ensures { result ≡ all_fine Spline numbers.now (points count 0 x dx) }
 {
     let mut i: usize = 0;
     while i < count {
@@ -74,7 +74,7 @@ pub(crate) fn sample(shape: Shape, numbers: &[f64], part: &mut [f64], x: f64, dx
 
 // First the points, then their values.
 fn sample_hann(part: &mut [f64], x: f64, dx: f64)
-    ensures { part.new ≡ map hannOf (points (length part.old) 0 x dx) }
+    ensures { part.new ≡ map hann_of (points (length part.old) 0 x dx) }
 {
     lay(part, x, dx);
     if ends_near(part) {
@@ -85,7 +85,7 @@ fn sample_hann(part: &mut [f64], x: f64, dx: f64)
 }
 
 fn sample_spline(numbers: &[f64], part: &mut [f64], x: f64, dx: f64)
-    ensures { part.new ≡ map (valueIn numbers.now) (points (length part.old) 0 x dx) }
+    ensures { part.new ≡ map (value_in numbers.now) (points (length part.old) 0 x dx) }
 {
     lay(part, x, dx);
     over(part, numbers);
@@ -119,7 +119,7 @@ fn is_near(z: f64) -> bool
 
 // The value at each point, where all are at most 7/8 in size. No turn of this loop waits for a test, so that several can be worked out at once.
 fn value_wrapped(part: &mut [f64])
-    ensures { part.new ≡ map hannWrapped part.old }
+    ensures { part.new ≡ map hann_wrapped part.old }
 {
     let mut i: usize = 0;
     while i < part.len() {
@@ -130,7 +130,7 @@ fn value_wrapped(part: &mut [f64])
 
 // The value at each point, wherever it is.
 fn value_each(part: &mut [f64])
-    ensures { part.new ≡ map hannOf part.old }
+    ensures { part.new ≡ map hann_of part.old }
 {
     let mut i: usize = 0;
     while i < part.len() {

@@ -9,7 +9,7 @@ use borrow.Author.Tests.{lt-ltb, le-ltb, ltb-true, ltb-false}
 use lib.Dec.{ltb, leb-suc-suc}
 use lib.ListN.{length, get_or, take, drop, length-drop}
 use lib.Seq.{length-take-le}
-use Rattle.naming.specs.Name.{same_name, isIn}
+use Rattle.naming.specs.Name.{same_name, is_in}
 use Rattle.naming.specs.declared.Name.{Name}
 use Rattle.sheet.specs.Sheet.{position}
 use Rattle.sheet.proofs.Parts.{part-cons, part_end}
@@ -28,20 +28,20 @@ module _ (n : Name) (l : List Name) (many : ℕ) (within : many ≤ length l) (i
   unfolding position
   nowhere h = rw (part_end l many within i h)
 
-in-by : (t u : Bool) (p k : ℕ) → u ≡ ltb p k → (t || u) ≡ ltb (cond t 0 (suc p)) (suc k)
-in-by true u p k e = sym (lt-ltb 0 (suc k) (zero-lt-suc k))
-in-by false u p k e = e ∙ sym (leb-suc-suc (suc p) k)
+in_by : (t u : Bool) (p k : ℕ) → u ≡ ltb p k → (t || u) ≡ ltb (cond t 0 (suc p)) (suc k)
+in_by true u p k e = sym (lt-ltb 0 (suc k) (zero-lt-suc k))
+in_by false u p k e = e ∙ sym (leb-suc-suc (suc p) k)
 
 -- a name is one of a list exactly where its place is within it
-pub is-in : (n : Name) (l : List Name) → isIn n l ≡ ltb (position n l) (length l)
-unfolding isIn position
+pub is-in : (n : Name) (l : List Name) → is_in n l ≡ ltb (position n l) (length l)
+unfolding is_in position
 is-in n [] = refl
-is-in n (m ∷ ms) = in-by (same_name m n) (isIn n ms) (position n ms) (length ms) (is-in n ms)
+is-in n (m ∷ ms) = in_by (same_name m n) (is_in n ms) (position n ms) (length ms) (is-in n ms)
 
 -- the same from a place on
-pub in-from : (n : Name) (l : List Name) (from many : ℕ) → from ≤ many → many ≤ length l
-    → ltb (from + position n (drop from (take many l))) many ≡ isIn n (drop from (take many l))
-in-from n l from many h k = by (ltb p (many - from)) refl ∙ sym (is-in n part ∙ ap (ltb p) long)
+pub in_from : (n : Name) (l : List Name) (from many : ℕ) → from ≤ many → many ≤ length l
+    → ltb (from + position n (drop from (take many l))) many ≡ is_in n (drop from (take many l))
+in_from n l from many h k = by (ltb p (many - from)) refl ∙ sym (is-in n part ∙ ap (ltb p) long)
   where
     part : List Name
     part = drop from (take many l)

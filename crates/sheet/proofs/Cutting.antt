@@ -1,4 +1,4 @@
--- A text cut at its line feeds beside `lineLength`: where the first line ends, and what reading it comes to. Assumes nothing.
+-- A text cut at its line feeds beside `line_length`: where the first line ends, and what reading it comes to. Assumes nothing.
 use Prim.Native.Nat.{ℕ, suc, ◌+◌, ◌-◌, ◌<◌}
 use mathlib.Core.Bool.{Bool, true, false, cond, and-false}
 use mathlib.Core.List.{List, [], ◌∷◌}
@@ -11,22 +11,22 @@ use lib.Dec.{eqb}
 use lib.ListN.{length, take, drop, length-drop}
 use lib.Seq.{drop-drop}
 use Rattle.lines.proofs.Lines.{line-ends-within}
-use Rattle.lines.specs.Text.{lineLength}
+use Rattle.lines.specs.Text.{line_length}
 use Rattle.quant.specs.declared.refusal.Refusal.{Refusal}
 use Rattle.quant.specs.declared.refusal.Refusal.TheVariants.{Layout}
-use Rattle.sheet.specs.Reader.{so_far, told, readText}
-use Rattle.sheet.specs.Sheet.{onto, cut, SoFar, Step, goes, stops, step, onward, complete, refuses, readFrom}
+use Rattle.sheet.specs.Reader.{so_far, told, read_text}
+use Rattle.sheet.specs.Sheet.{onto, cut, SoFar, Step, goes, stops, step, onward, complete, refuses, read_from}
 use Rattle.sheet.specs.declared.state.State.{State}
 use Rattle.sheet.specs.declared.state.Verdict.{Verdict}
 use Rattle.sheet.specs.declared.state.Verdict.TheVariants.{Good, Bad}
 
 -- no line feed: nothing but the rest
-unended : (text : List ℕ) → lineLength text ≡ length text → cut text ≡ record { whole = []; rest = text }
-unfolding cut onto lineLength
+unended : (text : List ℕ) → line_length text ≡ length text → cut text ≡ record { whole = []; rest = text }
+unfolding cut onto line_length
 unended [] e = refl
 unended (b ∷ bs) e = by (eqb b 10) refl (unended bs)
   where
-    by : (t : Bool) → eqb b 10 ≡ t → (lineLength bs ≡ length bs → cut bs ≡ record { whole = []; rest = bs })
+    by : (t : Bool) → eqb b 10 ≡ t → (line_length bs ≡ length bs → cut bs ≡ record { whole = []; rest = bs })
         → cond t (record { whole = [] ∷ (cut bs).whole; rest = (cut bs).rest }) (onto b (cut bs).whole (cut bs).rest) ≡ record { whole = []; rest = b ∷ bs }
     by true s rest = absurd (none (rw s at e))
       where
@@ -35,10 +35,10 @@ unended (b ∷ bs) e = by (eqb b 10) refl (unended bs)
     by false s rest = let k = rw s at e in rw (rest (omega arith))
 
 -- the first line, and the cut of what follows its line feed
-ended : (text : List ℕ) → lineLength text < length text
+ended : (text : List ℕ) → line_length text < length text
     → cut text
-    ≡ record { whole = take (lineLength text) text ∷ (cut (drop (suc (lineLength text)) text)).whole; rest = (cut (drop (suc (lineLength text)) text)).rest }
-unfolding cut onto lineLength
+    ≡ record { whole = take (line_length text) text ∷ (cut (drop (suc (line_length text)) text)).whole; rest = (cut (drop (suc (line_length text)) text)).rest }
+unfolding cut onto line_length
 ended [] h = absurd (none h)
   where
     none : 0 < 0 → ⊥
@@ -46,24 +46,24 @@ ended [] h = absurd (none h)
 ended (b ∷ bs) h = by (eqb b 10) refl (ended bs)
   where
     line : Bool → ℕ
-    line t = cond t 0 (suc (lineLength bs))
+    line t = cond t 0 (suc (line_length bs))
 
     by : (t : Bool) → eqb b 10 ≡ t
-        → (lineLength bs < length bs
-        → cut bs ≡ record { whole = take (lineLength bs) bs ∷ (cut (drop (suc (lineLength bs)) bs)).whole; rest = (cut (drop (suc (lineLength bs)) bs)).rest })
+        → (line_length bs < length bs
+        → cut bs ≡ record { whole = take (line_length bs) bs ∷ (cut (drop (suc (line_length bs)) bs)).whole; rest = (cut (drop (suc (line_length bs)) bs)).rest })
         → cond t (record { whole = [] ∷ (cut bs).whole; rest = (cut bs).rest }) (onto b (cut bs).whole (cut bs).rest)
         ≡ record { whole = take (line t) (b ∷ bs) ∷ (cut (drop (line t) bs)).whole; rest = (cut (drop (line t) bs)).rest }
     by true s rest = refl
     by false s rest = let k = rw s at h in rw (rest (omega arith))
 
 module _ (place : ℕ) (s : SoFar) (text : List ℕ) where
-  pub read-open : 0 < length text → lineLength text ≡ length text → readText place s text ≡ refuses Layout place
-  unfolding readFrom
-  read-open h e = rw (unended text e, ne_eqb (length text) 0 (λ k. omega arith), and-false (complete s))
+  pub read_open : 0 < length text → line_length text ≡ length text → read_text place s text ≡ refuses Layout place
+  unfolding read_from
+  read_open h e = rw (unended text e, ne_eqb (length text) 0 (λ k. omega arith), and-false (complete s))
 
-  pub read-line : lineLength text < length text
-      → readText place s text ≡ onward place (step s (take (lineLength text) text)) (λ t. readText (suc place) t (drop (suc (lineLength text)) text))
-  unfolding readFrom
+  pub read-line : line_length text < length text
+      → read_text place s text ≡ onward place (step s (take (line_length text) text)) (λ t. read_text (suc place) t (drop (suc (line_length text)) text))
+  unfolding read_from
   read-line h = rw (ended text h)
 
 -- ---- the same from a place on
@@ -72,22 +72,22 @@ module _ (place : ℕ) (s : SoFar) (text : List ℕ) (at : ℕ) (h : at < length
   some : 0 < length (drop at text)
   some = rw length-drop (omega arith)
 
-  pub open-from : length text ≡ at + lineLength (drop at text) → readText place s (drop at text) ≡ refuses Layout place
-  open-from e = read-open place s (drop at text) some (rw length-drop (omega arith))
+  pub open-from : length text ≡ at + line_length (drop at text) → read_text place s (drop at text) ≡ refuses Layout place
+  open-from e = read_open place s (drop at text) some (rw length-drop (omega arith))
 
-  pub line-from : (end : ℕ) → end ≡ at + lineLength (drop at text) → (end ≡ length text → ⊥)
-      → readText place s (drop at text) ≡ onward place (step s (take (end - at) (drop at text))) (λ t. readText (place + 1) t (drop (end + 1) text))
+  pub line-from : (end : ℕ) → end ≡ at + line_length (drop at text) → (end ≡ length text → ⊥)
+      → read_text place s (drop at text) ≡ onward place (step s (take (end - at) (drop at text))) (λ t. read_text (place + 1) t (drop (end + 1) text))
   line-from end e n =
-      let size : lineLength (drop at text) ≡ end - at = omega arith in
-      let behind : at + suc (lineLength (drop at text)) ≡ end + 1 = rw add-suc (omega arith) in
-      let within : lineLength (drop at text) < length (drop at text) =
+      let size : line_length (drop at text) ≡ end - at = omega arith in
+      let behind : at + suc (line_length (drop at text)) ≡ end + 1 = rw add-suc (omega arith) in
+      let within : line_length (drop at text) < length (drop at text) =
       rw length-drop (omega (arith, line-ends-within text at h)) in
-      let next : drop (suc (lineLength (drop at text))) (drop at text) ≡ drop (end + 1) text =
-      drop-drop (suc (lineLength (drop at text))) at text ∙ ap (λ (k : ℕ). drop k text) behind in
-      let first : readText place s (drop at text) ≡ onward place (step s (take (end - at) (drop at text))) (λ t. readText (suc place) t (drop (end + 1) text)) =
+      let next : drop (suc (line_length (drop at text))) (drop at text) ≡ drop (end + 1) text =
+      drop-drop (suc (line_length (drop at text))) at text ∙ ap (λ (k : ℕ). drop k text) behind in
+      let first : read_text place s (drop at text) ≡ onward place (step s (take (end - at) (drop at text))) (λ t. read_text (suc place) t (drop (end + 1) text)) =
       rw (next, size) at (read-line place s (drop at text) within) in
       first
-      ∙ ap (λ (k : ℕ). onward place (step s (take (end - at) (drop at text))) (λ t. readText k t (drop (end + 1) text))) (sym (add-one place))
+      ∙ ap (λ (k : ℕ). onward place (step s (take (end - at) (drop at text))) (λ t. read_text k t (drop (end + 1) text))) (sym (add-one place))
 
 -- what a verdict makes of a step
 module _ (v : Verdict) (t : State) (to : Step) (e : told v t ≡ to) where

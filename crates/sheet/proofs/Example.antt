@@ -4,18 +4,18 @@ use mathlib.Core.List.{List, [], ◌∷◌, ◌++◌}
 use mathlib.Core.Path.{◌≡◌, refl}
 use lib.Ieee.{nan, of_bits, to_bits}
 use lib.ListN.{replicate}
-use Rattle.hex.specs.Hex.{allDigits, number, digits, digitValue, digitOf}
-use Rattle.naming.specs.Name.{nameByte, every, accepted, wordOf, low_bytes, bytesOfWord, sixteen, bytes_of, named, namingOf, same_name, isIn}
+use Rattle.hexadecimal.specs.Hex.{all_digits, number, digits, digit_value, digit_of}
+use Rattle.naming.specs.Name.{name_byte, every, accepted, word_of, low_bytes, bytes_of_word, sixteen, bytes_of, named, naming_of, same_name, is_in}
 use Rattle.quant.specs.declared.refusal.Answer.TheVariants.{Done, Refused}
 use Rattle.quant.specs.declared.refusal.Refusal.TheVariants.{WrongSize, Layout}
 use Rattle.sheet.specs.Sheet as sheet
-use Rattle.sheet.specs.Sheet.{answer_of, outcome, names_of, matrixOf, sheetText, sheetOf}
+use Rattle.sheet.specs.Sheet.{answer_of, outcome, names_of, matrix_of, sheet_text, sheet_of}
 
 -- ---- the example's lines
 
 -- `channels=2`
-abbrev channels-2 : List ℕ
-channels-2 = 99 ∷ 104 ∷ 97 ∷ 110 ∷ 110 ∷ 101 ∷ 108 ∷ 115 ∷ 61 ∷ 50 ∷ 10 ∷ []
+abbrev channels_2 : List ℕ
+channels_2 = 99 ∷ 104 ∷ 97 ∷ 110 ∷ 110 ∷ 101 ∷ 108 ∷ 115 ∷ 61 ∷ 50 ∷ 10 ∷ []
 
 -- `column=q10`
 abbrev column-q10 : List ℕ
@@ -46,23 +46,23 @@ abbrev nought : List ℕ
 nought = 102 ∷ 97 ∷ 99 ∷ 116 ∷ 111 ∷ 114 ∷ 61 ∷ 48 ∷ 48 ∷ 48 ∷ 48 ∷ 48 ∷ 48 ∷ 48 ∷ 48 ∷ 48 ∷ 48 ∷ 48 ∷ 48 ∷ 48 ∷ 48 ∷ 48 ∷ 48 ∷ 10 ∷ []
 
 abbrev pub example : List ℕ
-example = channels-2 ++ column-q10 ++ column-q2 ++ row-q2 ++ tenth ++ one ++ row-q10 ++ one ++ nought
+example = channels_2 ++ column-q10 ++ column-q2 ++ row-q2 ++ tenth ++ one ++ row-q10 ++ one ++ nought
 
 -- "it prints lines 1 to 3, then 7 to 9, then 4 to 6, unchanged"
 abbrev pub printed : List ℕ
-printed = channels-2 ++ column-q10 ++ column-q2 ++ row-q10 ++ one ++ nought ++ row-q2 ++ tenth ++ one
+printed = channels_2 ++ column-q10 ++ column-q2 ++ row-q10 ++ one ++ nought ++ row-q2 ++ tenth ++ one
 
 -- what `outcome` computes with
 unfoldable reading : ℕ
-unfolding sheet.channelsKey sheet.columnKey sheet.rowKey sheet.factorKey sheet.onto sheet.cut sheet.behind sheet.nothing
-    sheet.countStep sheet.columnNamed sheet.columnStep sheet.rowNamed sheet.rowStep sheet.factorBits sheet.factorStep sheet.step sheet.complete
-    sheet.onward sheet.readFrom outcome answer_of allDigits number digitValue nameByte every accepted wordOf named namingOf same_name isIn of_bits
+unfolding sheet.channels_key sheet.column_key sheet.row_key sheet.factor_key sheet.onto sheet.cut sheet.behind sheet.nothing
+    sheet.count_step sheet.column_named sheet.column_step sheet.row_named sheet.row_step sheet.factor_bits sheet.factor_step sheet.step sheet.complete
+    sheet.onward sheet.read_from outcome answer_of all_digits number digit_value name_byte every accepted word_of named naming_of same_name is_in of_bits
 reading = 0
 
 -- what comes back and is printed, besides
 unfoldable printing : ℕ
-unfolding reading sheet.position sheet.blank sheet.eight names_of sheet.doubles sheet.under sheet.rowsFor matrixOf sheet.countText
-    sheet.columnsText sheet.factorsText sheet.blocksText sheetText sheet.patterns sheet.blocksOf sheetOf digits digitOf low_bytes bytesOfWord
+unfolding reading sheet.position sheet.blank sheet.eight names_of sheet.doubles sheet.under sheet.rows_for matrix_of sheet.count_text
+    sheet.columns_text sheet.factors_text sheet.blocks_text sheet_text sheet.patterns sheet.blocks_of sheet_of digits digit_of low_bytes bytes_of_word
     sixteen bytes_of to_bits
 printing = 0
 
@@ -70,7 +70,7 @@ pub read-example : answer_of (outcome example 64) ≡ Done 2
 unfolding reading
 read-example = refl
 
-pub print-example : sheetText (sheetOf 2 (names_of (outcome example 64)) (matrixOf (outcome example 64) (replicate 64 nan))) ≡ printed
+pub print-example : sheet_text (sheet_of 2 (names_of (outcome example 64)) (matrix_of (outcome example 64) (replicate 64 nan))) ≡ printed
 unfolding printing
 print-example = refl
 

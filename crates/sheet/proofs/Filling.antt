@@ -13,11 +13,11 @@ use lib.Ieee.{Float, binary64, of_bits}
 use lib.ListN.{length, get_or, take, drop, length-append, length-drop}
 use lib.Seq.{get_or-take, get_or-drop, length-take-le}
 use Rattle.exact.proofs.Truth.{both}
-use Rattle.naming.specs.Name.{same_name, isIn}
+use Rattle.naming.specs.Name.{same_name, is_in}
 use Rattle.naming.specs.declared.Name.{Name}
 use Rattle.sheet.specs.Puts.{pasted}
 use Rattle.sheet.specs.Reader.{so_far, Fits}
-use Rattle.sheet.specs.Sheet.{SoFar, position, among, complete, doubles, under, rowsFor}
+use Rattle.sheet.specs.Sheet.{SoFar, position, among, complete, doubles, under, rows_for}
 use Rattle.sheet.specs.declared.state.State.{State}
 use Rattle.sheet.proofs.Among.{is-in}
 use Rattle.sheet.proofs.Each.{each, same_self}
@@ -61,23 +61,23 @@ module _ (factors : List ℕ) (from count : ℕ) (within : from + count ≤ leng
 
 -- ---- each column has a row
 
-among-all : (all l : List Name) → ((x : Name) → isIn x l ≡ true → isIn x all ≡ true) → among all l ≡ true
-unfolding among isIn
+among-all : (all l : List Name) → ((x : Name) → is_in x l ≡ true → is_in x all ≡ true) → among all l ≡ true
+unfolding among is_in
 among-all all [] h = refl
-among-all all (x ∷ l) h = rw (h x (rw (same_self x)), among-all all l (λ y e. h y (or_right (same_name x y) (isIn y l) e)))
+among-all all (x ∷ l) h = rw (h x (rw (same_self x)), among-all all l (λ y e. h y (or_right (same_name x y) (is_in y l) e)))
   where
     or_right : (a b : Bool) → b ≡ true → (a || b) ≡ true
     or_right true b e = refl
     or_right false b e = e
 
-among-at : (all l : List Name) (i : ℕ) (d : Name) → among all l ≡ true → i < length l → isIn (get_or l i d) all ≡ true
+among-at : (all l : List Name) (i : ℕ) (d : Name) → among all l ≡ true → i < length l → is_in (get_or l i d) all ≡ true
 unfolding among
 among-at all [] i d e h = absurd (none h)
   where
     none : i < 0 → ⊥
     none j = omega arith
-among-at all (x ∷ l) zero d e h = (both (isIn x all) (among all l) e).0
-among-at all (x ∷ l) (suc i) d e h = among-at all l i d (both (isIn x all) (among all l) e).1 (omega arith)
+among-at all (x ∷ l) zero d e h = (both (is_in x all) (among all l) e).0
+among-at all (x ∷ l) (suc i) d e h = among-at all l i d (both (is_in x all) (among all l) e).1 (omega arith)
 
 -- a complete state, as the code that fills the matrix holds it
 abbrev pub whole : ℕ → List Name → List Name → List ℕ → SoFar
@@ -141,7 +141,7 @@ module _ (s : State) (f : Fits s) (e : complete (so_far s) ≡ true) where
 
 -- what is pasted from column c on
 abbrev pub left : ℕ → List Name → List Name → List ℕ → ℕ → List Float
-left count columns rows factors c = doubles (rowsFor (whole count columns rows factors) (drop c (take count columns)))
+left count columns rows factors c = doubles (rows_for (whole count columns rows factors) (drop c (take count columns)))
 
 -- what is known once c rows are pasted
 pub record Filled (count : ℕ) (columns rows : List Name) (factors : List ℕ) (before matrix : List Float) (c : ℕ) : Type 0 where
@@ -152,7 +152,7 @@ pub record Filled (count : ℕ) (columns rows : List Name) (factors : List ℕ) 
   pub same : pasted matrix (c * count) (left count columns rows factors c) ≡ pasted before 0 (left count columns rows factors 0)
 
 module _ (count : ℕ) (columns rows : List Name) (factors : List ℕ) (r : Ready count columns rows factors) where
-  found : (n : Name) → isIn n (take count rows) ≡ true → position n (take count rows) < count
+  found : (n : Name) → is_in n (take count rows) ≡ true → position n (take count rows) < count
   found n e =
       rw (length-take-le count rows (omega (arith, r.most, r.rows_long)))
       at (ltb-true (position n (take count rows)) (length (take count rows)) (sym (is-in n (take count rows)) ∙ e))
@@ -174,36 +174,36 @@ module _ (count : ℕ) (columns rows : List Name) (factors : List ℕ) (r : Read
       ∙ length-take-le count (drop (position n (take count rows) * count) factors)
       (rw length-drop (omega (arith, r.factors-long, r.square, row_within count (position n (take count rows)) h)))
 
-  rows_long : (ns : List Name) → among (take count rows) ns ≡ true → length (rowsFor (whole count columns rows factors) ns) ≡ length ns * count
-  unfolding among rowsFor
+  rows_long : (ns : List Name) → among (take count rows) ns ≡ true → length (rows_for (whole count columns rows factors) ns) ≡ length ns * count
+  unfolding among rows_for
   rows_long [] e = sym (zero-mul count)
   rows_long (n ∷ ns) e =
-      let parts = both (isIn n (take count rows)) (among (take count rows) ns) e in
-      length-append (under (whole count columns rows factors) n) (rowsFor (whole count columns rows factors) ns)
+      let parts = both (is_in n (take count rows)) (among (take count rows) ns) e in
+      length-append (under (whole count columns rows factors) n) (rows_for (whole count columns rows factors) ns)
       ∙ rw (under-long n (found n parts.0), rows_long ns parts.1) (omega (arith, suc-mul (length ns) count))
 
   pub all-long : length (left count columns rows factors 0) ≡ count * count
   all-long =
-      doubles-long (rowsFor (whole count columns rows factors) (take count columns))
+      doubles-long (rows_for (whole count columns rows factors) (take count columns))
       ∙ rows_long (take count columns) r.all
       ∙ ap (λ (n : ℕ). n * count) (length-take-le count columns (omega (arith, r.most, r.columns-long)))
 
   pub left-none : (c : ℕ) → count ≤ c → left count columns rows factors c ≡ []
-  unfolding rowsFor doubles
+  unfolding rows_for doubles
   left-none c h = rw (part_end columns count (omega (arith, r.most, r.columns-long)) c h)
 
   -- a turn: the matrix with one row more, and one row fewer to paste
   pub one-row : (matrix : List Float) (c : ℕ) (d : Name) → c < count → 64 ≤ length matrix
       → pasted matrix (c * count) (left count columns rows factors c)
       ≡ pasted (pasted matrix (c * count) (doubles (take count (drop (position (get_or columns c d) (take count rows) * count) factors)))) ((c + 1) * count) (left count columns rows factors (c + 1))
-  unfolding rowsFor
+  unfolding rows_for
   one-row matrix c d h m =
       let n = get_or columns c d in
       let p = column-found c d h in
       let row : List Float = doubles (take count (drop (position n (take count rows) * count) factors)) in
-      let rest : List ℕ = rowsFor (whole count columns rows factors) (drop (suc c) (take count columns)) in
+      let rest : List ℕ = rows_for (whole count columns rows factors) (drop (suc c) (take count columns)) in
       let split : left count columns rows factors c ≡ row ++ doubles rest =
-      ap (λ (l : List Name). doubles (rowsFor (whole count columns rows factors) l)) (part-cons columns count (omega (arith, r.most, r.columns-long)) c d h)
+      ap (λ (l : List Name). doubles (rows_for (whole count columns rows factors) l)) (part-cons columns count (omega (arith, r.most, r.columns-long)) c d h)
       ∙ doubles-append (under (whole count columns rows factors) n) rest
       ∙ ap (λ (l : List ℕ). doubles l ++ doubles rest) (under-is n p) in
       let size : length row ≡ count =
@@ -231,7 +231,7 @@ module _ (count : ℕ) (columns rows : List Name) (factors : List ℕ) (r : Read
         }
 
     pub filled-end : Filled count columns rows factors before matrix c → count ≤ c
-        → matrix ≡ doubles (rowsFor (whole count columns rows factors) (take count columns)) ++ drop (count * count) before
+        → matrix ≡ doubles (rows_for (whole count columns rows factors) (take count columns)) ++ drop (count * count) before
     filled-end p h =
         let size : 0 + length (left count columns rows factors 0) ≡ count * count = omega (arith, all-long) in
         sym (none-pasted matrix (c * count))

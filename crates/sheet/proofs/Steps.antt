@@ -13,15 +13,15 @@ use lib.Ieee.{binary64, of_bits}
 use lib.Ieee.Scale.{finite}
 use lib.ListN.{length, get_or, take, drop, set, replicate, length-set, length-drop, take-append-drop}
 use lib.Seq.{drop-cons, drop-length, drop-set-lt, length-take-le, take_all, take-append-add, take-suc-set}
-use Rattle.hex.specs.Hex.{allDigits, number, room, field, word_at}
-use Rattle.hex.specs.declared.Word.TheVariants as word
-use Rattle.naming.specs.Name.{namingOf, isIn}
+use Rattle.hexadecimal.specs.Hex.{all_digits, number, room, field, word_at}
+use Rattle.hexadecimal.specs.declared.Word.TheVariants as word
+use Rattle.naming.specs.Name.{naming_of, is_in}
 use Rattle.naming.specs.declared.Name.{Name}
 use Rattle.naming.specs.declared.Naming.{Naming}
 use Rattle.naming.specs.declared.Naming.TheVariants.{Named, Bad}
 use Rattle.quant.specs.declared.refusal.Refusal.TheVariants.{Layout}
 use Rattle.sheet.specs.Reader.{so_far, begun, Fits}
-use Rattle.sheet.specs.Sheet.{channelsKey, columnKey, rowKey, factorKey, behind, eight, step, complete, value, SoFar, goes, stops, countStep, columnNamed, columnStep, rowNamed, rowStep, factorBits, factorStep, blank, among}
+use Rattle.sheet.specs.Sheet.{channels_key, column_key, row_key, factor_key, behind, eight, step, complete, value, SoFar, goes, stops, count_step, column_named, column_step, row_named, row_step, factor_bits, factor_step, blank, among}
 use Rattle.sheet.specs.declared.state.State.{State}
 use Rattle.sheet.proofs.Each.{among-append, among-more, single_more}
 use Rattle.sheet.proofs.Parts.{few}
@@ -29,11 +29,11 @@ use Rattle.sheet.proofs.Parts.{few}
 -- ---- `channels=N`
 
 module _ (line : List ℕ) where
-  pub count_long : (length line ≡ 10 → ⊥) → 9 ≤ length line → countStep (value (drop 9 line)) ≡ stops Layout
-  unfolding countStep
+  pub count_long : (length line ≡ 10 → ⊥) → 9 ≤ length line → count_step (value (drop 9 line)) ≡ stops Layout
+  unfolding count_step
   count_long n h = by (drop 9 line) (λ e. n (omega (arith, length-drop 9 line)))
     where
-      by : (rest : List ℕ) → (length rest ≡ 1 → ⊥) → countStep (value rest) ≡ stops Layout
+      by : (rest : List ℕ) → (length rest ≡ 1 → ⊥) → count_step (value rest) ≡ stops Layout
       by [] k = refl
       by (d ∷ []) k = absurd (k refl)
       by (d ∷ (e ∷ es)) k = refl
@@ -42,16 +42,16 @@ module _ (line : List ℕ) where
     last : drop 9 line ≡ get_or line 9 0 ∷ []
     last = drop-cons line 9 0 (omega arith) ∙ ap (λ (l : List ℕ). get_or line 9 0 ∷ l) (ap (λ (n : ℕ). drop n line) (sym h) ∙ drop-length line)
 
-    pub count_low : get_or line 9 0 < 49 → countStep (value (drop 9 line)) ≡ stops Layout
-    unfolding countStep
+    pub count_low : get_or line 9 0 < 49 → count_step (value (drop 9 line)) ≡ stops Layout
+    unfolding count_step
     count_low k = rw last (simp (lt-leb 49 (get_or line 9 0) k))
 
-    pub count-high : 49 ≤ get_or line 9 0 → 56 < get_or line 9 0 → countStep (value (drop 9 line)) ≡ stops Layout
-    unfolding countStep
+    pub count-high : 49 ≤ get_or line 9 0 → 56 < get_or line 9 0 → count_step (value (drop 9 line)) ≡ stops Layout
+    unfolding count_step
     count-high j k = rw last (simp (le-leb 49 (get_or line 9 0) j, lt-leb (get_or line 9 0) 56 k))
 
-    pub count-digit : 49 ≤ get_or line 9 0 → get_or line 9 0 ≤ 56 → countStep (value (drop 9 line)) ≡ goes (begun (get_or line 9 0 - 48))
-    unfolding countStep
+    pub count-digit : 49 ≤ get_or line 9 0 → get_or line 9 0 ≤ 56 → count_step (value (drop 9 line)) ≡ goes (begun (get_or line 9 0 - 48))
+    unfolding count_step
     count-digit j k = rw last (simp (le-leb 49 (get_or line 9 0) j, le-leb (get_or line 9 0) 56 k))
 
 -- ---- a name more
@@ -64,8 +64,8 @@ take-replicate (suc k) zero h = absurd (none h)
     none j = omega arith
 take-replicate (suc k) (suc n) h = ap (λ (l : List Name). blank ∷ l) (take-replicate k n (omega arith))
 
-abbrev pub withColumn : State → Name → State
-withColumn s n =
+abbrev pub with_column : State → Name → State
+with_column s n =
     record {
       count = s.count;
       columns = set s.columns s.column n;
@@ -88,8 +88,8 @@ with_row s n =
       factor = s.factor;
     }
 
-abbrev pub withFactor : State → ℕ → State
-withFactor s bits =
+abbrev pub with_factor : State → ℕ → State
+with_factor s bits =
     record {
       count = s.count;
       columns = s.columns;
@@ -120,14 +120,14 @@ module _ (s : State) (f : Fits s) where
   rows_few = few (omega (arith, f)) f.most
 
   module _ (h : s.column < s.count) (n : Name) where
-    pub column-goes : isIn n (take s.column s.columns) ≡ false → columnNamed (so_far s) (Named n) ≡ goes (so_far (withColumn s n))
-    unfolding columnNamed
+    pub column-goes : is_in n (take s.column s.columns) ≡ false → column_named (so_far s) (Named n) ≡ goes (so_far (with_column s n))
+    unfolding column_named
     column-goes e = rw e (ap goes (λ i. record { count = s.count; columns = sym more i; rows = (so_far s).rows; factors = (so_far s).factors }))
       where
         more : take (s.column + 1) (set s.columns s.column n) ≡ take s.column s.columns ++ n ∷ []
         more = one_more s.columns s.column n (omega (arith, f))
 
-    pub column_fits : Fits (withColumn s n)
+    pub column_fits : Fits (with_column s n)
     column_fits =
         record {
           most = f.most;
@@ -146,11 +146,11 @@ module _ (s : State) (f : Fits s) where
     row_more : take (s.row + 1) (set s.rows s.row n) ≡ take s.row s.rows ++ n ∷ []
     row_more = one_more s.rows s.row n (omega (arith, f))
 
-    pub row_goes : isIn n (take s.row s.rows) ≡ false → isIn n (take s.column s.columns) ≡ true → rowNamed (so_far s) (Named n) ≡ goes (so_far (with_row s n))
-    unfolding rowNamed
+    pub row_goes : is_in n (take s.row s.rows) ≡ false → is_in n (take s.column s.columns) ≡ true → row_named (so_far s) (Named n) ≡ goes (so_far (with_row s n))
+    unfolding row_named
     row_goes e k = rw (e, k) (ap goes (λ i. record { count = s.count; columns = (so_far s).columns; rows = sym row_more i; factors = (so_far s).factors }))
 
-    pub row_fits : isIn n (take s.row s.rows) ≡ false → isIn n (take s.column s.columns) ≡ true → Fits (with_row s n)
+    pub row_fits : is_in n (take s.row s.rows) ≡ false → is_in n (take s.column s.columns) ≡ true → Fits (with_row s n)
     unfolding among
     row_fits e k =
         record {
@@ -167,14 +167,14 @@ module _ (s : State) (f : Fits s) where
         }
 
   module _ (h : s.factor < s.row * s.count) (bits : ℕ) where
-    pub factor-goes : finite (of_bits binary64 bits) ≡ true → factorBits (so_far s) bits ≡ goes (so_far (withFactor s bits))
-    unfolding factorBits
+    pub factor-goes : finite (of_bits binary64 bits) ≡ true → factor_bits (so_far s) bits ≡ goes (so_far (with_factor s bits))
+    unfolding factor_bits
     factor-goes e = rw e (ap goes (λ i. record { count = s.count; columns = (so_far s).columns; rows = (so_far s).rows; factors = sym more i }))
       where
         more : take (s.factor + 1) (set s.factors s.factor bits) ≡ take s.factor s.factors ++ bits ∷ []
         more = one_more s.factors s.factor bits (omega (arith, f.factors-long, rows_few))
 
-    pub factor-fits : Fits (withFactor s bits)
+    pub factor-fits : Fits (with_factor s bits)
     factor-fits =
         record {
           most = f.most;
@@ -195,19 +195,19 @@ part-long : {A : Type 0} (l : List A) (k : ℕ) → k ≤ length l → take (len
 part-long l k h = take_all (length l - k) (drop k l) (rw length-drop (le_refl (length l - k)))
 
 module _ (s : SoFar) (line : List ℕ) (m : Naming) where
-  pub column-read : behind columnKey line ≡ value (drop 7 line) → 7 ≤ length line
-      → m ≡ namingOf (take (length line - 7) (drop 7 line)) → columnStep s (behind columnKey line) ≡ columnNamed s m
-  unfolding columnStep
+  pub column-read : behind column_key line ≡ value (drop 7 line) → 7 ≤ length line
+      → m ≡ naming_of (take (length line - 7) (drop 7 line)) → column_step s (behind column_key line) ≡ column_named s m
+  unfolding column_step
   column-read e h n = rw (e, n, part-long line 7 h)
 
-  pub row_read : behind rowKey line ≡ value (drop 4 line) → 4 ≤ length line
-      → m ≡ namingOf (take (length line - 4) (drop 4 line)) → rowStep s (behind rowKey line) ≡ rowNamed s m
-  unfolding rowStep
+  pub row_read : behind row_key line ≡ value (drop 4 line) → 4 ≤ length line
+      → m ≡ naming_of (take (length line - 4) (drop 4 line)) → row_step s (behind row_key line) ≡ row_named s m
+  unfolding row_step
   row_read e h n = rw (e, n, part-long line 4 h)
 
-module _ (s : SoFar) (line : List ℕ) (e : behind factorKey line ≡ value (drop 7 line)) where
-  pub factor-short : (length line ≡ 23 → ⊥) → 7 ≤ length line → factorStep s (behind factorKey line) ≡ stops Layout
-  unfolding factorStep
+module _ (s : SoFar) (line : List ℕ) (e : behind factor_key line ≡ value (drop 7 line)) where
+  pub factor-short : (length line ≡ 23 → ⊥) → 7 ≤ length line → factor_step s (behind factor_key line) ≡ stops Layout
+  unfolding factor_step
   factor-short n h = rw (e, ne_eqb (length (drop 7 line)) 16 (λ k. n (omega (arith, length-drop 7 line))))
 
   module _ (h : length line ≡ 23) where
@@ -222,23 +222,23 @@ module _ (s : SoFar) (line : List ℕ) (e : behind factorKey line ≡ value (dro
     unfolding field
     whole-field = take_all 16 (drop 7 line) (omega (arith, sixteen-long))
 
-    told-by : (t : Bool) → allDigits (drop 7 line) ≡ t
+    told-by : (t : Bool) → all_digits (drop 7 line) ≡ t
         → (word_at line 7 ≡ cond t (word.Bits (number (drop 7 line))) word.Bad)
-        × (factorStep s (behind factorKey line) ≡ cond t (factorBits s (number (drop 7 line))) (stops Layout))
-    unfolding word_at factorStep
+        × (factor_step s (behind factor_key line) ≡ cond t (factor_bits s (number (drop 7 line))) (stops Layout))
+    unfolding word_at factor_step
     told-by t d = (rw (there-is-room, whole-field, d), rw (e, eq-eqb (length (drop 7 line)) 16 sixteen-long, d))
 
-    pub factor-read : (bits : ℕ) → word_at line 7 ≡ word.Bits bits → factorStep s (behind factorKey line) ≡ factorBits s bits
-    factor-read bits w = by (allDigits (drop 7 line)) refl
+    pub factor-read : (bits : ℕ) → word_at line 7 ≡ word.Bits bits → factor_step s (behind factor_key line) ≡ factor_bits s bits
+    factor-read bits w = by (all_digits (drop 7 line)) refl
       where
-        by : (t : Bool) → allDigits (drop 7 line) ≡ t → factorStep s (behind factorKey line) ≡ factorBits s bits
-        by true d = let b : number (drop 7 line) ≡ bits = cc (told-by true d).0 in (told-by true d).1 ∙ ap (factorBits s) b
+        by : (t : Bool) → all_digits (drop 7 line) ≡ t → factor_step s (behind factor_key line) ≡ factor_bits s bits
+        by true d = let b : number (drop 7 line) ≡ bits = cc (told-by true d).0 in (told-by true d).1 ∙ ap (factor_bits s) b
         by false d = let z : true ≡ false = cc (told-by false d).0 in absurd (true≢false z)
 
-    pub factor-bad : word_at line 7 ≡ word.Bad → factorStep s (behind factorKey line) ≡ stops Layout
-    factor-bad w = by (allDigits (drop 7 line)) refl
+    pub factor-bad : word_at line 7 ≡ word.Bad → factor_step s (behind factor_key line) ≡ stops Layout
+    factor-bad w = by (all_digits (drop 7 line)) refl
       where
-        by : (t : Bool) → allDigits (drop 7 line) ≡ t → factorStep s (behind factorKey line) ≡ stops Layout
+        by : (t : Bool) → all_digits (drop 7 line) ≡ t → factor_step s (behind factor_key line) ≡ stops Layout
         by true d = let z : true ≡ false = cc (told-by true d).0 in absurd (true≢false z)
         by false d = (told-by false d).1
 
@@ -253,17 +253,17 @@ module _ (s : State) (f : Fits s) where
   factors-read = length-take-le s.factor s.factors (omega (arith, f.factors-most, rows_few, f.factors-long))
 
   module _ (line : List ℕ) where
-    pub step_count : s.count ≡ 0 → step (so_far s) line ≡ countStep (behind channelsKey line)
+    pub step_count : s.count ≡ 0 → step (so_far s) line ≡ count_step (behind channels_key line)
     unfolding step
     step_count e = rw (eq-eqb s.count 0 e)
 
     module _ (some : s.count ≡ 0 → ⊥) where
-      pub step-column : s.column < s.count → step (so_far s) line ≡ columnStep (so_far s) (behind columnKey line)
+      pub step-column : s.column < s.count → step (so_far s) line ≡ column_step (so_far s) (behind column_key line)
       unfolding step
       step-column h = rw (ne_eqb s.count 0 some, columns-read, lt-ltb s.column s.count h)
 
       module _ (named : s.count ≤ s.column) where
-        pub step-factor : s.factor < s.row * s.count → step (so_far s) line ≡ factorStep (so_far s) (behind factorKey line)
+        pub step-factor : s.factor < s.row * s.count → step (so_far s) line ≡ factor_step (so_far s) (behind factor_key line)
         unfolding step
         step-factor h =
             rw (
@@ -276,7 +276,7 @@ module _ (s : State) (f : Fits s) where
             )
 
         module _ (full : s.row * s.count ≤ s.factor) where
-          pub step_row : s.row < s.count → step (so_far s) line ≡ rowStep (so_far s) (behind rowKey line)
+          pub step_row : s.row < s.count → step (so_far s) line ≡ row_step (so_far s) (behind row_key line)
           unfolding step
           step_row h =
               simp (

@@ -1,6 +1,6 @@
 -- The reader's state tied to what the lines so far have said, and what each of the reader's functions answers. Definitions only.
 use Rattle.std.specs.Prelude.{ℕ, ◌-◌, ◌*◌, ◌≤◌, Bool, true, false, List, [], ◌≡◌, length, take, drop, replicate}
-use Rattle.sheet.specs.Sheet.{Behind, value, other, behind, SoFar, Step, goes, stops, Outcome, accepts, refuses, cut, readFrom, complete, single, among, blank, answer_of, names_of}
+use Rattle.sheet.specs.Sheet.{Behind, value, other, behind, SoFar, Step, goes, stops, Outcome, accepts, refuses, cut, read_from, complete, single, among, blank, answer_of, names_of}
 use Rattle.sheet.specs.declared.read.Parsed.{Parsed}
 use Rattle.sheet.specs.declared.read.Reading.{Reading}
 use Rattle.sheet.specs.declared.state.State.{State}
@@ -69,8 +69,8 @@ pub record Steps (r : Stepped) (to : Step) : Type 0 where
 -- ---- a text
 
 -- the lines of a text, from the one numbered `place` on
-abbrev pub readText : ℕ → SoFar → List ℕ → Outcome
-readText place s text = readFrom place s (cut text).whole (cut text).rest
+abbrev pub read_text : ℕ → SoFar → List ℕ → Outcome
+read_text place s text = read_from place s (cut text).whole (cut text).rest
 
 -- a verdict, a line and a state as an outcome
 abbrev pub ends : Verdict → ℕ → State → Outcome

@@ -1,6 +1,6 @@
 // Names among names: the first `many` of eight.
 ghost use Rattle.std.specs.Prelude.{◌≡◌, ◌+◌, ◌≤◌, take, drop};
-ghost use Rattle.naming.specs.Name.{isIn};
+ghost use Rattle.naming.specs.Name.{is_in};
 ghost use Rattle.sheet.specs.Sheet.{blank, position};
 
 use naming::{Name, same};
@@ -34,7 +34,7 @@ pub(crate) fn place(n: Name, names: [Name; 8], from: usize, many: usize) -> usiz
 // Whether a name stands from a place on.
 pub(crate) fn stands_in(n: Name, names: [Name; 8], from: usize, many: usize) -> bool
     requires { (from ≤ many) × (many ≤ 8) }
-    ensures { result ≡ isIn n (drop from (take many names)) }
+    ensures { result ≡ is_in n (drop from (take many names)) }
 {
     place(n, names, from, many) < many
 }

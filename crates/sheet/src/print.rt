@@ -1,7 +1,7 @@
 // A sheet printed, with its rows in column order.
 ghost use Rattle.std.specs.Prelude.{[], ◌≡◌, ◌+◌, ◌*◌, ◌<◌, ◌≤◌, length, take};
-ghost use Rattle.sheet.specs.Sheet.{Print, columnsJudged, factorAt, factorsJudged, printFits};
-ghost use Rattle.sheet.specs.Puts.{twoLines, namesSize};
+ghost use Rattle.sheet.specs.Sheet.{Print, columns_judged, factor_at, factors_judged, print_fits};
+ghost use Rattle.sheet.specs.Puts.{two_lines, names_size};
 
 use super::names::stands_in;
 use super::put::put_sheet;
@@ -35,7 +35,7 @@ pub fn print(count: usize, names: [Name; 8], matrix: &[f64], out: &mut [u8]) -> 
 }
 
 fn sizes_fit(count: usize, names: [Name; 8], matrix: &[f64], room: usize) -> bool
-    ensures { result ≡ printFits count names matrix.now room }
+    ensures { result ≡ print_fits count names matrix.now room }
 {
     if count < 1 {
         return false;
@@ -52,7 +52,7 @@ fn sizes_fit(count: usize, names: [Name; 8], matrix: &[f64], room: usize) -> boo
 // The bytes of the text: 11 of the first line, 24 of each factor, and the lines of the names.
 fn needed(count: usize, names: [Name; 8]) -> usize
     requires { count ≤ 8 }
-    ensures { result ≡ 11 + 24 * (count * count) + namesSize (take count names) }
+    ensures { result ≡ 11 + 24 * (count * count) + names_size (take count names) }
 {
     let mut size = 11 + 24 * (count * count);
     let mut i: usize = 0;
@@ -64,7 +64,7 @@ fn needed(count: usize, names: [Name; 8]) -> usize
 }
 
 fn two_lines(n: Name) -> usize
-    ensures { result ≡ twoLines n }
+    ensures { result ≡ two_lines n }
 {
     if 16 < n.len {
         return 45;
@@ -75,7 +75,7 @@ fn two_lines(n: Name) -> usize
 // The first bad line among the columns'.
 fn columns_judged(names: [Name; 8], count: usize) -> Answer
     requires { count ≤ 8 }
-    ensures { result ≡ columnsJudged [] (take count names) }
+    ensures { result ≡ columns_judged [] (take count names) }
 {
     let mut k: usize = 0;
     while k < count {
@@ -94,7 +94,7 @@ fn columns_judged(names: [Name; 8], count: usize) -> Answer
 // The first bad line among the factors'.
 fn factors_judged(count: usize, numbers: &[f64]) -> Answer
     requires { (1 ≤ count) × (count ≤ 8) × (length numbers.now ≤ 64) }
-    ensures { result ≡ factorsJudged count 0 numbers.now }
+    ensures { result ≡ factors_judged count 0 numbers.now }
 {
     let mut i: usize = 0;
     while i < numbers.len() {
@@ -109,7 +109,7 @@ fn factors_judged(count: usize, numbers: &[f64]) -> Answer
 // The line of the factor at i, from 0.
 fn factor_at(count: usize, i: usize) -> usize
     requires { (1 ≤ count) × (count ≤ 8) × (i < 64) }
-    ensures { result ≡ factorAt count i }
+    ensures { result ≡ factor_at count i }
 {
     1 + count + (i / count + 1) + (i + 1)
 }

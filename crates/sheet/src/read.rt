@@ -1,7 +1,7 @@
 // A sheet read: line by line, and the matrix is written after the last one.
 ghost use Rattle.std.specs.Prelude.{◌≡◌, true, [], ◌+◌, ◌*◌, ◌≤◌, length, take, drop};
-ghost use Rattle.sheet.specs.Sheet.{Read, nothing, complete, accepts, refuses, readFrom, matrixOf, doubles};
-ghost use Rattle.sheet.specs.Reader.{so_far, Fits, readText, Parses, Answers};
+ghost use Rattle.sheet.specs.Sheet.{Read, nothing, complete, accepts, refuses, read_from, matrix_of, doubles};
+ghost use Rattle.sheet.specs.Reader.{so_far, Fits, read_text, Parses, Answers};
 ghost use Rattle.sheet.specs.Puts.{pasted};
 
 use super::names::{blank, place};
@@ -71,7 +71,7 @@ fn refused(r: Refusal, line: usize) -> Reading
 
 // The first bad line decides. A last line without its line feed is bad.
 fn lines_of(text: &[u8]) -> Parsed
-    ensures { Parses result (readText 1 nothing text.now) }
+    ensures { Parses result (read_text 1 nothing text.now) }
 {
     let mut s = fresh(0);
     let mut line: usize = 1;
@@ -96,7 +96,7 @@ fn lines_of(text: &[u8]) -> Parsed
 // Where the lines end, the sheet has to be complete.
 fn ended(s: State, line: usize) -> Parsed
     requires { Fits s }
-    ensures { Parses result (readFrom line (so_far s) [] []) }
+    ensures { Parses result (read_from line (so_far s) [] []) }
 {
     if complete(s) {
         return Parsed {
@@ -122,7 +122,7 @@ fn stopped_at(r: Refusal, line: usize) -> Parsed
 // The rows go to the matrix in column order.
 fn fill(s: State, matrix: &mut [f64])
     requires { Fits s × (complete (so_far s) ≡ true) × (64 ≤ length matrix.old) }
-    ensures { matrix.new ≡ matrixOf (accepts (so_far s)) matrix.old }
+    ensures { matrix.new ≡ matrix_of (accepts (so_far s)) matrix.old }
 {
     let columns = s.columns;
     let rows = s.rows;

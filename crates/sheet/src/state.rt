@@ -1,12 +1,12 @@
 // What the lines of a sheet have said so far, and one line more.
 ghost use Rattle.std.specs.Prelude.{◌≡◌, ◌*◌, ◌<◌, ◌≤◌};
 ghost use Rattle.naming.specs.declared.Naming.TheVariants.{Named};
-ghost use Rattle.sheet.specs.Sheet.{channelsKey, columnKey, rowKey, factorKey, behind, countStep, columnNamed, columnStep, rowNamed, rowStep, factorBits, factorStep, step, complete, stops, goes};
+ghost use Rattle.sheet.specs.Sheet.{channels_key, column_key, row_key, factor_key, behind, count_step, column_named, column_step, row_named, row_step, factor_bits, factor_step, step, complete, stops, goes};
 ghost use Rattle.sheet.specs.Reader.{so_far, Begins, Fits, Steps};
 
 use super::line::starts;
 use super::names::{blank, stands_in};
-use hex::Word;
+use hexadecimal::Word;
 use ieee::finite::is_finite;
 use lines::field::float_of;
 use naming::{Name, Naming, from_bytes};
@@ -114,7 +114,7 @@ fn went(s: State) -> Stepped
 
 // `channels=N`, one digit 1..8.
 fn count_step(line: &[u8]) -> Stepped
-    ensures { Steps result (countStep (behind channelsKey line.now)) }
+    ensures { Steps result (count_step (behind channels_key line.now)) }
 {
     if !starts(line, b"channels=") {
         return stopped(Refusal::Layout);
@@ -136,7 +136,7 @@ fn count_step(line: &[u8]) -> Stepped
 // `column=NAME`
 fn column_step(s: State, line: &[u8]) -> Stepped
     requires { Fits s × (s.column < s.count) }
-    ensures { Steps result (columnStep (so_far s) (behind columnKey line.now)) }
+    ensures { Steps result (column_step (so_far s) (behind column_key line.now)) }
 {
     if !starts(line, b"column=") {
         return stopped(Refusal::Layout);
@@ -150,7 +150,7 @@ fn column_step(s: State, line: &[u8]) -> Stepped
 // A column must not be doubled (17).
 fn with_column(s: State, n: Name) -> Stepped
     requires { Fits s × (s.column < s.count) }
-    ensures { Steps result (columnNamed (so_far s) (Named n)) }
+    ensures { Steps result (column_named (so_far s) (Named n)) }
 {
     let columns = s.columns;
     let at = s.column;
@@ -166,7 +166,7 @@ fn with_column(s: State, n: Name) -> Stepped
 // `row=NAME`
 fn row_step(s: State, line: &[u8]) -> Stepped
     requires { Fits s × (s.row < s.count) }
-    ensures { Steps result (rowStep (so_far s) (behind rowKey line.now)) }
+    ensures { Steps result (row_step (so_far s) (behind row_key line.now)) }
 {
     if !starts(line, b"row=") {
         return stopped(Refusal::Layout);
@@ -180,7 +180,7 @@ fn row_step(s: State, line: &[u8]) -> Stepped
 // A row must not be doubled (17), and must be a column (19).
 fn with_row(s: State, n: Name) -> Stepped
     requires { Fits s × (s.row < s.count) }
-    ensures { Steps result (rowNamed (so_far s) (Named n)) }
+    ensures { Steps result (row_named (so_far s) (Named n)) }
 {
     let rows = s.rows;
     let at = s.row;
@@ -200,7 +200,7 @@ fn with_row(s: State, n: Name) -> Stepped
 // `factor=` with 16 lowercase hex digits.
 fn factor_step(s: State, line: &[u8]) -> Stepped
     requires { Fits s × (s.factor < s.row * s.count) }
-    ensures { Steps result (factorStep (so_far s) (behind factorKey line.now)) }
+    ensures { Steps result (factor_step (so_far s) (behind factor_key line.now)) }
 {
     if !starts(line, b"factor=") {
         return stopped(Refusal::Layout);
@@ -208,7 +208,7 @@ fn factor_step(s: State, line: &[u8]) -> Stepped
     if line.len() != 23 {
         return stopped(Refusal::Layout);
     }
-    match hex::read(line, 7) {
+    match hexadecimal::read(line, 7) {
         Word::Bits(bits) => with_factor(s, bits),
         Word::Bad => stopped(Refusal::Layout),
     }
@@ -217,7 +217,7 @@ fn factor_step(s: State, line: &[u8]) -> Stepped
 // A factor must be finite.
 fn with_factor(s: State, bits: u64) -> Stepped
     requires { Fits s × (s.factor < s.row * s.count) }
-    ensures { Steps result (factorBits (so_far s) bits) }
+    ensures { Steps result (factor_bits (so_far s) bits) }
 {
     if !is_finite(float_of(bits)) {
         return stopped(Refusal::Malformed);

@@ -14,25 +14,25 @@ use Rattle.naming.specs.declared.Name.{Name}
 use Rattle.quant.specs.declared.refusal.Answer.TheVariants.{Done, Refused}
 use Rattle.quant.specs.declared.refusal.Refusal.{Refusal}
 use Rattle.quant.specs.declared.refusal.Refusal.TheVariants.{WrongSize}
-use Rattle.sheet.specs.Sheet.{SoFar, Outcome, accepts, refuses, outcome, answer_of, names_of, matrixOf, Read, sheetOf, sheetText, printedOf, bytesAfter, Print}
+use Rattle.sheet.specs.Sheet.{SoFar, Outcome, accepts, refuses, outcome, answer_of, names_of, matrix_of, Read, sheet_of, sheet_text, printed_of, bytes_after, Print}
 use Rattle.sheet.specs.declared.print.Printed.{Printed}
 use Rattle.sheet.specs.declared.read.Reading.{Reading}
-use Rattle.sheet_laws.specs.Words.{countIn, textPrinted, printAnswers}
+use Rattle.sheet_laws.specs.Words.{count_in, text_printed, print_answers}
 use Rattle.sheet_laws.proofs.Laws.{printed-back}
 use Rattle.sheet.specs.Puts.{Put}
-use Rattle.sheet_answer.specs.Answer.{refusedText, zeros, textFor, answerText, answerPrints, answerLeft, Answered}
+use Rattle.sheet_answer.specs.Answer.{refused_text, zeros, text_for, answer_text, answer_prints, answer_left, Answered}
 
 -- ---- with too little room
 
 pub no_room : (text before : List ℕ) → length before < 4096 → Answered text before (Printed.Refused WrongSize 0) before
-unfolding answerPrints answerLeft
+unfolding answer_prints answer_left
 no_room text before h = record { answer = rw (lt-ltb (length before) 4096 h); left = rw (lt-ltb (length before) 4096 h) }
 
 -- ---- with room
 
-pub answered : (text before bytes : List ℕ) (r : ℕ) (after : List ℕ) → 4096 ≤ length before → answerText text ≡ bytes → Put bytes before 0 r after
+pub answered : (text before bytes : List ℕ) (r : ℕ) (after : List ℕ) → 4096 ≤ length before → answer_text text ≡ bytes → Put bytes before 0 r after
     → Answered text before (Printed.Bytes r) after
-unfolding answerPrints answerLeft
+unfolding answer_prints answer_left
 answered text before bytes r after room is put =
     record {
       answer = rw (le-ltb (length before) 4096 room, is) (ap Printed.Bytes (put.next ∙ zero-add (length bytes)));
@@ -42,7 +42,7 @@ answered text before bytes r after room is put =
 -- the bytes answered are within the room, since the list keeps its length
 pub within : (text before : List ℕ) (r : Printed) (size : ℕ) (after : List ℕ) → Answered text before r after → r ≡ Printed.Bytes size
     → length after ≡ length before → size ≤ length after
-unfolding answerPrints answerLeft
+unfolding answer_prints answer_left
 within text before r size after a is same = by (ltb (length before) 4096) refl
   where
     by : (t : Bool) → ltb (length before) 4096 ≡ t → size ≤ length after
@@ -51,7 +51,7 @@ within text before r size after a is same = by (ltb (length before) 4096) refl
         let z : ◌≡◌ {A = ℕ} 0 1 = cc in
         omega arith
     by false e =
-        let bytes : List ℕ = answerText text in
+        let bytes : List ℕ = answer_text text in
         let all : r ≡ Printed.Bytes (length bytes) = a.answer ∙ rw e in
         let sizes : size ≡ length bytes = cc in
         let left : after ≡ bytes ++ drop (length bytes) before = a.left ∙ rw e in
@@ -65,47 +65,47 @@ unfolding answer_of
 accepts-is (accepts s) n e = (s, refl)
 accepts-is (refuses q k) n e = let z : ◌≡◌ {A = ℕ} 0 1 = cc in absurd (omega arith)
 
-for-sheet : (o : Outcome) (n : ℕ) (names : List Name) (matrix : List Float) → answer_of o ≡ Done n → names ≡ names_of o → matrix ≡ matrixOf o zeros
-    → textFor o ≡ sheetText (sheetOf n names matrix)
-unfolding answer_of textFor
+for-sheet : (o : Outcome) (n : ℕ) (names : List Name) (matrix : List Float) → answer_of o ≡ Done n → names ≡ names_of o → matrix ≡ matrix_of o zeros
+    → text_for o ≡ sheet_text (sheet_of n names matrix)
+unfolding answer_of text_for
 for-sheet (accepts s) n names matrix a b c = let same : s.count ≡ n = cc in rw (b, c, same)
 for-sheet (refuses q k) n names matrix a b c = let z : ◌≡◌ {A = ℕ} 0 1 = cc in absurd (omega arith)
 
-for-refusal : (o : Outcome) (r : Refusal) (line : ℕ) → answer_of o ≡ Refused r line → textFor o ≡ refusedText r line
-unfolding answer_of textFor
+for-refusal : (o : Outcome) (r : Refusal) (line : ℕ) → answer_of o ≡ Refused r line → text_for o ≡ refused_text r line
+unfolding answer_of text_for
 for-refusal (accepts s) r line e = let z : ◌≡◌ {A = ℕ} 0 1 = cc in absurd (omega arith)
 for-refusal (refuses q k) r line e = let one : q ≡ r = cc in let two : k ≡ line = cc in rw (one, two)
 
 pub sheet-is : (text : List ℕ) (answer : Reading) (after : List Float) (n : ℕ) → Read text zeros answer after → answer.answer ≡ Done n
-    → answerText text ≡ sheetText (sheetOf n answer.names after)
-unfolding answerText zeros
+    → answer_text text ≡ sheet_text (sheet_of n answer.names after)
+unfolding answer_text zeros
 sheet-is text answer after n kept told = for-sheet (outcome text 64) n answer.names after (sym kept.answered ∙ told) kept.named kept.left
 
 pub refusal_is : (text : List ℕ) (answer : Reading) (after : List Float) (r : Refusal) (line : ℕ) → Read text zeros answer after
-    → answer.answer ≡ Refused r line → answerText text ≡ refusedText r line
-unfolding answerText zeros
+    → answer.answer ≡ Refused r line → answer_text text ≡ refused_text r line
+unfolding answer_text zeros
 refusal_is text answer after r line kept told = for-refusal (outcome text 64) r line (sym kept.answered ∙ told)
 
 pub printable : (text : List ℕ) (before : List Float) (answer : Reading) (after : List Float) (n : ℕ) (bytes : List ℕ) → Read text before answer after
     → answer.answer ≡ Done n → 4096 ≤ length bytes
-    → printedOf n answer.names after (length bytes) ≡ Printed.Bytes (length (sheetText (sheetOf n answer.names after)))
-unfolding textPrinted printAnswers countIn
+    → printed_of n answer.names after (length bytes) ≡ Printed.Bytes (length (sheet_text (sheet_of n answer.names after)))
+unfolding text_printed print_answers count_in
 printable text before answer after n bytes kept told room =
     let is : answer_of (outcome text (length before)) ≡ Done n = sym kept.answered ∙ told in
     let read = accepts-is (outcome text (length before)) n is in
     let law = printed-back text before read.0 read.1 in
-    let count : n ≡ countIn (answer_of (outcome text (length before))) = sym (ap countIn is) in
+    let count : n ≡ count_in (answer_of (outcome text (length before))) = sym (ap count_in is) in
     rw (count, kept.named, kept.left) (law.answer bytes (omega (arith, law.short)))
 
 -- ---- what `print` answers and leaves where it does not refuse
 
 module _ (count : ℕ) (names : List Name) (matrix : List Float) (before : List ℕ) (r : Printed) (after : List ℕ) where
   abbrev text : List ℕ
-  text = sheetText (sheetOf count names matrix)
+  text = sheet_text (sheet_of count names matrix)
 
-  pub printed-put : (size : ℕ) → printedOf count names matrix (length before) ≡ Printed.Bytes (length text) → r ≡ Printed.Bytes size
+  pub printed-put : (size : ℕ) → printed_of count names matrix (length before) ≡ Printed.Bytes (length text) → r ≡ Printed.Bytes size
       → Print count names matrix before r after → Put text before 0 size after
-  unfolding bytesAfter
+  unfolding bytes_after
   printed-put size fits is p =
       let same : Printed.Bytes size ≡ Printed.Bytes (length text) = sym is ∙ p.answered ∙ fits in
       let sizes : size ≡ length text = cc in
@@ -113,11 +113,11 @@ module _ (count : ℕ) (names : List Name) (matrix : List Float) (before : List 
         next = sizes ∙ sym (zero-add (length text));
         left =
             p.left
-            ∙ ap (λ (x : Printed). bytesAfter count names matrix x before) fits
+            ∙ ap (λ (x : Printed). bytes_after count names matrix x before) fits
             ∙ ap (λ (n : ℕ). text ++ drop n before) (sym (zero-add (length text)));
       }
 
-  pub not-refused : (why : Refusal) (line : ℕ) → printedOf count names matrix (length before) ≡ Printed.Bytes (length text) → r ≡ Printed.Refused why line
+  pub not-refused : (why : Refusal) (line : ℕ) → printed_of count names matrix (length before) ≡ Printed.Bytes (length text) → r ≡ Printed.Refused why line
       → Print count names matrix before r after → ⊥
   not-refused why line fits is p =
       let same : Printed.Refused why line ≡ Printed.Bytes (length text) = sym is ∙ p.answered ∙ fits in

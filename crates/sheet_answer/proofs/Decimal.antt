@@ -8,28 +8,28 @@ use native.Mathlib.Omega.{arith}
 use borrow.Author.Tests.{ltb-true, ltb-false, lt-ltb, le-ltb}
 use lib.Dec.{ltb}
 use lib.ListN.{length, length-append}
-use Rattle.sheet_answer.specs.Answer.{decimalOf, decimal}
+use Rattle.sheet_answer.specs.Answer.{decimal_of, decimal}
 
 -- any count of digits that is large enough gives the same
-enough : (j k n : ℕ) → n < j → n < k → decimalOf j n ≡ decimalOf k n
-unfolding decimalOf
+enough : (j k n : ℕ) → n < j → n < k → decimal_of j n ≡ decimal_of k n
+unfolding decimal_of
 enough zero k n a b = absurd (omega arith)
 enough (suc j) zero n a b = absurd (omega arith)
 enough (suc j) (suc k) n a b = by (λ p q. enough j k (n / 10) p q) (ltb n 10) refl
   where
-    by : (n / 10 < j → n / 10 < k → decimalOf j (n / 10) ≡ decimalOf k (n / 10))
-        → (t : Bool) → ltb n 10 ≡ t → decimalOf (suc j) n ≡ decimalOf (suc k) n
+    by : (n / 10 < j → n / 10 < k → decimal_of j (n / 10) ≡ decimal_of k (n / 10))
+        → (t : Bool) → ltb n 10 ≡ t → decimal_of (suc j) n ≡ decimal_of (suc k) n
     by tenth true e = rw e
     by tenth false e =
         let large : 10 ≤ n = ltb-false n 10 e in
         rw (e, tenth (omega arith) (omega arith))
 
 pub decimal-small : (n : ℕ) → n < 10 → decimal n ≡ (48 + n) ∷ []
-unfolding decimal decimalOf
+unfolding decimal decimal_of
 decimal-small n h = rw (lt-ltb n 10 h)
 
 pub decimal-more : (n : ℕ) → 10 ≤ n → decimal n ≡ decimal (n / 10) ++ (48 + n % 10) ∷ []
-unfolding decimal decimalOf
+unfolding decimal decimal_of
 decimal-more n h = rw (le-ltb n 10 h) (ap (λ (l : List ℕ). l ++ (48 + n % 10) ∷ []) (enough n (suc (n / 10)) (n / 10) (omega arith) (omega arith)))
 
 pub more-long : (n : ℕ) → 10 ≤ n → length (decimal n) ≡ length (decimal (n / 10)) + 1
@@ -51,5 +51,5 @@ digits-most (suc k) n h = by (λ p. digits-most k (n / 10) p) (ltb n 10) refl
           tenth ((div-lt_iff_lt-mul (omega arith)).1 (subst (λ (x : ℕ). n < x) (pow-suc 10 (suc k)) h)),
         )
 
-pub at-most-twenty : (n : ℕ) → n < 2 ^ 64 → length (decimal n) ≤ 20
-at-most-twenty n h = digits-most 19 n (omega arith)
+pub at-most_twenty : (n : ℕ) → n < 2 ^ 64 → length (decimal n) ≤ 20
+at-most_twenty n h = digits-most 19 n (omega arith)

@@ -1,9 +1,9 @@
 // What a program prints for a sheet. Document 01, "The sheet".
 ghost use Rattle.std.specs.Prelude.{◌≡◌, ◌≤◌, length};
-ghost use Rattle.sheet.specs.Sheet.{printedOf, sheetOf, sheetText};
+ghost use Rattle.sheet.specs.Sheet.{printed_of, sheet_of, sheet_text};
 ghost use Rattle.sheet.specs.Puts.{Put};
 ghost use Rattle.sheet.specs.declared.print.Printed.{Printed as Sheet-as-Printed};
-ghost use Rattle.sheet_answer.specs.Answer.{Answered, refusedText};
+ghost use Rattle.sheet_answer.specs.Answer.{Answered, refused_text};
 
 use naming::Name;
 use put::{put, put_byte, put_decimal};
@@ -34,8 +34,8 @@ pub fn answer(text: &[u8], out: &mut [u8]) -> Printed
 
 // A sheet that was read, which `print` never refuses.
 fn sheet_back(count: usize, names: [Name; 8], matrix: &[f64], out: &mut [u8]) -> usize
-    requires { printedOf count names matrix.now (length out.old) ≡ Sheet-as-Printed.Bytes (length (sheetText (sheetOf count names matrix.now))) }
-    ensures { Put (sheetText (sheetOf count names matrix.now)) out.old 0 result out.new }
+    requires { printed_of count names matrix.now (length out.old) ≡ Sheet-as-Printed.Bytes (length (sheet_text (sheet_of count names matrix.now))) }
+    ensures { Put (sheet_text (sheet_of count names matrix.now)) out.old 0 result out.new }
 {
     match print(count, names, matrix, out) {
         Printed::Bytes(size) => size,
@@ -46,7 +46,7 @@ fn sheet_back(count: usize, names: [Name; 8], matrix: &[f64], out: &mut [u8]) ->
 // Two lines, in decimal.
 fn refused(r: Refusal, line: usize, out: &mut [u8]) -> usize
     requires { 4096 ≤ length out.old }
-    ensures { Put (refusedText r line) out.old 0 result out.new }
+    ensures { Put (refused_text r line) out.old 0 result out.new }
 {
     let first = put(b"refused=", out, 0);
     let feed = put_decimal(number(r), out, first);

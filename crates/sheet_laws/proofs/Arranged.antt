@@ -10,7 +10,7 @@ use lib.Ieee.{Float}
 use lib.ListN.{length}
 use Rattle.naming.specs.declared.Name.{Name}
 use Rattle.exact.proofs.Truth.{both}
-use Rattle.sheet.specs.Sheet.{SoFar, accepts, under, matrixOf, Block, Sheet, rowNames, single, among, finiteBits, fullBlocks, WellFormed}
+use Rattle.sheet.specs.Sheet.{SoFar, accepts, under, matrix_of, Block, Sheet, row_names, single, among, finite_bits, full_blocks, WellFormed}
 use Rattle.sheet_laws.specs.Words.{In, here, there, Permuted, nil, keep, swap, then, contents, InColumnOrder}
 use Rattle.sheet_laws.proofs.Factors.{wide}
 use Rattle.sheet_laws.proofs.Names.{in_is, single-first, single-rest}
@@ -25,8 +25,8 @@ ordered t (n ∷ ns) = record { row = n; factors = under t n } ∷ ordered t ns
 unfoldable pub arranged : Sheet → Sheet
 arranged s = record { columns = s.columns; blocks = ordered (contents s) s.columns }
 
-pub ordered-rows : (t : SoFar) (ns : List Name) → rowNames (ordered t ns) ≡ ns
-unfolding ordered rowNames
+pub ordered-rows : (t : SoFar) (ns : List Name) → row_names (ordered t ns) ≡ ns
+unfolding ordered row_names
 ordered-rows t [] = refl
 ordered-rows t (n ∷ ns) = ap (λ (l : List Name). n ∷ l) (ordered-rows t ns)
 
@@ -35,14 +35,14 @@ unfolding ordered
 ordered-long t [] = refl
 ordered-long t (n ∷ ns) = ap suc (ordered-long t ns)
 
-pub ordered-in : (t : SoFar) (n : Name) (ns : List Name) → In n ns → In (record { row = n; factors = under t n }) (ordered t ns)
+pub ordered_in : (t : SoFar) (n : Name) (ns : List Name) → In n ns → In (record { row = n; factors = under t n }) (ordered t ns)
 unfolding ordered
-ordered-in t n (m ∷ ms) here = here
-ordered-in t n (m ∷ ms) (there h) = there (ordered-in t n ms h)
+ordered_in t n (m ∷ ms) here = here
+ordered_in t n (m ∷ ms) (there h) = there (ordered_in t n ms h)
 
 ordered-full : (t : SoFar) (count : ℕ) (ns : List Name) → ((n : Name) → In n ns → length (under t n) ≡ count)
-    → ((n : Name) → In n ns → finiteBits (under t n) ≡ true) → fullBlocks count (ordered t ns) ≡ true
-unfolding ordered fullBlocks
+    → ((n : Name) → In n ns → finite_bits (under t n) ≡ true) → full_blocks count (ordered t ns) ≡ true
+unfolding ordered full_blocks
 ordered-full t count [] wide fine = refl
 ordered-full t count (n ∷ ns) wide fine =
     rw (eq-eqb (length (under t n)) count (wide n here), fine n here, ordered-full t count ns (λ m h. wide m (there h)) (λ m h. fine m (there h)))
@@ -52,15 +52,15 @@ unfolding among
 among-all all [] sub = refl
 among-all all (n ∷ ns) sub = rw (in_is n all (sub n here), among-all all ns (λ m h. sub m (there h)))
 
-block-fine : (count : ℕ) (b : Block) (bs : List Block) → fullBlocks count bs ≡ true → In b bs → finiteBits b.factors ≡ true
-unfolding fullBlocks
+block-fine : (count : ℕ) (b : Block) (bs : List Block) → full_blocks count bs ≡ true → In b bs → finite_bits b.factors ≡ true
+unfolding full_blocks
 block-fine count b (x ∷ xs) full here =
-    (both (eqb (length b.factors) count) (finiteBits b.factors) (both (eqb (length b.factors) count && finiteBits b.factors) (fullBlocks count xs) full).0).1
+    (both (eqb (length b.factors) count) (finite_bits b.factors) (both (eqb (length b.factors) count && finite_bits b.factors) (full_blocks count xs) full).0).1
 block-fine count b (x ∷ xs) full (there h) =
-    block-fine count b xs (both (eqb (length x.factors) count && finiteBits x.factors) (fullBlocks count xs) full).1 h
+    block-fine count b xs (both (eqb (length x.factors) count && finite_bits x.factors) (full_blocks count xs) full).1 h
 
 module _ (s : Sheet) (w : WellFormed s) where
-  pub fine : (n : Name) → In n s.columns → finiteBits (under (contents s) n) ≡ true
+  pub fine : (n : Name) → In n s.columns → finite_bits (under (contents s) n) ≡ true
   fine n h =
       let r = block-for s w n h in
       rw (← r.named, under-own s w r.block r.listed) (block-fine (length s.columns) r.block s.blocks w.full r.listed)
@@ -73,19 +73,19 @@ module _ (s : Sheet) (w : WellFormed s) where
         some = w.some;
         most = w.most;
         names = w.names;
-        singleColumns = w.singleColumns;
-        blockEach = ordered-long (contents s) s.columns;
-        singleRows = rw rows w.singleColumns;
-        rowsAreColumns = rw rows (among-all s.columns s.columns (λ n h. h));
+        single_columns = w.single_columns;
+        block_each = ordered-long (contents s) s.columns;
+        single_rows = rw rows w.single_columns;
+        rows_are_columns = rw rows (among-all s.columns s.columns (λ n h. h));
         full = ordered-full (contents s) (length s.columns) s.columns (wide s w) fine;
       }
 
   arranged-under : (n : Name) → In n s.columns → under (contents (arranged s)) n ≡ under (contents s) n
   unfolding arranged
   arranged-under n h =
-      under-own (arranged s) arranged-formed (record { row = n; factors = under (contents s) n }) (ordered-in (contents s) n s.columns h)
+      under-own (arranged s) arranged-formed (record { row = n; factors = under (contents s) n }) (ordered_in (contents s) n s.columns h)
 
-  pub arranged-matrix : (before : List Float) → matrixOf (accepts (contents (arranged s))) before ≡ matrixOf (accepts (contents s)) before
+  pub arranged-matrix : (before : List Float) → matrix_of (accepts (contents (arranged s))) before ≡ matrix_of (accepts (contents s)) before
   unfolding arranged contents
   arranged-matrix before = matrix-same (contents (arranged s)) (contents s) before refl refl arranged-under
 
@@ -112,15 +112,15 @@ without b (y ∷ ys) (there h) =
     go r x here other = here
     go r x (there k) other = there (r.others x k other)
 
-all_moved : (l m : List Block) → single (rowNames l) ≡ true → length l ≡ length m → ((x : Block) → In x l → In x m) → Permuted l m
-unfolding rowNames
+all_moved : (l m : List Block) → single (row_names l) ≡ true → length l ≡ length m → ((x : Block) → In x l → In x m) → Permuted l m
+unfolding row_names
 all_moved [] [] one long sub = nil
 all_moved [] (y ∷ ys) one long sub = absurd (omega arith)
 all_moved (b ∷ bs) m one long sub =
     let r = without b m (sub b here) in
     let rest =
-    all_moved bs r.left (single-rest b.row (rowNames bs) one) (omega (arith, r.long))
-    (λ x h. r.others x (sub x (there h)) (λ e. single-first b.row (rowNames bs) one (subst (λ (n : Name). In n (rowNames bs)) e (row_of x bs h)))) in
+    all_moved bs r.left (single-rest b.row (row_names bs) one) (omega (arith, r.long))
+    (λ x h. r.others x (sub x (there h)) (λ e. single-first b.row (row_names bs) one (subst (λ (n : Name). In n (row_names bs)) e (row_of x bs h)))) in
     then (keep rest) r.back
 
 pub in_order : (s : Sheet) → WellFormed s → InColumnOrder s (arranged s)
@@ -129,11 +129,11 @@ in_order s w =
     record {
       columns = refl;
       blocks =
-          all_moved s.blocks (ordered (contents s) s.columns) w.singleRows (w.blockEach ∙ sym (ordered-long (contents s) s.columns))
+          all_moved s.blocks (ordered (contents s) s.columns) w.single_rows (w.block_each ∙ sym (ordered-long (contents s) s.columns))
           (λ b h.
           let column = (rows_are s w b.row).0 (row_of b s.blocks h) in
           let own = under-own s w b h in
           subst (λ (fs : List ℕ). In (record { row = b.row; factors = fs }) (ordered (contents s) s.columns)) own
-          (ordered-in (contents s) b.row s.columns column));
+          (ordered_in (contents s) b.row s.columns column));
       rows = ordered-rows (contents s) s.columns;
     }

@@ -14,13 +14,13 @@ use lib.Seq.{take-append-add, take_at, drop-append-add, get_or-take, get_or-drop
 use Rattle.naming.specs.Name.{same_name}
 use Rattle.naming.specs.declared.Name.{Name}
 use Rattle.naming.proofs.Named.{same-exactly}
-use Rattle.sheet.specs.Sheet.{position, SoFar, accepts, answer_of, blank, eight, names_of, doubles, under, rowsFor, matrixOf, Sheet, single, WellFormed}
+use Rattle.sheet.specs.Sheet.{position, SoFar, accepts, answer_of, blank, eight, names_of, doubles, under, rows_for, matrix_of, Sheet, single, WellFormed}
 use Rattle.sheet.proofs.Each.{same_self}
 use Rattle.sheet.proofs.Filling.{doubles-long}
-use Rattle.sheet_laws.specs.Words.{In, here, there, contents, Reads, AtColumn, first, later, Stands, countIn, factorFor, factorRead, Entry, entries, SameUpToOrder}
+use Rattle.sheet_laws.specs.Words.{In, here, there, contents, Reads, AtColumn, first, later, Stands, count_in, factor_for, factor_read, Entry, entries, SameUpToOrder}
 use Rattle.sheet_laws.proofs.Names.{single-rest}
 use Rattle.sheet_laws.proofs.Once.{rows_are}
-use Rattle.sheet_laws.proofs.Rows.{block-for, block-wide, row_of, still-in, under-own, unlike}
+use Rattle.sheet_laws.proofs.Rows.{block-for, block-wide, row_of, still_in, under-own, unlike}
 
 -- ---- a name's place
 
@@ -49,15 +49,15 @@ place-back n ns short h = rw (eight_are ns short) (place-front n ns (take (8 - l
 
 -- ---- a number's place
 
-pub column-in : (c : Name) (bits : ℕ) (cs : List Name) (fs : List ℕ) → AtColumn c bits cs fs → In c cs
-column-in c bits (d ∷ cs) (f ∷ fs) first = here
-column-in c bits (d ∷ cs) (f ∷ fs) (later h) = there (column-in c bits cs fs h)
+pub column_in : (c : Name) (bits : ℕ) (cs : List Name) (fs : List ℕ) → AtColumn c bits cs fs → In c cs
+column_in c bits (d ∷ cs) (f ∷ fs) first = here
+column_in c bits (d ∷ cs) (f ∷ fs) (later h) = there (column_in c bits cs fs h)
 
 at_place : (c : Name) (bits : ℕ) (cs : List Name) (fs : List ℕ) → single cs ≡ true → AtColumn c bits cs fs → get_or fs (position c cs) 0 ≡ bits
 unfolding position
 at_place c bits (d ∷ cs) (f ∷ fs) one first = rw (same_self c)
 at_place c bits (d ∷ cs) (f ∷ fs) one (later h) =
-    rw (unlike d c cs one (column-in c bits cs fs h)) (at_place c bits cs fs (single-rest d cs one) h)
+    rw (unlike d c cs one (column_in c bits cs fs h)) (at_place c bits cs fs (single-rest d cs one) h)
 
 some_at : (c : Name) (cs : List Name) (fs : List ℕ) → length fs ≡ length cs → In c cs → (bits : ℕ) × AtColumn c bits cs fs
 some_at c (d ∷ cs) [] long h = absurd (omega arith)
@@ -71,31 +71,31 @@ doubles-at (f ∷ fs) zero = refl
 doubles-at (f ∷ fs) (suc i) = doubles-at fs i
 
 module _ (t : SoFar) (count : ℕ) where
-  pub rows_long : (ns : List Name) → ((n : Name) → In n ns → length (under t n) ≡ count) → length (rowsFor t ns) ≡ length ns * count
-  unfolding rowsFor
+  pub rows_long : (ns : List Name) → ((n : Name) → In n ns → length (under t n) ≡ count) → length (rows_for t ns) ≡ length ns * count
+  unfolding rows_for
   rows_long [] wide = sym (zero-mul count)
   rows_long (n ∷ ns) wide =
       rw (length-append, wide n here, rows_long ns (λ m h. wide m (there h))) (omega (arith, suc-mul (length ns) count))
 
   -- a row's numbers, by its name
   pub under_at : (r : Name) (ns : List Name) → ((n : Name) → In n ns → length (under t n) ≡ count) → In r ns
-      → take count (drop (position r ns * count) (rowsFor t ns)) ≡ under t r
-  unfolding rowsFor position
-  under_at r (n ∷ ns) wide here = rw (same_self r, zero-mul count) (take_at (under t r) (rowsFor t ns) count (wide r here))
+      → take count (drop (position r ns * count) (rows_for t ns)) ≡ under t r
+  unfolding rows_for position
+  under_at r (n ∷ ns) wide here = rw (same_self r, zero-mul count) (take_at (under t r) (rows_for t ns) count (wide r here))
   under_at r (n ∷ ns) wide (there h) = by (under_at r ns (λ m k. wide m (there k)) h) (same_name n r) refl
     where
-      by : take count (drop (position r ns * count) (rowsFor t ns)) ≡ under t r → (b : Bool) → same_name n r ≡ b
-          → take count (drop (cond b 0 (suc (position r ns)) * count) (under t n ++ rowsFor t ns)) ≡ under t r
-      by rest true same = rw (zero-mul count) (take_at (under t n) (rowsFor t ns) count (wide n here) ∙ ap (under t) ((same-exactly n r).0 same))
+      by : take count (drop (position r ns * count) (rows_for t ns)) ≡ under t r → (b : Bool) → same_name n r ≡ b
+          → take count (drop (cond b 0 (suc (position r ns)) * count) (under t n ++ rows_for t ns)) ≡ under t r
+      by rest true same = rw (zero-mul count) (take_at (under t n) (rows_for t ns) count (wide n here) ∙ ap (under t) ((same-exactly n r).0 same))
       by rest false other =
           let past : suc (position r ns) * count ≡ length (under t n) + position r ns * count = rw (wide n here) (omega (arith, suc-mul (position r ns) count)) in
-          rw (past, drop-append-add (under t n) (rowsFor t ns) (position r ns * count)) rest
+          rw (past, drop-append-add (under t n) (rows_for t ns) (position r ns * count)) rest
 
   row_at : (r : Name) (ns : List Name) (j : ℕ) → ((n : Name) → In n ns → length (under t n) ≡ count) → In r ns → j < count
-      → get_or (rowsFor t ns) (position r ns * count + j) 0 ≡ get_or (under t r) j 0
+      → get_or (rows_for t ns) (position r ns * count + j) 0 ≡ get_or (under t r) j 0
   row_at r ns j wide h below =
       let from = position r ns * count in
-      sym (get_or-take count (drop from (rowsFor t ns)) j 0 below ∙ get_or-drop from (rowsFor t ns) j 0) ∙ ap (λ (l : List ℕ). get_or l j 0) (under_at r ns wide h)
+      sym (get_or-take count (drop from (rows_for t ns)) j 0 below ∙ get_or-drop from (rows_for t ns) j 0) ∙ ap (λ (l : List ℕ). get_or l j 0) (under_at r ns wide h)
 
 -- ---- what is found
 
@@ -114,17 +114,17 @@ module _ (s : Sheet) (w : WellFormed s) where
   pub number_is : (r c : Name) (bits : ℕ) → Stands s r c bits → get_or (under (contents s) r) (position c s.columns) 0 ≡ bits
   number_is r c bits st =
       let row : under (contents s) r ≡ st.block.factors = ap (under (contents s)) (sym st.named) ∙ under-own s w st.block st.listed in
-      rw row (at_place c bits s.columns st.block.factors w.singleColumns st.at)
+      rw row (at_place c bits s.columns st.block.factors w.single_columns st.at)
 
   found : (before : List Float) (r c : Name) (bits : ℕ) → Stands s r c bits
-      → get_or (matrixOf (accepts (contents s)) before) (position r s.columns * N + position c s.columns) (of_bits binary64 0) ≡ of_bits binary64 bits
-  unfolding matrixOf contents
+      → get_or (matrix_of (accepts (contents s)) before) (position r s.columns * N + position c s.columns) (of_bits binary64 0) ≡ of_bits binary64 bits
+  unfolding matrix_of contents
   found before r c bits st =
       let j = position c s.columns in
       let i = position r s.columns * N + j in
       let left = place-below r s.columns (row_in r c bits st) in
-      let right = place-below c s.columns (column-in c bits s.columns st.block.factors st.at) in
-      let rows = rowsFor (contents s) s.columns in
+      let right = place-below c s.columns (column_in c bits s.columns st.block.factors st.at) in
+      let rows = rows_for (contents s) s.columns in
       let long : length (doubles rows) ≡ N * N = doubles-long rows ∙ rows_long (contents s) N s.columns wide in
       let number : get_or rows i 0 ≡ bits = row_at (contents s) N r s.columns j wide (row_in r c bits st) right ∙ number_is r c bits st in
       get_or-append (doubles rows) (drop (N * N) before) (of_bits binary64 0) i (rw long (digits_lt left right))
@@ -139,12 +139,12 @@ module _ (s : Sheet) (w : WellFormed s) where
       (a.0, record { block = b.block; listed = b.listed; named = b.named; at = a.1 })
 
 pub factor-stands : (text : List ℕ) (before : List Float) (s : Sheet) (r c : Name) (bits : ℕ) → Reads text (length before) s → Stands s r c bits
-    → factorRead text before r c ≡ of_bits binary64 bits
-unfolding factorRead factorFor countIn answer_of names_of contents
+    → factor_read text before r c ≡ of_bits binary64 bits
+unfolding factor_read factor_for count_in answer_of names_of contents
 factor-stands text before s r c bits read st =
     let w = read.formed in
     let most = leb-true (length s.columns) 8 w.most in
-    let column = column-in c bits s.columns st.block.factors st.at in
+    let column = column_in c bits s.columns st.block.factors st.at in
     rw (read.answered, place-back r s.columns most (row_in s w r c bits st), place-back c s.columns most column) (found s w before r c bits st)
 
 -- ---- two orders of one sheet
@@ -159,15 +159,15 @@ unfolding entries
 entry_at e (c ∷ cs) (f ∷ fs) here = first
 entry_at e (c ∷ cs) (f ∷ fs) (there h) = later (entry_at e cs fs h)
 
-pub stands-too : (s t : Sheet) → SameUpToOrder s t → (r c : Name) (bits : ℕ) → Stands s r c bits → Stands t r c bits
-stands-too s t same r c bits st =
+pub stands_too : (s t : Sheet) → SameUpToOrder s t → (r c : Name) (bits : ℕ) → Stands s r c bits → Stands t r c bits
+stands_too s t same r c bits st =
     let o = same.blocks st.block st.listed in
     let e : Entry = record { column = c; bits = bits } in
-    let moved = still-in o.sameEntries e (at_entry c bits s.columns st.block.factors st.at) in
-    record { block = o.block; listed = o.listed; named = o.sameRow ∙ st.named; at = entry_at e t.columns o.block.factors moved }
+    let moved = still_in o.same_entries e (at_entry c bits s.columns st.block.factors st.at) in
+    record { block = o.block; listed = o.listed; named = o.same_row ∙ st.named; at = entry_at e t.columns o.block.factors moved }
 
 pub any_order : (a b : List ℕ) (before after : List Float) (s t : Sheet) (r c : Name) → Reads a (length before) s → Reads b (length after) t
-    → SameUpToOrder s t → In r s.columns → In c s.columns → factorRead a before r c ≡ factorRead b after r c
+    → SameUpToOrder s t → In r s.columns → In c s.columns → factor_read a before r c ≡ factor_read b after r c
 any_order a b before after s t r c ra rb same hr hc =
     let st = stands s ra.formed r c hr hc in
-    factor-stands a before s r c st.0 ra st.1 ∙ sym (factor-stands b after t r c st.0 rb (stands-too s t same r c st.0 st.1))
+    factor-stands a before s r c st.0 ra st.1 ∙ sym (factor-stands b after t r c st.0 rb (stands_too s t same r c st.0 st.1))

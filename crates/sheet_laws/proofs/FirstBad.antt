@@ -12,14 +12,14 @@ use lib.Ieee.{binary64, of_bits}
 use lib.Ieee.Scale.{finite}
 use lib.ListN.{length}
 use Rattle.exact.proofs.Truth.{never, both}
-use Rattle.hex.specs.Hex.{allDigits, number}
-use Rattle.naming.specs.Name.{namingOf, isIn, bytes_of}
+use Rattle.hexadecimal.specs.Hex.{all_digits, number}
+use Rattle.naming.specs.Name.{naming_of, is_in, bytes_of}
 use Rattle.naming.specs.declared.Name.{Name}
 use Rattle.naming.specs.declared.Naming.{Naming}
 use Rattle.naming.specs.declared.Naming.TheVariants.{Named, Bad}
 use Rattle.quant.specs.declared.refusal.Refusal.{Refusal}
 use Rattle.quant.specs.declared.refusal.Refusal.TheVariants.{Malformed, Layout, WrongSize, DoubledName, NoList, NoColumn}
-use Rattle.sheet.specs.Sheet.{channelsKey, columnKey, rowKey, factorKey, Behind, value, other, behind, cut, SoFar, nothing, Step, goes, stops, countStep, columnNamed, columnStep, rowNamed, rowStep, factorBits, factorStep, step, complete, Outcome, accepts, refuses, onward, readFrom, outcome}
+use Rattle.sheet.specs.Sheet.{channels_key, column_key, row_key, factor_key, Behind, value, other, behind, cut, SoFar, nothing, Step, goes, stops, count_step, column_named, column_step, row_named, row_step, factor_bits, factor_step, step, complete, Outcome, accepts, refuses, onward, read_from, outcome}
 use Rattle.sheet_laws.specs.FirstBad.{AllTaken, no_line, a-line, FirstLine, FirstBad, bad-line, bad-end, ColumnDue, RowDue, NameLine, DoubledLine, doubled-column, doubled-row, NoColumnLine}
 use Rattle.sheet_laws.proofs.Backwards.{behind-is, spelled}
 use Rattle.sheet_laws.proofs.Lines.{behind-key}
@@ -43,49 +43,49 @@ module _ (s : SoFar) (line : List ℕ) where
   either true x y f g = f refl
   either false x y f g = g refl
 
-  count-judged : (v : Behind) → Judged s line (countStep v)
-  unfolding countStep
+  count-judged : (v : Behind) → Judged s line (count_step v)
+  unfolding count_step
   count-judged other = layout
   count-judged (value []) = layout
   count-judged (value (d ∷ [])) = either (leb 49 d && leb d 56) _ _ (λ _. passes) (λ _. layout)
   count-judged (value (d ∷ (e ∷ es))) = layout
 
-  factor-judged : (v : Behind) → Judged s line (factorStep s v)
-  unfolding factorStep factorBits
+  factor-judged : (v : Behind) → Judged s line (factor_step s v)
+  unfolding factor_step factor_bits
   factor-judged other = layout
   factor-judged (value text) =
-      either (eqb (length text) 16 && allDigits text) _ _ (λ _. either (finite (of_bits binary64 (number text))) _ _ (λ _. passes) (λ _. malformed)) (λ _. layout)
+      either (eqb (length text) 16 && all_digits text) _ _ (λ _. either (finite (of_bits binary64 (number text))) _ _ (λ _. passes) (λ _. malformed)) (λ _. layout)
 
-  name-line : (key bytes : List ℕ) (n : Name) → behind key line ≡ value bytes → namingOf bytes ≡ Named n → NameLine key line n
+  name-line : (key bytes : List ℕ) (n : Name) → behind key line ≡ value bytes → naming_of bytes ≡ Named n → NameLine key line n
   name-line key bytes n is naming =
       let sp = spelled bytes n naming in
       record { good = sp.ok; line-is = rw sp.bytes-are at (behind-is key line bytes is) }
 
-  column-judged : ColumnDue s → (v : Behind) → behind columnKey line ≡ v → Judged s line (columnStep s v)
-  unfolding columnStep columnNamed
+  column-judged : ColumnDue s → (v : Behind) → behind column_key line ≡ v → Judged s line (column_step s v)
+  unfolding column_step column_named
   column-judged due other is = layout
-  column-judged due (value bytes) is = by (namingOf bytes) refl
+  column-judged due (value bytes) is = by (naming_of bytes) refl
     where
-      by : (m : Naming) → namingOf bytes ≡ m → Judged s line (columnNamed s m)
+      by : (m : Naming) → naming_of bytes ≡ m → Judged s line (column_named s m)
       by Bad _ = malformed
       by (Named n) naming =
-          either (isIn n s.columns) _ _
-          (λ old. doubled (doubled-column n due (name-line columnKey bytes n is naming) (is-in n s.columns old)))
+          either (is_in n s.columns) _ _
+          (λ old. doubled (doubled-column n due (name-line column_key bytes n is naming) (is-in n s.columns old)))
           (λ _. passes)
 
-  row-judged : RowDue s → (v : Behind) → behind rowKey line ≡ v → Judged s line (rowStep s v)
-  unfolding rowStep rowNamed
+  row-judged : RowDue s → (v : Behind) → behind row_key line ≡ v → Judged s line (row_step s v)
+  unfolding row_step row_named
   row-judged due other is = layout
-  row-judged due (value bytes) is = by (namingOf bytes) refl
+  row-judged due (value bytes) is = by (naming_of bytes) refl
     where
-      by : (m : Naming) → namingOf bytes ≡ m → Judged s line (rowNamed s m)
+      by : (m : Naming) → naming_of bytes ≡ m → Judged s line (row_named s m)
       by Bad _ = malformed
       by (Named n) naming =
-          let row = name-line rowKey bytes n is naming in
-          either (isIn n s.rows) _ _
+          let row = name-line row_key bytes n is naming in
+          either (is_in n s.rows) _ _
           (λ old. doubled (doubled-row n due row (is-in n s.rows old)))
           (λ new.
-          either (isIn n s.columns) _ _
+          either (is_in n s.columns) _ _
           (λ _. passes)
           (λ none.
           columnless (record {
@@ -100,14 +100,14 @@ module _ (s : SoFar) (line : List ℕ) where
   unfolding step
   judged =
       either (eqb s.count 0) _ _
-      (λ _. count-judged (behind channelsKey line))
+      (λ _. count-judged (behind channels_key line))
       (λ begun.
       let counted : 1 ≤ s.count = omega (arith, eqb-false s.count 0 begun) in
       either (ltb (length s.columns) s.count) _ _
-      (λ short. column-judged (record { counted = counted; missing = ltb-true (length s.columns) s.count short }) (behind columnKey line) refl)
+      (λ short. column-judged (record { counted = counted; missing = ltb-true (length s.columns) s.count short }) (behind column_key line) refl)
       (λ columned.
       either (ltb (length s.factors) (length s.rows * s.count)) _ _
-      (λ _. factor-judged (behind factorKey line))
+      (λ _. factor-judged (behind factor_key line))
       (λ filled.
       either (ltb (length s.rows) s.count) _ _
       (λ short.
@@ -118,7 +118,7 @@ module _ (s : SoFar) (line : List ℕ) where
         filled = ltb-false (length s.factors) (length s.rows * s.count) filled;
         missing = ltb-true (length s.rows) s.count short;
       })
-      (behind rowKey line)
+      (behind row_key line)
       refl)
       (λ _. layout))))
 
@@ -126,21 +126,21 @@ begun : (s : SoFar) → 1 ≤ s.count → eqb s.count 0 ≡ false
 begun s some = ne_eqb s.count 0 (λ e. omega arith)
 
 -- where a row's line is due, it is judged by its name
-row_named : (s : SoFar) (line : List ℕ) (n : Name) → RowDue s → NameLine rowKey line n → step s line ≡ rowNamed s (Named n)
-unfolding step rowStep
-row_named s line n due row =
+row_named_lem : (s : SoFar) (line : List ℕ) (n : Name) → RowDue s → NameLine row_key line n → step s line ≡ row_named s (Named n)
+unfolding step row_step
+row_named_lem s line n due row =
     rw (
       row.line-is,
       begun s due.counted,
       le-ltb (length s.columns) s.count due.columned,
       le-ltb (length s.factors) (length s.rows * s.count) due.filled,
       lt-ltb (length s.rows) s.count due.missing,
-      behind-key rowKey (bytes_of n),
+      behind-key row_key (bytes_of n),
       naming-back n row.good,
     )
 
 pub doubled-exactly : (s : SoFar) (line : List ℕ) → (step s line ≡ stops DoubledName) ↔ DoubledLine s line
-unfolding step columnStep columnNamed rowNamed
+unfolding step column_step column_named row_named
 doubled-exactly s line = (λ e. out (rw e at (judged s line)), back)
   where
     out : Judged s line (stops DoubledName) → DoubledLine s line
@@ -152,14 +152,14 @@ doubled-exactly s line = (λ e. out (rw e at (judged s line)), back)
           column.line-is,
           begun s due.counted,
           lt-ltb (length s.columns) s.count due.missing,
-          behind-key columnKey (bytes_of n),
+          behind-key column_key (bytes_of n),
           naming-back n column.good,
           in_is n s.columns old,
         )
-    back (doubled-row n due row old) = row_named s line n due row ∙ rw (in_is n s.rows old)
+    back (doubled-row n due row old) = row_named_lem s line n due row ∙ rw (in_is n s.rows old)
 
 pub no-column-exactly : (s : SoFar) (line : List ℕ) → (step s line ≡ stops NoColumn) ↔ NoColumnLine s line
-unfolding rowNamed
+unfolding row_named
 no-column-exactly s line = (λ e. out (rw e at (judged s line)), back)
   where
     out : Judged s line (stops NoColumn) → NoColumnLine s line
@@ -167,7 +167,7 @@ no-column-exactly s line = (λ e. out (rw e at (judged s line)), back)
 
     back : NoColumnLine s line → step s line ≡ stops NoColumn
     back h =
-        row_named s line h.name h.due h.row
+        row_named_lem s line h.name h.due h.row
         ∙ rw (not_in h.name s.rows h.no_row, not_in h.name s.columns h.no-column)
 
 pub no-list-never : (s : SoFar) (line : List ℕ) → step s line ≡ stops NoList → ⊥
@@ -180,12 +180,12 @@ no-list-never s line e = out (rw e at (judged s line))
 
 -- behind lines that are taken the reader goes on
 onward-from : (place : ℕ) (s t : SoFar) (lines more : List (List ℕ)) (rest : List ℕ) → AllTaken s lines t
-    → readFrom place s (lines ++ more) rest ≡ readFrom (length lines + place) t more rest
-unfolding readFrom onward
-onward-from place s t [] more rest no_line = let shifted : place ≡ 0 + place = omega arith in ap (λ (p : ℕ). readFrom p s more rest) shifted
+    → read_from place s (lines ++ more) rest ≡ read_from (length lines + place) t more rest
+unfolding read_from onward
+onward-from place s t [] more rest no_line = let shifted : place ≡ 0 + place = omega arith in ap (λ (p : ℕ). read_from p s more rest) shifted
 onward-from place s t (line ∷ lines) more rest (a-line {t = u} goes_on then) =
     let shifted : length lines + suc place ≡ suc (length lines) + place = omega arith in
-    rw goes_on (onward-from (suc place) u t lines more rest then ∙ ap (λ (p : ℕ). readFrom p t more rest) shifted)
+    rw goes_on (onward-from (suc place) u t lines more rest then ∙ ap (λ (p : ℕ). read_from p t more rest) shifted)
 
 -- lines are all taken, or one is refused and all before it are taken
 data Run (s : SoFar) (lines : List (List ℕ)) : Type 0 where
@@ -211,10 +211,10 @@ refuses-alike e = (cc, cc)
 
 module _ (text : List ℕ) where
   abbrev reading : Outcome
-  reading = readFrom 1 nothing (cut text).whole (cut text).rest
+  reading = read_from 1 nothing (cut text).whole (cut text).rest
 
   line-refuses : (r : Refusal) (place : ℕ) → FirstLine (λ s line. step s line ≡ stops r) text place → reading ≡ refuses r place
-  unfolding readFrom onward
+  unfolding read_from onward
   line-refuses r place f =
       rw (f.lines, f.place_is) (onward-from 1 nothing f.said f.before (f.line ∷ f.after) (cut text).rest f.taken ∙ rw f.bad)
 
@@ -224,9 +224,9 @@ module _ (text : List ℕ) where
 
   end-decides : (s : SoFar) → AllTaken nothing (cut text).whole s
       → reading ≡ cond (ended s) (accepts s) (refuses Layout (length (cut text).whole + 1))
-  unfolding readFrom
+  unfolding read_from
   end-decides s taken =
-      ap (λ (l : List (List ℕ)). readFrom 1 nothing l (cut text).rest) (sym (append-nil (cut text).whole))
+      ap (λ (l : List (List ℕ)). read_from 1 nothing l (cut text).rest) (sym (append-nil (cut text).whole))
       ∙ onward-from 1 nothing s (cut text).whole [] (cut text).rest taken
 
   good-end : (s : SoFar) → ended s ≡ true → (complete s ≡ true) × ((cut text).rest ≡ [])
@@ -280,9 +280,9 @@ module _ (text : List ℕ) where
 -- ---- 17, 18 and 19
 
 -- a line's fault said otherwise
-said-as : {Fault Other : SoFar → List ℕ → Type 0} {text : List ℕ} {place : ℕ} → ((s : SoFar) (line : List ℕ) → Fault s line → Other s line)
+said_as : {Fault Other : SoFar → List ℕ → Type 0} {text : List ℕ} {place : ℕ} → ((s : SoFar) (line : List ℕ) → Fault s line → Other s line)
     → FirstLine Fault text place → FirstLine Other text place
-said-as otherwise f =
+said_as otherwise f =
     record {
       before = f.before;
       line = f.line;
@@ -300,10 +300,10 @@ module _ (text : List ℕ) (numbers place : ℕ) where
       → length text ≤ 4096 → 64 ≤ numbers → (outcome text numbers ≡ refuses r place) ↔ FirstLine Fault text place
   told-exactly Fault r unlike exactly short room =
       let first = first-bad-told text numbers r place short room in
-      (λ e. out (first.0 e), λ f. first.1 (bad-line (said-as (λ s line. (exactly s line).1) f)))
+      (λ e. out (first.0 e), λ f. first.1 (bad-line (said_as (λ s line. (exactly s line).1) f)))
     where
       out : FirstBad text r place → FirstLine Fault text place
-      out (bad-line f) = said-as (λ s line. (exactly s line).0) f
+      out (bad-line f) = said_as (λ s line. (exactly s line).0) f
       out (bad-end is _) = absurd (unlike is)
 
   pub doubled-told : length text ≤ 4096 → 64 ≤ numbers → (outcome text numbers ≡ refuses DoubledName place) ↔ FirstLine DoubledLine text place

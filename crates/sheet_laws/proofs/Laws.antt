@@ -1,5 +1,5 @@
 -- The six laws of the crosstalk sheet (document 01, "The sheet"). `outcome text numbers` is what `read` promises for a text and a lent
--- matrix of so many numbers: its answer, the names and the matrix afterwards are `answer_of`, `names_of` and `matrixOf` of it. A sheet as
+-- matrix of so many numbers: its answer, the names and the matrix afterwards are `answer_of`, `names_of` and `matrix_of` of it. A sheet as
 -- data is its columns and its blocks, each a row's name and its factors' bits; `Reads text numbers s` says that the text is accepted and
 -- holds the sheet s. The other words are in specs/Words.antt and specs/FirstBad.antt, and the proofs in the files named below. Assumes
 -- nothing.
@@ -13,9 +13,9 @@ use Rattle.naming.specs.declared.Name.{Name}
 use Rattle.quant.specs.declared.refusal.Refusal.{Refusal}
 use Rattle.quant.specs.declared.refusal.Refusal.TheVariants.{WrongSize, DoubledName, NoList, NoColumn}
 use Rattle.sheet.specs.declared.read.Reading.{Reading}
-use Rattle.sheet.specs.Sheet.{SoFar, stops, step, accepts, refuses, outcome, matrixOf, Read, Sheet, WellFormed, sheetText}
+use Rattle.sheet.specs.Sheet.{SoFar, stops, step, accepts, refuses, outcome, matrix_of, Read, Sheet, WellFormed, sheet_text}
 use Rattle.sheet_laws.specs.FirstBad.{FirstLine, FirstBad, DoubledLine, NoColumnLine}
-use Rattle.sheet_laws.specs.Words.{In, Permuted, contents, sheetRead, Reads, EachOnce, Stands, factorFor, factorRead, SameUpToOrder, PrintedBack}
+use Rattle.sheet_laws.specs.Words.{In, Permuted, contents, sheet_read, Reads, EachOnce, Stands, factor_for, factor_read, SameUpToOrder, PrintedBack}
 use Rattle.sheet_laws.proofs.Accepted as Accepted
 use Rattle.sheet_laws.proofs.Factors as Factors
 use Rattle.sheet_laws.proofs.FirstBad as FirstBad
@@ -26,21 +26,21 @@ use Rattle.sheet_laws.proofs.Rows as Rows
 
 -- ---- 1. What was read is printed back; what is printed reads to the same; and reading and printing that changes nothing more.
 
-pub printed-back : (text : List ℕ) (before : List Float) (t : SoFar) → outcome text (length before) ≡ accepts t → PrintedBack text before (sheetRead t)
-printed-back text before t e = Printing.printed-back text before (sheetRead t) (Only.reads text (length before) t e)
+pub printed-back : (text : List ℕ) (before : List Float) (t : SoFar) → outcome text (length before) ≡ accepts t → PrintedBack text before (sheet_read t)
+printed-back text before t e = Printing.printed-back text before (sheet_read t) (Only.reads text (length before) t e)
 
 -- ---- 2. Two accepted sheets with the same columns, whose row blocks stand in any other order, give the same matrix.
 
 pub row-order-says-nothing : (a b : List ℕ) (before : List Float) (s t : Sheet) → Reads a (length before) s → Reads b (length before) t
     → s.columns ≡ t.columns → Permuted s.blocks t.blocks
-    → matrixOf (outcome a (length before)) before ≡ matrixOf (outcome b (length before)) before
+    → matrix_of (outcome a (length before)) before ≡ matrix_of (outcome b (length before)) before
 row-order-says-nothing = Rows.same-matrix
 
 -- ---- 3. The factor found for a row's name and a column's name is the number that stands under that row at that column's place.
 
-pub factor-is-what-stands : (text : List ℕ) (before : List Float) (s : Sheet) (r c : Name) (bits : ℕ) → Reads text (length before) s → Stands s r c bits
-    → factorRead text before r c ≡ of_bits binary64 bits
-factor-is-what-stands = Factors.factor-stands
+pub factor-is_what_stands : (text : List ℕ) (before : List Float) (s : Sheet) (r c : Name) (bits : ℕ) → Reads text (length before) s → Stands s r c bits
+    → factor_read text before r c ≡ of_bits binary64 bits
+factor-is_what_stands = Factors.factor-stands
 
 -- One number stands there for every two names of the sheet, and one only.
 
@@ -56,17 +56,17 @@ no-other-stands text numbers s r c bits other read one two =
 -- So neither the order of the columns, with their factors, nor that of the rows changes the factor of any two names.
 
 pub order-says-nothing : (a b : List ℕ) (before after : List Float) (s t : Sheet) (r c : Name) → Reads a (length before) s → Reads b (length after) t
-    → SameUpToOrder s t → In r s.columns → In c s.columns → factorRead a before r c ≡ factorRead b after r c
+    → SameUpToOrder s t → In r s.columns → In c s.columns → factor_read a before r c ≡ factor_read b after r c
 order-says-nothing = Factors.any_order
 
 -- The same of a call of `read` that keeps its promise, whatever it answers and leaves.
 
-pub factor-as-promised : (text : List ℕ) (before after : List Float) (answer : Reading) (s : Sheet) (r c : Name) (bits : ℕ)
+pub factor_as_promised : (text : List ℕ) (before after : List Float) (answer : Reading) (s : Sheet) (r c : Name) (bits : ℕ)
     → Read text before answer after → Reads text (length before) s → Stands s r c bits
-    → factorFor answer.answer answer.names after r c ≡ of_bits binary64 bits
-unfolding factorRead
-factor-as-promised text before after answer s r c bits kept read st =
-    rw (kept.answered, kept.named, kept.left) (factor-is-what-stands text before s r c bits read st)
+    → factor_for answer.answer answer.names after r c ≡ of_bits binary64 bits
+unfolding factor_read
+factor_as_promised text before after answer s r c bits kept read st =
+    rw (kept.answered, kept.named, kept.left) (factor-is_what_stands text before s r c bits read st)
 
 -- ---- 4. An accepted sheet names each row and each column exactly once: no name is doubled, no row is no column, no column lacks its row.
 
@@ -75,16 +75,16 @@ each-named-once = Once.named-once
 
 -- ---- 5. Every sheet that follows the layout, with good names and finite factors, is accepted, with exactly its columns, rows and factors.
 
-pub every-sheet-is-read : (s : Sheet) (numbers : ℕ) → WellFormed s → 64 ≤ numbers → outcome (sheetText s) numbers ≡ accepts (contents s)
+pub every-sheet-is-read : (s : Sheet) (numbers : ℕ) → WellFormed s → 64 ≤ numbers → outcome (sheet_text s) numbers ≡ accepts (contents s)
 every-sheet-is-read s numbers w room = Accepted.accepted s w numbers room
 
 -- And nothing else is: an accepted text is, byte for byte, the text of such a sheet, and of one only.
 
-pub nothing-else-is-read : (text : List ℕ) (numbers : ℕ) (t : SoFar) → outcome text numbers ≡ accepts t → Reads text numbers (sheetRead t)
+pub nothing-else-is-read : (text : List ℕ) (numbers : ℕ) (t : SoFar) → outcome text numbers ≡ accepts t → Reads text numbers (sheet_read t)
 nothing-else-is-read = Only.reads
 
-pub as-one-sheet-only : (text : List ℕ) (m n : ℕ) (s t : Sheet) → Reads text m s → Reads text n t → s ≡ t
-as-one-sheet-only text m n s t a b = Only.one-sheet s t a.formed b.formed (sym a.text-is ∙ b.text-is)
+pub as_one-sheet-only : (text : List ℕ) (m n : ℕ) (s t : Sheet) → Reads text m s → Reads text n t → s ≡ t
+as_one-sheet-only text m n s t a b = Only.one-sheet s t a.formed b.formed (sym a.text-is ∙ b.text-is)
 
 -- ---- 6. A sheet's refusal tells its first bad line, and why it is bad; wrong sizes come before all lines.
 

@@ -9,9 +9,9 @@ use native.Mathlib.Omega.{arith}
 use lib.ListN.{length}
 use Rattle.exact.proofs.Truth.{never}
 use Rattle.naming.specs.declared.Name.{Name}
-use Rattle.naming.specs.Name.{isIn}
-use Rattle.sheet.specs.Sheet.{SoFar, accepts, outcome, Sheet, rowNames, single, WellFormed}
-use Rattle.sheet_laws.specs.Words.{In, here, there, contents, sheetRead, EachOnce}
+use Rattle.naming.specs.Name.{is_in}
+use Rattle.sheet.specs.Sheet.{SoFar, accepts, outcome, Sheet, row_names, single, WellFormed}
+use Rattle.sheet_laws.specs.Words.{In, here, there, contents, sheet_read, EachOnce}
 use Rattle.sheet_laws.proofs.Accepted.{row-names-long}
 use Rattle.sheet_laws.proofs.Names.{in_is, is-in, among_one, single-first, single-rest}
 use Rattle.sheet_laws.proofs.Only.{only}
@@ -44,9 +44,9 @@ few (n ∷ ns) all one sub =
     omega (arith, r.long)
 
 pub none-left-out : (ns all : List Name) → single ns ≡ true → ((m : Name) → In m ns → In m all) → length all ≤ length ns → (n : Name) → In n all → In n ns
-none-left-out ns all one sub long n h = by (isIn n ns) refl
+none-left-out ns all one sub long n h = by (is_in n ns) refl
   where
-    by : (t : Bool) → isIn n ns ≡ t → In n ns
+    by : (t : Bool) → is_in n ns ≡ t → In n ns
     by true e = is-in n ns e
     by false e =
         let r = less n all h in
@@ -54,16 +54,16 @@ none-left-out ns all one sub long n h = by (isIn n ns) refl
         absurd (omega (arith, r.long))
 
 module _ (s : Sheet) (w : WellFormed s) where
-  pub rows_are : (n : Name) → In n (rowNames s.blocks) ↔ In n s.columns
+  pub rows_are : (n : Name) → In n (row_names s.blocks) ↔ In n s.columns
   rows_are n =
-      let sub = among_one s.columns (rowNames s.blocks) w.rowsAreColumns in
+      let sub = among_one s.columns (row_names s.blocks) w.rows_are_columns in
       let long = row-names-long s.blocks in
-      let each = w.blockEach in
-      (sub n, none-left-out (rowNames s.blocks) s.columns w.singleRows sub (omega arith) n)
+      let each = w.block_each in
+      (sub n, none-left-out (row_names s.blocks) s.columns w.single_rows sub (omega arith) n)
 
   each-once : EachOnce (contents s)
   unfolding contents
-  each-once = record { columnEach = refl; rowEach = row-names-long s.blocks ∙ w.blockEach; columns = w.singleColumns; rows = w.singleRows; same = rows_are }
+  each-once = record { column_each = refl; row_each = row-names-long s.blocks ∙ w.block_each; columns = w.single_columns; rows = w.single_rows; same = rows_are }
 
 pub named-once : (text : List ℕ) (numbers : ℕ) (t : SoFar) → outcome text numbers ≡ accepts t → EachOnce t
-named-once text numbers t e = let f = only text numbers t e in subst EachOnce f.read_is (each-once (sheetRead t) f.formed)
+named-once text numbers t e = let f = only text numbers t e in subst EachOnce f.read_is (each-once (sheet_read t) f.formed)

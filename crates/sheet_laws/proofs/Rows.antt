@@ -15,16 +15,16 @@ use Rattle.naming.specs.Name.{same_name}
 use Rattle.naming.specs.declared.Name.{Name}
 use Rattle.naming.proofs.Named.{same-exactly}
 use Rattle.exact.proofs.Truth.{both}
-use Rattle.sheet.specs.Sheet.{position, SoFar, accepts, outcome, doubles, under, rowsFor, matrixOf, Block, Sheet, rowNames, single, finiteBits, fullBlocks, WellFormed}
+use Rattle.sheet.specs.Sheet.{position, SoFar, accepts, outcome, doubles, under, rows_for, matrix_of, Block, Sheet, row_names, single, finite_bits, full_blocks, WellFormed}
 use Rattle.sheet.proofs.Each.{same_self}
-use Rattle.sheet_laws.specs.Words.{In, here, there, Permuted, nil, keep, swap, then, factorsOf, contents, Reads}
+use Rattle.sheet_laws.specs.Words.{In, here, there, Permuted, nil, keep, swap, then, factors_of, contents, Reads}
 use Rattle.sheet_laws.proofs.Names.{single-first, single-rest}
 use Rattle.sheet_laws.proofs.Once.{rows_are}
 
 -- ---- rows and their blocks
 
-pub row_of : (b : Block) (bs : List Block) → In b bs → In b.row (rowNames bs)
-unfolding rowNames
+pub row_of : (b : Block) (bs : List Block) → In b bs → In b.row (row_names bs)
+unfolding row_names
 row_of b (x ∷ xs) here = here
 row_of b (x ∷ xs) (there h) = there (row_of b xs h)
 
@@ -34,8 +34,8 @@ pub record BlockOf (n : Name) (bs : List Block) : Type 0 where
   pub listed : In block bs
   pub named : block.row ≡ n
 
-pub block_of : (n : Name) (bs : List Block) → In n (rowNames bs) → BlockOf n bs
-unfolding rowNames
+pub block_of : (n : Name) (bs : List Block) → In n (row_names bs) → BlockOf n bs
+unfolding row_names
 block_of n (x ∷ xs) here = record { block = x; listed = here; named = refl }
 block_of n (x ∷ xs) (there h) = let r = block_of n xs h in record { block = r.block; listed = there r.listed; named = r.named }
 
@@ -48,31 +48,31 @@ unlike m n ns one h = by (same_name m n) refl
 
 -- ---- the factors under a row
 
-wide : (count : ℕ) (b : Block) (bs : List Block) → fullBlocks count (b ∷ bs) ≡ true → (length b.factors ≡ count) × (fullBlocks count bs ≡ true)
-unfolding fullBlocks
+wide : (count : ℕ) (b : Block) (bs : List Block) → full_blocks count (b ∷ bs) ≡ true → (length b.factors ≡ count) × (full_blocks count bs ≡ true)
+unfolding full_blocks
 wide count b bs e =
-    let outer = both (eqb (length b.factors) count && finiteBits b.factors) (fullBlocks count bs) e in
-    (eqb-true (length b.factors) count (both (eqb (length b.factors) count) (finiteBits b.factors) outer.0).0, outer.1)
+    let outer = both (eqb (length b.factors) count && finite_bits b.factors) (full_blocks count bs) e in
+    (eqb-true (length b.factors) count (both (eqb (length b.factors) count) (finite_bits b.factors) outer.0).0, outer.1)
 
-pub block-wide : (count : ℕ) (b : Block) (bs : List Block) → fullBlocks count bs ≡ true → In b bs → length b.factors ≡ count
+pub block-wide : (count : ℕ) (b : Block) (bs : List Block) → full_blocks count bs ≡ true → In b bs → length b.factors ≡ count
 block-wide count b (x ∷ xs) full here = (wide count b xs full).0
 block-wide count b (x ∷ xs) full (there h) = block-wide count b xs (wide count x xs full).1 h
 
-own : (count : ℕ) (b : Block) (bs : List Block) → fullBlocks count bs ≡ true → single (rowNames bs) ≡ true → In b bs
-    → take count (drop (position b.row (rowNames bs) * count) (factorsOf bs)) ≡ b.factors
-unfolding rowNames position factorsOf
-own count b (x ∷ xs) full one here = rw (same_self b.row, zero-mul count) (take_at b.factors (factorsOf xs) count (wide count b xs full).0)
+own : (count : ℕ) (b : Block) (bs : List Block) → full_blocks count bs ≡ true → single (row_names bs) ≡ true → In b bs
+    → take count (drop (position b.row (row_names bs) * count) (factors_of bs)) ≡ b.factors
+unfolding row_names position factors_of
+own count b (x ∷ xs) full one here = rw (same_self b.row, zero-mul count) (take_at b.factors (factors_of xs) count (wide count b xs full).0)
 own count b (x ∷ xs) full one (there h) =
     let parts = wide count x xs full in
-    let p = position b.row (rowNames xs) in
+    let p = position b.row (row_names xs) in
     let past : suc p * count ≡ length x.factors + p * count = rw parts.0 (omega (arith, suc-mul p count)) in
-    rw (unlike x.row b.row (rowNames xs) one (row_of b xs h), past, drop-append-add x.factors (factorsOf xs) (p * count))
-    (own count b xs parts.1 (single-rest x.row (rowNames xs) one) h)
+    rw (unlike x.row b.row (row_names xs) one (row_of b xs h), past, drop-append-add x.factors (factors_of xs) (p * count))
+    (own count b xs parts.1 (single-rest x.row (row_names xs) one) h)
 
 module _ (s : Sheet) (w : WellFormed s) where
   pub under-own : (b : Block) → In b s.blocks → under (contents s) b.row ≡ b.factors
   unfolding under contents
-  under-own b h = own (length s.columns) b s.blocks w.full w.singleRows h
+  under-own b h = own (length s.columns) b s.blocks w.full w.single_rows h
 
   pub block-for : (n : Name) → In n s.columns → BlockOf n s.blocks
   block-for n h = block_of n s.blocks ((rows_are s w n).1 h)
@@ -89,36 +89,36 @@ back (keep p) = keep (back p)
 back swap = swap
 back (then p q) = then (back q) (back p)
 
-pub still-in : {A : Type 0} {l m : List A} → Permuted l m → (a : A) → In a l → In a m
-still-in nil a h = h
-still-in (keep p) a here = here
-still-in (keep p) a (there h) = there (still-in p a h)
-still-in swap a here = there here
-still-in swap a (there here) = here
-still-in swap a (there (there h)) = there (there h)
-still-in (then p q) a h = still-in q a (still-in p a h)
+pub still_in : {A : Type 0} {l m : List A} → Permuted l m → (a : A) → In a l → In a m
+still_in nil a h = h
+still_in (keep p) a here = here
+still_in (keep p) a (there h) = there (still_in p a h)
+still_in swap a here = there here
+still_in swap a (there here) = here
+still_in swap a (there (there h)) = there (there h)
+still_in (then p q) a h = still_in q a (still_in p a h)
 
 -- ---- the matrix
 
-pub rows_same : (t u : SoFar) (ns : List Name) → ((n : Name) → In n ns → under t n ≡ under u n) → rowsFor t ns ≡ rowsFor u ns
-unfolding rowsFor
+pub rows_same : (t u : SoFar) (ns : List Name) → ((n : Name) → In n ns → under t n ≡ under u n) → rows_for t ns ≡ rows_for u ns
+unfolding rows_for
 rows_same t u [] same = refl
 rows_same t u (n ∷ ns) same = rw (same n here, rows_same t u ns (λ m h. same m (there h)))
 
 pub matrix-same : (t u : SoFar) (before : List Float) → t.count ≡ u.count → t.columns ≡ u.columns → ((n : Name) → In n t.columns → under t n ≡ under u n)
-    → matrixOf (accepts t) before ≡ matrixOf (accepts u) before
-unfolding matrixOf
+    → matrix_of (accepts t) before ≡ matrix_of (accepts u) before
+unfolding matrix_of
 matrix-same t u before count columns same =
-    let rows : rowsFor t t.columns ≡ rowsFor u u.columns = rows_same t u t.columns same ∙ ap (rowsFor u) columns in
+    let rows : rows_for t t.columns ≡ rows_for u u.columns = rows_same t u t.columns same ∙ ap (rows_for u) columns in
     λ i. doubles (rows i) ++ drop (count i * count i) before
 
 pub same-matrix : (a b : List ℕ) (before : List Float) (s t : Sheet) → Reads a (length before) s → Reads b (length before) t
     → s.columns ≡ t.columns → Permuted s.blocks t.blocks
-    → matrixOf (outcome a (length before)) before ≡ matrixOf (outcome b (length before)) before
+    → matrix_of (outcome a (length before)) before ≡ matrix_of (outcome b (length before)) before
 unfolding contents
 same-matrix a b before s t ra rb same moved =
     rw (ra.answered, rb.answered)
     (matrix-same (contents s) (contents t) before (ap length same) same
     (λ n h.
     let r = block-for s ra.formed n h in
-    rw (← r.named) (under-own s ra.formed r.block r.listed ∙ sym (under-own t rb.formed r.block (still-in moved r.block r.listed)))))
+    rw (← r.named) (under-own s ra.formed r.block r.listed ∙ sym (under-own t rb.formed r.block (still_in moved r.block r.listed)))))

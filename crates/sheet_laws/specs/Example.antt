@@ -7,8 +7,8 @@ use Rattle.sheet.specs.Sheet.{Sheet}
 -- ---- the lines
 
 -- `channels=2`
-unfoldable pub channels-2 : List ℕ
-channels-2 = 99 ∷ 104 ∷ 97 ∷ 110 ∷ 110 ∷ 101 ∷ 108 ∷ 115 ∷ 61 ∷ 50 ∷ 10 ∷ []
+unfoldable pub channels_2 : List ℕ
+channels_2 = 99 ∷ 104 ∷ 97 ∷ 110 ∷ 110 ∷ 101 ∷ 108 ∷ 115 ∷ 61 ∷ 50 ∷ 10 ∷ []
 
 -- `column=q10`
 unfoldable pub column-q10 : List ℕ
@@ -41,16 +41,16 @@ factor-zero = 102 ∷ 97 ∷ 99 ∷ 116 ∷ 111 ∷ 114 ∷ 61 ∷ 48 ∷ 48 ∷
 -- ---- the texts
 
 -- the example
-unfoldable pub exampleText : List ℕ
-exampleText = channels-2 ++ column-q10 ++ column-q2 ++ row-q2 ++ factor-tenth ++ factor-one ++ row-q10 ++ factor-one ++ factor-zero
+unfoldable pub example_text : List ℕ
+example_text = channels_2 ++ column-q10 ++ column-q2 ++ row-q2 ++ factor-tenth ++ factor-one ++ row-q10 ++ factor-one ++ factor-zero
 
 -- what is printed for it: "lines 1 to 3, then 7 to 9, then 4 to 6, unchanged"
-unfoldable pub printedText : List ℕ
-printedText = channels-2 ++ column-q10 ++ column-q2 ++ row-q10 ++ factor-one ++ factor-zero ++ row-q2 ++ factor-tenth ++ factor-one
+unfoldable pub printed_text : List ℕ
+printed_text = channels_2 ++ column-q10 ++ column-q2 ++ row-q10 ++ factor-one ++ factor-zero ++ row-q2 ++ factor-tenth ++ factor-one
 
 -- the same factors with q2 before q10, as another sorting would have it
-unfoldable pub sortedText : List ℕ
-sortedText = channels-2 ++ column-q2 ++ column-q10 ++ row-q2 ++ factor-one ++ factor-tenth ++ row-q10 ++ factor-zero ++ factor-one
+unfoldable pub sorted_text : List ℕ
+sorted_text = channels_2 ++ column-q2 ++ column-q10 ++ row-q2 ++ factor-one ++ factor-tenth ++ row-q10 ++ factor-zero ++ factor-one
 
 -- ---- the sheets
 

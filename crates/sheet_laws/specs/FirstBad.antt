@@ -1,10 +1,10 @@
 -- The words for what a sheet's refusal tells: its first bad line, and when that is 17 or 19. Definitions only.
 use Rattle.std.specs.Prelude.{ℕ, ◌+◌, ◌*◌, ◌≤◌, ◌<◌, ◌≡◌, true, List, [], ◌∷◌, ◌++◌, length}
-use Rattle.naming.specs.Name.{isName, bytes_of}
+use Rattle.naming.specs.Name.{is_name, bytes_of}
 use Rattle.naming.specs.declared.Name.{Name}
 use Rattle.quant.specs.declared.refusal.Refusal.{Refusal}
 use Rattle.quant.specs.declared.refusal.Refusal.TheVariants.{Layout}
-use Rattle.sheet.specs.Sheet.{columnKey, rowKey, cut, SoFar, nothing, goes, stops, step, complete}
+use Rattle.sheet.specs.Sheet.{column_key, row_key, cut, SoFar, nothing, goes, stops, step, complete}
 use Rattle.sheet_laws.specs.Words.{In}
 
 -- ---- the first bad line
@@ -53,18 +53,18 @@ pub record RowDue (s : SoFar) : Type 0 where
 
 -- a line is a key and a name
 pub record NameLine (key line : List ℕ) (n : Name) : Type 0 where
-  pub good : isName n ≡ true
+  pub good : is_name n ≡ true
   pub line-is : line ≡ key ++ bytes_of n
 
 -- a line behind what was said: a column that is one of the columns, or a row that is one of the rows
 pub data DoubledLine (s : SoFar) (line : List ℕ) : Type 0 where
-  doubled-column : (n : Name) → ColumnDue s → NameLine columnKey line n → In n s.columns → DoubledLine s line
-  doubled-row : (n : Name) → RowDue s → NameLine rowKey line n → In n s.rows → DoubledLine s line
+  doubled-column : (n : Name) → ColumnDue s → NameLine column_key line n → In n s.columns → DoubledLine s line
+  doubled-row : (n : Name) → RowDue s → NameLine row_key line n → In n s.rows → DoubledLine s line
 
 -- a line behind what was said: a row that is none of the rows, and none of the columns
 pub record NoColumnLine (s : SoFar) (line : List ℕ) : Type 0 where
   pub name : Name
   pub due : RowDue s
-  pub row : NameLine rowKey line name
+  pub row : NameLine row_key line name
   pub no_row : In name s.rows → ⊥
   pub no-column : In name s.columns → ⊥

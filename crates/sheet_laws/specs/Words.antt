@@ -4,7 +4,7 @@ use Rattle.exact.specs.Doubles.{nought}
 use Rattle.naming.specs.declared.Name.{Name}
 use Rattle.quant.specs.declared.refusal.Answer.{Answer}
 use Rattle.quant.specs.declared.refusal.Answer.TheVariants.{Done, Refused}
-use Rattle.sheet.specs.Sheet.{position, SoFar, accepts, outcome, answer_of, names_of, matrixOf, Block, Sheet, rowNames, single, WellFormed, sheetText, sheetOf, printedOf, bytesAfter}
+use Rattle.sheet.specs.Sheet.{position, SoFar, accepts, outcome, answer_of, names_of, matrix_of, Block, Sheet, row_names, single, WellFormed, sheet_text, sheet_of, printed_of, bytes_after}
 use Rattle.sheet.specs.declared.print.Printed.{Printed}
 
 -- ---- lists
@@ -24,13 +24,13 @@ pub data Permuted {A : Type 0} : List A → List A → Type 0 where
 -- ---- what is read of a sheet
 
 -- the factors of some blocks, one block after the other
-unfoldable pub factorsOf : List Block → List ℕ
-factorsOf [] = []
-factorsOf (b ∷ bs) = b.factors ++ factorsOf bs
+unfoldable pub factors_of : List Block → List ℕ
+factors_of [] = []
+factors_of (b ∷ bs) = b.factors ++ factors_of bs
 
 -- exactly the columns, rows and factors of a sheet, in the order of its lines
 unfoldable pub contents : Sheet → SoFar
-contents s = record { count = length s.columns; columns = s.columns; rows = rowNames s.blocks; factors = factorsOf s.blocks }
+contents s = record { count = length s.columns; columns = s.columns; rows = row_names s.blocks; factors = factors_of s.blocks }
 
 -- ---- the sheet that was read
 
@@ -40,20 +40,20 @@ blocks_from count [] factors = []
 blocks_from count (n ∷ ns) factors = record { row = n; factors = take count factors } ∷ blocks_from count ns (drop count factors)
 
 -- the columns, and each row with its factors, as they stood in the text
-unfoldable pub sheetRead : SoFar → Sheet
-sheetRead t = record { columns = t.columns; blocks = blocks_from t.count t.rows t.factors }
+unfoldable pub sheet_read : SoFar → Sheet
+sheet_read t = record { columns = t.columns; blocks = blocks_from t.count t.rows t.factors }
 
 -- a text is read into a matrix of so many numbers, and s is the sheet that it holds; every accepted text holds one, and one only (law 5)
 pub record Reads (text : List ℕ) (numbers : ℕ) (s : Sheet) : Type 0 where
   pub room : 64 ≤ numbers
   pub formed : WellFormed s
-  pub text-is : text ≡ sheetText s
+  pub text-is : text ≡ sheet_text s
   pub answered : outcome text numbers ≡ accepts (contents s)
 
 -- as many columns and rows as the count says, no name twice among either, and a name is a row exactly where it is a column
 pub record EachOnce (t : SoFar) : Type 0 where
-  pub columnEach : length t.columns ≡ t.count
-  pub rowEach : length t.rows ≡ t.count
+  pub column_each : length t.columns ≡ t.count
+  pub row_each : length t.rows ≡ t.count
   pub columns : single t.columns ≡ true
   pub rows : single t.rows ≡ true
   pub same : (n : Name) → In n t.rows ↔ In n t.columns
@@ -75,18 +75,18 @@ pub record Stands (s : Sheet) (r c : Name) (bits : ℕ) : Type 0 where
 -- ---- the factor of two names, in what `read` answers and leaves
 
 -- the count that comes back
-unfoldable pub countIn : Answer → ℕ
-countIn (Done n) = n
-countIn (Refused r place) = 0
+unfoldable pub count_in : Answer → ℕ
+count_in (Done n) = n
+count_in (Refused r place) = 0
 
 -- what a caller finds who looks both names up among the names that came back: the row's place times the count, plus the column's place
-unfoldable pub factorFor : Answer → List Name → List Float → Name → Name → Float
-factorFor answer names matrix r c = get_or matrix (position r names * countIn answer + position c names) nought
+unfoldable pub factor_for : Answer → List Name → List Float → Name → Name → Float
+factor_for answer names matrix r c = get_or matrix (position r names * count_in answer + position c names) nought
 
 -- what `read` answers and leaves for a text and a lent matrix, looked up so
-unfoldable pub factorRead : List ℕ → List Float → Name → Name → Float
-factorRead text before =
-    factorFor (answer_of (outcome text (length before))) (names_of (outcome text (length before))) (matrixOf (outcome text (length before)) before)
+unfoldable pub factor_read : List ℕ → List Float → Name → Name → Float
+factor_read text before =
+    factor_for (answer_of (outcome text (length before))) (names_of (outcome text (length before))) (matrix_of (outcome text (length before)) before)
 
 -- ---- one sheet in two orders
 
@@ -105,8 +105,8 @@ entries (c ∷ cs) (f ∷ fs) = record { column = c; bits = f } ∷ entries cs f
 pub record Counterpart (s t : Sheet) (b : Block) : Type 0 where
   pub block : Block
   pub listed : In block t.blocks
-  pub sameRow : block.row ≡ b.row
-  pub sameEntries : Permuted (entries s.columns b.factors) (entries t.columns block.factors)
+  pub same_row : block.row ≡ b.row
+  pub same_entries : Permuted (entries s.columns b.factors) (entries t.columns block.factors)
 
 -- two sheets that differ only in the order of their columns, with their factors, and of their rows
 pub record SameUpToOrder (s t : Sheet) : Type 0 where
@@ -116,46 +116,46 @@ pub record SameUpToOrder (s t : Sheet) : Type 0 where
 -- ---- printing what was read
 
 -- the text that `print` writes when it is handed what `read` answered and left
-unfoldable pub textPrinted : List ℕ → List Float → List ℕ
-textPrinted text before =
-    sheetText
-    (sheetOf (countIn (answer_of (outcome text (length before)))) (names_of (outcome text (length before))) (matrixOf (outcome text (length before)) before))
+unfoldable pub text_printed : List ℕ → List Float → List ℕ
+text_printed text before =
+    sheet_text
+    (sheet_of (count_in (answer_of (outcome text (length before)))) (names_of (outcome text (length before))) (matrix_of (outcome text (length before)) before))
 
 -- what `print` then answers, with so many bytes of room
-unfoldable pub printAnswers : List ℕ → List Float → ℕ → Printed
-printAnswers text before room =
-    printedOf (countIn (answer_of (outcome text (length before)))) (names_of (outcome text (length before))) (matrixOf (outcome text (length before)) before) room
+unfoldable pub print_answers : List ℕ → List Float → ℕ → Printed
+print_answers text before room =
+    printed_of (count_in (answer_of (outcome text (length before)))) (names_of (outcome text (length before))) (matrix_of (outcome text (length before)) before) room
 
 -- the bytes that `print` then leaves
-unfoldable pub printLeaves : List ℕ → List Float → List ℕ → List ℕ
-printLeaves text before bytes =
-    bytesAfter (countIn (answer_of (outcome text (length before)))) (names_of (outcome text (length before))) (matrixOf (outcome text (length before)) before)
-    (printAnswers text before (length bytes))
+unfoldable pub print_leaves : List ℕ → List Float → List ℕ → List ℕ
+print_leaves text before bytes =
+    bytes_after (count_in (answer_of (outcome text (length before)))) (names_of (outcome text (length before))) (matrix_of (outcome text (length before)) before)
+    (print_answers text before (length bytes))
     bytes
 
 -- two texts that `read` cannot tell apart: one answer, the same names, and the same left in whatever matrix is lent
 pub record ReadAlike (a b : List ℕ) : Type 0 where
   pub answer : (numbers : ℕ) → answer_of (outcome a numbers) ≡ answer_of (outcome b numbers)
   pub names : (numbers : ℕ) → names_of (outcome a numbers) ≡ names_of (outcome b numbers)
-  pub matrix : (before : List Float) → matrixOf (outcome a (length before)) before ≡ matrixOf (outcome b (length before)) before
+  pub matrix : (before : List Float) → matrix_of (outcome a (length before)) before ≡ matrix_of (outcome b (length before)) before
 
 -- p is s with its rows in column order: the same columns, the same blocks, and the rows named as the columns are
 pub record InColumnOrder (s p : Sheet) : Type 0 where
   pub columns : p.columns ≡ s.columns
   pub blocks : Permuted s.blocks p.blocks
-  pub rows : rowNames p.blocks ≡ s.columns
+  pub rows : row_names p.blocks ≡ s.columns
 
 -- the text of the sheet s was read, and what `read` answered and left was printed
 pub record PrintedBack (text : List ℕ) (before : List Float) (s : Sheet) : Type 0 where
   -- it is the text of the sheet with its rows in column order, at most 1,907 bytes
-  pub sheet : (p : Sheet) × (textPrinted text before ≡ sheetText p) × InColumnOrder s p
-  pub short : length (textPrinted text before) ≤ 1907
+  pub sheet : (p : Sheet) × (text_printed text before ≡ sheet_text p) × InColumnOrder s p
+  pub short : length (text_printed text before) ≤ 1907
   -- where there is room for it, `print` answers its length and leaves it, with the other bytes as they came
-  pub answer : (bytes : List ℕ) → length (textPrinted text before) ≤ length bytes
-      → printAnswers text before (length bytes) ≡ Printed.Bytes (length (textPrinted text before))
-  pub left : (bytes : List ℕ) → length (textPrinted text before) ≤ length bytes
-      → printLeaves text before bytes ≡ textPrinted text before ++ drop (length (textPrinted text before)) bytes
+  pub answer : (bytes : List ℕ) → length (text_printed text before) ≤ length bytes
+      → print_answers text before (length bytes) ≡ Printed.Bytes (length (text_printed text before))
+  pub left : (bytes : List ℕ) → length (text_printed text before) ≤ length bytes
+      → print_leaves text before bytes ≡ text_printed text before ++ drop (length (text_printed text before)) bytes
   -- it reads as the first text did
-  pub alike : ReadAlike (textPrinted text before) text
+  pub alike : ReadAlike (text_printed text before) text
   -- read and printed once more, into whatever matrix, it stays as it is
-  pub stays : (after : List Float) → 64 ≤ length after → textPrinted (textPrinted text before) after ≡ textPrinted text before
+  pub stays : (after : List Float) → 64 ≤ length after → text_printed (text_printed text before) after ≡ text_printed text before

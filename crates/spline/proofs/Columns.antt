@@ -1,16 +1,16 @@
 -- The six numbers of the triangle, a store at a time. Assumes nothing.
 use Rattle.std.proofs.Common.{◌≡◌, ℕ, suc, ◌+◌, ◌-◌, ◌<◌, ◌≤◌, List, length, get_or, set, ◌∙◌, ⊎_elim, eq-or-lt_of_le, add-one, arith, length-set, get_or-set_other, get_or-set_same, below_more}
 use lib.Ieee.{Float, nan}
-use Rattle.spline.specs.Spline.{controlAt, knotAt, blend_of, dAt}
+use Rattle.spline.specs.Spline.{control_at, knot_at, blend_of, d_at}
 use Rattle.spline.specs.Walk.{Column, Within}
 
 -- the first j controls of the span are loaded
 pub record Loaded (row : List Float) (p k : ℕ) (d : List Float) (j : ℕ) : Type 0 where
   pub within : j ≤ p + 1
   pub six : length d ≡ 6
-  pub at : (m : ℕ) → m < j → get_or d m nan ≡ controlAt row (m + k - p)
+  pub at : (m : ℕ) → m < j → get_or d m nan ≡ control_at row (m + k - p)
 
-pub loaded-more : (row : List Float) (p k : ℕ) (d : List Float) (j : ℕ) (v : Float) → p ≤ 5 → j ≤ p → v ≡ controlAt row (j + k - p)
+pub loaded-more : (row : List Float) (p k : ℕ) (d : List Float) (j : ℕ) (v : Float) → p ≤ 5 → j ≤ p → v ≡ control_at row (j + k - p)
     → Loaded row p k d j → Loaded row p k (set d j v) (j + 1)
 loaded-more row p k d j v h g e i =
     record {
@@ -20,7 +20,7 @@ loaded-more row p k d j v h g e i =
     }
 
 pub loaded-all : (row : List Float) (p k : ℕ) (x : Float) (d : List Float) (j : ℕ) → p < j → Loaded row p k d j → Column row p k x 0 d
-unfolding dAt
+unfolding d_at
 loaded-all row p k x d j h i = record { six = i.six; at = λ m _ l. i.at m (omega arith) }
 
 -- from column r to the next, those above j are done
@@ -28,8 +28,8 @@ pub record Turned (row : List Float) (p k : ℕ) (x : Float) (r : ℕ) (d : List
   pub from : r ≤ j
   pub to : j ≤ p
   pub six : length d ≡ 6
-  pub done : (m : ℕ) → j < m → m ≤ p → get_or d m nan ≡ dAt row p k x (suc r) m
-  pub left : (m : ℕ) → r ≤ m → m ≤ j → get_or d m nan ≡ dAt row p k x r m
+  pub done : (m : ℕ) → j < m → m ≤ p → get_or d m nan ≡ d_at row p k x (suc r) m
+  pub left : (m : ℕ) → r ≤ m → m ≤ j → get_or d m nan ≡ d_at row p k x r m
 
 pub turned-start : (row : List Float) (p k : ℕ) (x : Float) (r : ℕ) (d : List Float) → r < p → Column row p k x r d → Turned row p k x r d p
 turned-start row p k x r d h c = record { from = omega arith; to = omega arith; six = c.six; done = λ m a b. absurd (omega arith); left = c.at }
@@ -42,17 +42,17 @@ module _ (row : List Float) (p k : ℕ) (x : Float) (r : ℕ) (d : List Float) (
   at_least : (m : ℕ) → j - 1 < m → j ≤ m
   at_least m l = omega arith
 
-  node : (lo hi v : Float) → lo ≡ knotAt row (j + k - p) → hi ≡ knotAt row (j + k - r) → v ≡ blend_of x lo hi (get_or d (j - 1) nan) (get_or d j nan)
-      → v ≡ dAt row p k x (suc r) j
-  unfolding dAt
+  node : (lo hi v : Float) → lo ≡ knot_at row (j + k - p) → hi ≡ knot_at row (j + k - r) → v ≡ blend_of x lo hi (get_or d (j - 1) nan) (get_or d j nan)
+      → v ≡ d_at row p k x (suc r) j
+  unfolding d_at
   node lo hi v a b e =
       let place : j + k - r ≡ j + 1 + k - suc r = omega arith in
       e ∙ rw (a, b, place, i.left (j - 1) (omega arith) (omega arith), i.left j (omega arith) (omega arith))
 
-  stored : (v : Float) → v ≡ dAt row p k x (suc r) j → (m : ℕ) → j ≡ m → get_or (set d j v) m nan ≡ dAt row p k x (suc r) m
+  stored : (v : Float) → v ≡ d_at row p k x (suc r) j → (m : ℕ) → j ≡ m → get_or (set d j v) m nan ≡ d_at row p k x (suc r) m
   stored v e m q = rw (← q) (get_or-set_same d j v nan (omega (arith, i.six, i.to, w.degree)) ∙ e)
 
-  pub turned_more : (lo hi v : Float) → lo ≡ knotAt row (j + k - p) → hi ≡ knotAt row (j + k - r)
+  pub turned_more : (lo hi v : Float) → lo ≡ knot_at row (j + k - p) → hi ≡ knot_at row (j + k - r)
       → v ≡ blend_of x lo hi (get_or d (j - 1) nan) (get_or d j nan) → Turned row p k x r (set d j v) (j - 1)
   turned_more lo hi v a b e =
       record {

@@ -4,23 +4,23 @@ use Rattle.std.proofs.Common.{◌≡◌, ℕ, zero, suc, ◌+◌, ◌-◌, ◌<�
 use borrow.Author.Tests.{not-true}
 use lib.Ieee.{Float, nan, binary64, fits, lt, eq}
 use Rattle.exact.proofs.Truth.{both}
-use Rattle.spline.specs.Spline.{notFalling, countsFit, isSpline, knotAt}
+use Rattle.spline.specs.Spline.{not_falling, counts_fit, is_spline, knot_at}
 use Rattle.spline.specs.Row.{row_of}
-use Rattle.spline.specs.Value.{valueIn, fineIn}
+use Rattle.spline.specs.Value.{value_in, fine_in}
 use Rattle.spline.proofs.Places.{Number}
 use Rattle.spline.proofs.Stored.{Counts, counts_of, spline-counts, stored-control, stored-knot, stored_at, stored-fine}
 use Rattle.spline.proofs.Knots.{Rising}
 use Rattle.spline.proofs.Clamped.{left_end, right_end}
 
 -- each knot but the first is not below the one before it
-not-falling-at : (t : List Float) (i : ℕ) → notFalling t ≡ true → suc i < length t → lt (get_or t (suc i) nan) (get_or t i nan) ≡ false
-unfolding notFalling
+not-falling-at : (t : List Float) (i : ℕ) → not_falling t ≡ true → suc i < length t → lt (get_or t (suc i) nan) (get_or t i nan) ≡ false
+unfolding not_falling
 not-falling-at [] i e h = absurd (not-suc-le-zero h)
 not-falling-at (a ∷ []) i e h = absurd (not-suc-le-zero (le_of_suc-le-suc h))
-not-falling-at (a ∷ b ∷ l) zero e h = not-true (lt b a) (both (not (lt b a)) (notFalling (b ∷ l)) e).0
-not-falling-at (a ∷ b ∷ l) (suc i) e h = not-falling-at (b ∷ l) i (both (not (lt b a)) (notFalling (b ∷ l)) e).1 (le_of_suc-le-suc h)
+not-falling-at (a ∷ b ∷ l) zero e h = not-true (lt b a) (both (not (lt b a)) (not_falling (b ∷ l)) e).0
+not-falling-at (a ∷ b ∷ l) (suc i) e h = not-falling-at (b ∷ l) i (both (not (lt b a)) (not_falling (b ∷ l)) e).1 (le_of_suc-le-suc h)
 
-module _ (p : ℕ) (c t : List Float) (e : isSpline p (length c) t ≡ true)
+module _ (p : ℕ) (c t : List Float) (e : is_spline p (length c) t ≡ true)
     (C : (i : ℕ) → i < length c → Number (get_or c i nan)) (N : (i : ℕ) → i < length t → Number (get_or t i nan)) where
   abbrev row : List Float
   row = row_of p c t
@@ -28,17 +28,17 @@ module _ (p : ℕ) (c t : List Float) (e : isSpline p (length c) t ≡ true)
   abbrev n : ℕ
   n = length c
 
-  counts : countsFit p n (length t) ≡ true
+  counts : counts_fit p n (length t) ≡ true
   counts = spline-counts p n t e
 
   fit : Counts p n (length t)
   fit = counts_of p n (length t) counts
 
-  knot-at : (i : ℕ) → i ≤ n + p → knotAt row i ≡ get_or t i nan
+  knot-at : (i : ℕ) → i ≤ n + p → knot_at row i ≡ get_or t i nan
   knot-at i h = stored-knot p c t counts i (omega (arith, fit.known))
 
   pub stored-rising : Rising row p n
-  unfolding isSpline
+  unfolding is_spline
   stored-rising =
       record {
         some = fit.sizes.some;
@@ -47,15 +47,15 @@ module _ (p : ℕ) (c t : List Float) (e : isSpline p (length c) t ≡ true)
         rises = step;
       }
     where
-      step : (i : ℕ) → i < n + p → lt (knotAt row (i + 1)) (knotAt row i) ≡ false
+      step : (i : ℕ) → i < n + p → lt (knot_at row (i + 1)) (knot_at row i) ≡ false
       step i h =
           (λ k. lt (knot-at (i + 1) (omega arith) k) (knot-at i (omega arith) k))
-          ∙ rw add-one (not-falling-at t i (both (countsFit p n (length t)) (notFalling t) e).1 (omega (arith, fit.known)))
+          ∙ rw add-one (not-falling-at t i (both (counts_fit p n (length t)) (not_falling t) e).1 (omega (arith, fit.known)))
 
-  module _ (x : Float) (f : T (fits binary64 x)) (fine : fineIn row x ≡ true) where
+  module _ (x : Float) (f : T (fits binary64 x)) (fine : fine_in row x ≡ true) where
     -- the first p + 1 knots are equal, the next one is above them, and x equals them
     pub stored-left : ((i : ℕ) → i ≤ p → eq (get_or t i nan) (get_or t p nan) ≡ true) → lt (get_or t p nan) (get_or t (p + 1) nan) ≡ true
-        → eq x (get_or t p nan) ≡ true → eq (valueIn row x) (get_or c 0 nan) ≡ true
+        → eq x (get_or t p nan) ≡ true → eq (value_in row x) (get_or c 0 nan) ≡ true
     stored-left equal above at =
         let some = fit.sizes.some in
         let end = knot-at p (omega arith) in
@@ -68,7 +68,7 @@ module _ (p : ℕ) (c t : List Float) (e : isSpline p (length c) t ≡ true)
 
     -- the last p + 1 knots are equal, the one before is below them, and x equals them
     pub stored-right : ((i : ℕ) → i ≤ p → eq (get_or t (n + i) nan) (get_or t n nan) ≡ true) → lt (get_or t (n - 1) nan) (get_or t n nan) ≡ true
-        → eq x (get_or t n nan) ≡ true → eq (valueIn row x) (get_or c (n - 1) nan) ≡ true
+        → eq x (get_or t n nan) ≡ true → eq (value_in row x) (get_or c (n - 1) nan) ≡ true
     stored-right equal below at =
         let some = fit.sizes.some in
         let end = knot-at n (omega arith) in

@@ -1,27 +1,27 @@
 -- Knots that do not fall, from one of them on. Assumes nothing.
 use Rattle.std.proofs.Common.{◌≡◌, ℕ, zero, suc, ◌+◌, ◌<◌, ◌≤◌, true, not, ◌&&◌, List, [], ◌∷◌, length, get_or, drop, refl, le_of_suc-le-suc, not-suc-le-zero, add-one}
 use lib.Ieee.{Float, nan, lt}
-use Rattle.spline.specs.Spline.{notFalling}
+use Rattle.spline.specs.Spline.{not_falling}
 
 next : (l : List Float) (i : ℕ) → suc i < length l
-    → notFalling (drop i l) ≡ (not (lt (get_or l (suc i) nan) (get_or l i nan)) && notFalling (drop (suc i) l))
-unfolding notFalling
+    → not_falling (drop i l) ≡ (not (lt (get_or l (suc i) nan) (get_or l i nan)) && not_falling (drop (suc i) l))
+unfolding not_falling
 next [] i h = absurd (not-suc-le-zero h)
 next (a ∷ []) i h = absurd (not-suc-le-zero (le_of_suc-le-suc h))
 next (a ∷ b ∷ l) zero h = refl
 next (a ∷ b ∷ l) (suc i) h = next (b ∷ l) i (le_of_suc-le-suc h)
 
 pub falls-next : (l : List Float) (i : ℕ) → i + 1 < length l
-    → notFalling (drop i l) ≡ (not (lt (get_or l (i + 1) nan) (get_or l i nan)) && notFalling (drop (i + 1) l))
+    → not_falling (drop i l) ≡ (not (lt (get_or l (i + 1) nan) (get_or l i nan)) && not_falling (drop (i + 1) l))
 falls-next l i h = rw add-one (next l i (rw add-one at h))
 
-end : (l : List Float) (i : ℕ) → length l ≤ suc i → notFalling (drop i l) ≡ true
-unfolding notFalling
+end : (l : List Float) (i : ℕ) → length l ≤ suc i → not_falling (drop i l) ≡ true
+unfolding not_falling
 end [] zero h = refl
 end [] (suc i) h = refl
 end (a ∷ []) zero h = refl
 end (a ∷ b ∷ l) zero h = absurd (not-suc-le-zero (le_of_suc-le-suc h))
 end (a ∷ l) (suc i) h = end l i (le_of_suc-le-suc h)
 
-pub falls-end : (l : List Float) (i : ℕ) → length l ≤ i + 1 → notFalling (drop i l) ≡ true
+pub falls-end : (l : List Float) (i : ℕ) → length l ≤ i + 1 → not_falling (drop i l) ≡ true
 falls-end l i h = end l i (rw add-one at h)

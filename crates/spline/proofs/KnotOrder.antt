@@ -6,14 +6,14 @@ use lib.Ieee.{Float, nan, inf, fin, binary64, round, sub, lt, le, eq}
 use lib.Ieee.Fits.{round-fits}
 use lib.Ieee.Exact.{HasValue}
 use lib.Ieee.Scale.{finite}
-use Rattle.exact.specs.Value.{AtMost, unitsOf}
+use Rattle.exact.specs.Value.{AtMost, units_of}
 use Rattle.exact.specs.Signed.{Signed, signed}
 use Rattle.exact.proofs.Finite.{smaller-finite, smaller-units}
 use Rattle.exact.proofs.Operation.{sub-rounds}
 use Rattle.exact.proofs.Compare.{lt-is}
 use Rattle.ieee.proofs.Comparing.{AtMost as Fraction, fractions-of-le}
 use Rattle.spline.proofs.Places.{NotMore, on, not-below-says}
-use Rattle.spline.proofs.StepSizes.{gap, sumSize, sum-round, sum-size, round-most, twice}
+use Rattle.spline.proofs.StepSizes.{gap, sum_size, sum-round, sum-size, round-most, twice}
 
 -- ---- a is at most b
 scaled : (s t : Bool) (a b c : ℕ) → 0 < c → Fraction s (a * c) t (b * c) → NotMore (signed s a) (signed t b)
@@ -43,7 +43,7 @@ from-to (fin s m e) (fin u k c) (fin t n d) p q g h = tt
 
 -- ---- the size of a difference that is not negative
 size_is : (s t : Bool) (a b : ℕ) → NotMore (signed t b) (signed s a)
-    → sumSize s a (not t) b + ((signed t b).plus + (signed s a).less) ≡ (signed s a).plus + (signed t b).less
+    → sum_size s a (not t) b + ((signed t b).plus + (signed s a).less) ≡ (signed s a).plus + (signed t b).less
 size_is false false a b h = rw (le-ltb a b (omega arith)) (omega arith)
 size_is false true a b h = omega arith
 size_is true false a b h = omega arith
@@ -56,14 +56,14 @@ size_is true true a b h = by (ltb a b) refl
 pub record Differences (x lo hi : Float) : Type 0 where
   pub from : AtMost (2 ^ 2075) (sub binary64 x lo)
   pub wide : AtMost (2 ^ 2075) (sub binary64 hi lo)
-  pub order : unitsOf (sub binary64 x lo) ≤ unitsOf (sub binary64 hi lo)
+  pub order : units_of (sub binary64 x lo) ≤ units_of (sub binary64 hi lo)
 
 module _ (x lo hi : Float) (s t u : Bool) (a b d c : ℕ) (C : 0 < c) (v : HasValue x s a c) (l : HasValue lo t b c) (h : HasValue hi u d c) where
   pub differences : b * 2 ^ 1074 ≤ 2 ^ 2074 * c → d * 2 ^ 1074 ≤ 2 ^ 2074 * c → NotMore (signed t b) (signed s a) → NotMore (signed s a) (signed u d)
       → Differences x lo hi
   differences small great low high =
-      let m = sumSize s a (not t) b in
-      let n = sumSize u d (not t) b in
+      let m = sum_size s a (not t) b in
+      let n = sum_size u d (not t) b in
       let f = sum-round s a (not t) b c in
       let w = sum-round u d (not t) b c in
       let from_is : sub binary64 x lo ≡ round binary64 f.0 m c = sub-rounds binary64 x lo s t a b c C v l ∙ f.1 in

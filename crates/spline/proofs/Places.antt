@@ -4,7 +4,7 @@ use mathlib.Core.Bool.{false≢true}
 use lib.Ieee.{Float, nan, inf, fin, binary64, fits, below, level, lt, eq, le}
 use lib.Ieee.Scale.{finite}
 use Rattle.exact.specs.Signed.{Signed, Same, signed}
-use Rattle.exact.specs.Value.{Units, sign_of, unitsOf}
+use Rattle.exact.specs.Value.{Units, sign_of, units_of}
 use Rattle.exact.proofs.Value.{own, units-are, sign-is}
 use Rattle.exact.proofs.Compare.{lt-is}
 use Rattle.exact.proofs.Truth.{both}
@@ -15,11 +15,11 @@ pub record Number (z : Float) : Type 0 where
   pub fit : T (fits binary64 z)
   pub known : T (finite z)
 
-pub value_of : (z : Float) → Number z → Units z (sign_of z) (unitsOf z)
+pub value_of : (z : Float) → Number z → Units z (sign_of z) (units_of z)
 value_of z Z = own z Z.fit Z.known
 
 abbrev pub place : Float → Signed
-place z = signed (sign_of z) (unitsOf z)
+place z = signed (sign_of z) (units_of z)
 
 abbrev pub Less : Signed → Signed → Type 0
 Less x y = x.plus + y.less < y.plus + x.less
@@ -79,23 +79,23 @@ not-level-says s t a b h e = false≢true (sym h ∙ by s t e)
 
 -- ---- of two numbers
 module _ (x y : Float) (X : Number x) (Y : Number y) where
-  lt_of : lt x y ≡ below (sign_of x) (unitsOf x) (sign_of y) (unitsOf y)
-  lt_of = lt-is x y (sign_of x) (sign_of y) (unitsOf x) (unitsOf y) (2 ^ 1074) (pow_pos 1074) (value_of x X) (value_of y Y)
+  lt_of : lt x y ≡ below (sign_of x) (units_of x) (sign_of y) (units_of y)
+  lt_of = lt-is x y (sign_of x) (sign_of y) (units_of x) (units_of y) (2 ^ 1074) (pow_pos 1074) (value_of x X) (value_of y Y)
 
-  eq_of : eq x y ≡ level (sign_of x) (unitsOf x) (sign_of y) (unitsOf y)
-  eq_of = eq_is x y (sign_of x) (sign_of y) (unitsOf x) (unitsOf y) (2 ^ 1074) (pow_pos 1074) (value_of x X) (value_of y Y)
+  eq_of : eq x y ≡ level (sign_of x) (units_of x) (sign_of y) (units_of y)
+  eq_of = eq_is x y (sign_of x) (sign_of y) (units_of x) (units_of y) (2 ^ 1074) (pow_pos 1074) (value_of x X) (value_of y Y)
 
   pub lt_yes : lt x y ≡ true → Less (place x) (place y)
-  lt_yes h = below-says (sign_of x) (sign_of y) (unitsOf x) (unitsOf y) (sym lt_of ∙ h)
+  lt_yes h = below-says (sign_of x) (sign_of y) (units_of x) (units_of y) (sym lt_of ∙ h)
 
   pub lt_no : lt x y ≡ false → NotMore (place y) (place x)
-  lt_no h = not-below-says (sign_of x) (sign_of y) (unitsOf x) (unitsOf y) (sym lt_of ∙ h)
+  lt_no h = not-below-says (sign_of x) (sign_of y) (units_of x) (units_of y) (sym lt_of ∙ h)
 
   pub eq_yes : eq x y ≡ true → Same (place x) (place y)
-  eq_yes h = level-says (sign_of x) (sign_of y) (unitsOf x) (unitsOf y) (sym eq_of ∙ h)
+  eq_yes h = level-says (sign_of x) (sign_of y) (units_of x) (units_of y) (sym eq_of ∙ h)
 
   eq_no : eq x y ≡ false → Same (place x) (place y) → ⊥
-  eq_no h = not-level-says (sign_of x) (sign_of y) (unitsOf x) (unitsOf y) (sym eq_of ∙ h)
+  eq_no h = not-level-says (sign_of x) (sign_of y) (units_of x) (units_of y) (sym eq_of ∙ h)
 
   -- and back
   pub same-eq : Same (place x) (place y) → eq x y ≡ true

@@ -5,11 +5,11 @@ use Prim.Native.Nat.{compare, Ordering}
 use borrow.Author.Tests.{eqb-false}
 use lib.Ieee.{Float, nan, inf, fin, binary64, up, down, below, level, fits, lt, le, eq}
 use lib.Ieee.Scale.{finite}
-use Rattle.exact.specs.Value.{sign_of, unitsOf}
+use Rattle.exact.specs.Value.{sign_of, units_of}
 use Rattle.exact.proofs.Compare.{lt-is}
 use Rattle.exact.proofs.Order.{compared, Stands}
 use Rattle.exact.proofs.Value.{own}
-use Rattle.spline.specs.Spline.{knotAt, spanTo, spanAt}
+use Rattle.spline.specs.Spline.{knot_at, span_to, span_at}
 use Rattle.spline.specs.Walk.{Tamed, Tame}
 
 -- ---- of signed numbers: a is at most b exactly where b is not below a
@@ -18,8 +18,8 @@ not-both false v h = refl
 not-both true false h = refl
 not-both true true h = absurd (h refl refl)
 
-eqb-sym : (a b : ℕ) → eqb a b ≡ eqb b a
-eqb-sym a b = by (eqb a b) refl
+eqb_sym : (a b : ℕ) → eqb a b ≡ eqb b a
+eqb_sym a b = by (eqb a b) refl
   where
     by : (u : Bool) → eqb a b ≡ u → u ≡ eqb b a
     by true e = sym (eq-eqb b a (sym (eqb-true a b e)))
@@ -35,7 +35,7 @@ like a b = by (compare a b) (compared a b)
 
 turned : (s t : Bool) (a b : ℕ) → (below s a t b || level s a t b) ≡ not (below t b s a)
 turned false false a b = like a b
-turned true true a b = rw (eqb-sym a b) (like b a)
+turned true true a b = rw (eqb_sym a b) (like b a)
 turned true false a b =
     ⊎_elim (λ (z : a + b ≡ 0). rw (le-ltb 0 (a + b) (omega arith), eq-eqb a b (omega arith), eq-eqb a 0 (omega arith)))
     (λ (z : 0 < a + b). rw (lt-ltb 0 (a + b) z)) (eq-zero-or-pos (a + b))
@@ -89,28 +89,28 @@ under (fin s m e) a b f k l h g =
     let x-is = own x f tt in
     let a-is = own a k.fit k.known in
     let b-is = own b l.fit l.known in
-    lt-is x b s (sign_of b) (unitsOf x) (unitsOf b) (2 ^ 1074) (pow_pos 1074) x-is b-is
-    ∙ below_all s (sign_of a) (sign_of b) (unitsOf x) (unitsOf a) (unitsOf b)
-    (sym (lt-is x a s (sign_of a) (unitsOf x) (unitsOf a) (2 ^ 1074) (pow_pos 1074) x-is a-is) ∙ h)
-    (sym (lt-is b a (sign_of b) (sign_of a) (unitsOf b) (unitsOf a) (2 ^ 1074) (pow_pos 1074) b-is a-is) ∙ g)
+    lt-is x b s (sign_of b) (units_of x) (units_of b) (2 ^ 1074) (pow_pos 1074) x-is b-is
+    ∙ below_all s (sign_of a) (sign_of b) (units_of x) (units_of a) (units_of b)
+    (sym (lt-is x a s (sign_of a) (units_of x) (units_of a) (2 ^ 1074) (pow_pos 1074) x-is a-is) ∙ h)
+    (sym (lt-is b a (sign_of b) (sign_of a) (units_of b) (units_of a) (2 ^ 1074) (pow_pos 1074) b-is a-is) ∙ g)
 
 -- ---- of knots
 module _ (row : List Float) (p n : ℕ) (x : Float) (fit : T (fits binary64 x)) (tame : Tame row p n) where
   -- the next knot, where it is not over x
-  pub next-knot : (k : ℕ) → k < n → le (knotAt row k) x ≡ true → lt x (knotAt row (k + 1)) ≡ false → le (knotAt row (k + 1)) x ≡ true
-  next-knot k h = at_least (knotAt row k) (knotAt row (k + 1)) x (tame.knot (k + 1) (omega arith)).known
+  pub next-knot : (k : ℕ) → k < n → le (knot_at row k) x ≡ true → lt x (knot_at row (k + 1)) ≡ false → le (knot_at row (k + 1)) x ≡ true
+  next-knot k h = at_least (knot_at row k) (knot_at row (k + 1)) x (tame.knot (k + 1) (omega arith)).known
 
-  all-over : (k d : ℕ) → k + d ≤ n + p → lt x (knotAt row k) ≡ true → lt x (knotAt row (k + d)) ≡ true
+  all-over : (k d : ℕ) → k + d ≤ n + p → lt x (knot_at row k) ≡ true → lt x (knot_at row (k + d)) ≡ true
   all-over k zero h e = let same : k + 0 ≡ k = omega arith in rw same e
   all-over k (suc d) h e =
       let place : k + suc d ≡ k + d + 1 = omega arith in
       rw place
-      (under x (knotAt row (k + d)) (knotAt row (k + d + 1)) fit (tame.knot (k + d) (omega arith)) (tame.knot (k + d + 1) (omega arith))
+      (under x (knot_at row (k + d)) (knot_at row (k + d + 1)) fit (tame.knot (k + d) (omega arith)) (tame.knot (k + d + 1) (omega arith))
       (all-over k d (omega arith) e) (tame.rises (k + d) (omega arith)))
 
-  searched : (k m : ℕ) → p ≤ k → k ≤ p + m → le (knotAt row k) x ≡ true → ((j : ℕ) → k < j → j ≤ p + m → le (knotAt row j) x ≡ false)
-      → k ≡ spanTo row p x m
-  unfolding spanTo
+  searched : (k m : ℕ) → p ≤ k → k ≤ p + m → le (knot_at row k) x ≡ true → ((j : ℕ) → k < j → j ≤ p + m → le (knot_at row j) x ≡ false)
+      → k ≡ span_to row p x m
+  unfolding span_to
   searched k zero h g e o = omega arith
   searched k (suc m) h g e o =
       ⊎_elim
@@ -118,10 +118,10 @@ module _ (row : List Float) (p n : ℕ) (x : Float) (fit : T (fits binary64 x)) 
       (λ (q : k < p + suc m). rw (o (p + suc m) q (omega arith)) (searched k m h (omega arith) e (λ j a b. o j a (omega arith))))
       (eq-or-lt_of_le g)
 
-  pub span-found : (k : ℕ) → p ≤ k → k < n → le (knotAt row k) x ≡ true → (k + 1 < n → lt x (knotAt row (k + 1)) ≡ true) → k ≡ spanAt row p n x
+  pub span-found : (k : ℕ) → p ≤ k → k < n → le (knot_at row k) x ≡ true → (k + 1 < n → lt x (knot_at row (k + 1)) ≡ true) → k ≡ span_at row p n x
   span-found k h g e o = searched k (n - 1 - p) h (omega arith) e later
     where
-      later : (j : ℕ) → k < j → j ≤ p + (n - 1 - p) → le (knotAt row j) x ≡ false
+      later : (j : ℕ) → k < j → j ≤ p + (n - 1 - p) → le (knot_at row j) x ≡ false
       later j a b =
           let place : k + 1 + (j - (k + 1)) ≡ j = omega arith in
-          over (knotAt row j) x (tame.knot j (omega arith)).known (rw place at (all-over (k + 1) (j - (k + 1)) (omega arith) (o (omega arith))))
+          over (knot_at row j) x (tame.knot j (omega arith)).known (rw place at (all-over (k + 1) (j - (k + 1)) (omega arith) (o (omega arith))))

@@ -7,7 +7,7 @@ use lib.Seq.{take-append-add}
 use lib.Ieee.{Float, eq, of_bits}
 use Rattle.exact.proofs.Truth.{and-true, and-false}
 use Rattle.exact.specs.Doubles.{nought}
-use Rattle.spline.specs.Spline.{countsFit}
+use Rattle.spline.specs.Spline.{counts_fit}
 use Rattle.spline.specs.Row.{counted, padded, row_of}
 use Rattle.spline.specs.Same.{same_numbers}
 use Rattle.spline.proofs.Equal.{eq_is}
@@ -60,7 +60,7 @@ same-padded m l l' e h =
     parts m a b e h = omega arith
 
 -- ---- of two rows
-module _ (p p' : ℕ) (c c' t t' : List Float) (f : countsFit p (length c) (length t) ≡ true) (g : countsFit p' (length c') (length t') ≡ true) where
+module _ (p p' : ℕ) (c c' t t' : List Float) (f : counts_fit p (length c) (length t) ≡ true) (g : counts_fit p' (length c') (length t') ≡ true) where
   fit : Counts p (length c) (length t)
   fit = counts_of p (length c) (length t) f
 

@@ -11,14 +11,14 @@ use lib.Ieee.Bits.{is_true}
 use lib.Ieee.Exact.{HasValue}
 use lib.Ieee.Scale.{finite, round_same}
 use Rattle.exact.specs.Doubles.{nought, one}
-use Rattle.exact.specs.Value.{AtMost, Units, sign_of, unitsOf}
+use Rattle.exact.specs.Value.{AtMost, Units, sign_of, units_of}
 use Rattle.exact.proofs.Value.{own, units-are}
 use Rattle.exact.proofs.Rounding.{round-none}
 use Rattle.exact.proofs.Finite.{smaller-finite, smaller-units}
 use Rattle.exact.proofs.Few.{value-finite}
 use Rattle.exact.proofs.Operation.{add_rounds, mul-rounds, div-rounds}
 use Rattle.exact.proofs.Compare.{some}
-use Rattle.spline.specs.Spline.{alphaOf, share, blend_of}
+use Rattle.spline.specs.Spline.{alpha_of, share, blend_of}
 
 -- ---- a fraction of at most 2 ^ k units rounds to at most 2 ^ k units
 pub round-most : (s : Bool) (a c k : ℕ) → 0 < c → k < 2098 → a * 2 ^ 1074 ≤ 2 ^ k * c → AtMost (2 ^ k) (round binary64 s a c)
@@ -32,7 +32,7 @@ round-most s a c k C K h =
     record {
       fit = round-fits binary64 s a c;
       known = subst (λ (z : Float). T (finite z)) (sym same) (smaller-finite s s (a * q) (2 ^ k * c) (c * q) Q h top);
-      small = subst (λ (z : Float). unitsOf z ≤ 2 ^ k) (sym same)
+      small = subst (λ (z : Float). units_of z ≤ 2 ^ k) (sym same)
           (le_trans (smaller-units s s (a * q) (2 ^ k * c) (c * q) Q h top)
           (le_of_eq (units-are (round binary64 s (2 ^ k * c) (c * q)) s (1 * 2 ^ k) value ∙ one-mul (2 ^ k))));
     }
@@ -49,7 +49,7 @@ more h w = record { fit = w.fit; known = w.known; small = le_trans w.small h }
 pub known-finite : {m : ℕ} {z : Float} → AtMost m z → finite z ≡ true
 known-finite {m} {z} w = is_true (finite z) w.known
 
-value_of : {m : ℕ} {z : Float} → AtMost m z → Units z (sign_of z) (unitsOf z)
+value_of : {m : ℕ} {z : Float} → AtMost m z → Units z (sign_of z) (units_of z)
 value_of {m} {z} w = own z w.fit w.known
 
 neg-most : (m : ℕ) (z : Float) → AtMost m z → AtMost m (neg z)
@@ -62,15 +62,15 @@ neg-most m (fin s n e) w = record { fit = neg-fits binary64 (fin s n e) w.fit; k
 abbrev pub gap : Bool → ℕ → ℕ → ℕ
 gap l a b = cond l (b - a) (a - b)
 
-abbrev pub sumSize : Bool → ℕ → Bool → ℕ → ℕ
-sumSize s a t b = cond (beq s t) (a + b) (gap (ltb a b) a b)
+abbrev pub sum_size : Bool → ℕ → Bool → ℕ → ℕ
+sum_size s a t b = cond (beq s t) (a + b) (gap (ltb a b) a b)
 
 gap-round : (l y z : Bool) (a b c : ℕ)
     → (w : Bool) × (cond l (round binary64 y (b - a) c) (round binary64 z (a - b) c) ≡ round binary64 w (gap l a b) c)
 gap-round true y z a b c = (y, refl)
 gap-round false y z a b c = (z, refl)
 
-pub sum-round : (s : Bool) (a : ℕ) (t : Bool) (b c : ℕ) → (w : Bool) × (sum binary64 s a t b c ≡ round binary64 w (sumSize s a t b) c)
+pub sum-round : (s : Bool) (a : ℕ) (t : Bool) (b c : ℕ) → (w : Bool) × (sum binary64 s a t b c ≡ round binary64 w (sum_size s a t b) c)
 unfolding sum
 sum-round true a true b c = (true, refl)
 sum-round false a false b c = (false, refl)
@@ -81,7 +81,7 @@ gap-size : (l : Bool) (a b : ℕ) → gap l a b ≤ a + b
 gap-size true a b = omega arith
 gap-size false a b = omega arith
 
-pub sum-size : (s : Bool) (a : ℕ) (t : Bool) (b : ℕ) → sumSize s a t b ≤ a + b
+pub sum-size : (s : Bool) (a : ℕ) (t : Bool) (b : ℕ) → sum_size s a t b ≤ a + b
 sum-size true a true b = omega arith
 sum-size false a false b = omega arith
 sum-size true a false b = gap-size (ltb a b) a b
@@ -93,9 +93,9 @@ twice j = pow-succ' 2 j
 add_most : (j : ℕ) {x y : Float} → suc j < 2098 → AtMost (2 ^ j) x → AtMost (2 ^ j) y → AtMost (2 ^ suc j) (add binary64 x y)
 add_most j {x} {y} J v w =
     let q = 2 ^ 1074 in
-    let a = unitsOf x in
-    let b = unitsOf y in
-    let n = sumSize (sign_of x) a (sign_of y) b in
+    let a = units_of x in
+    let b = units_of y in
+    let n = sum_size (sign_of x) a (sign_of y) b in
     let r = sum-round (sign_of x) a (sign_of y) b q in
     subst (AtMost (2 ^ suc j)) (sym (add_rounds binary64 x y (sign_of x) (sign_of y) a b q (pow_pos 1074) (value_of v) (value_of w) ∙ r.1))
     (round-most r.0 n q (suc j) (pow_pos 1074) J
@@ -112,8 +112,8 @@ sub-most j {x} {y} J v w = add_most j J v (neg-most (2 ^ j) y w)
 mul_most : (j : ℕ) {x y : Float} → suc j < 2098 → AtMost (2 ^ 1075) x → AtMost (2 ^ j) y → AtMost (2 ^ suc j) (mul binary64 x y)
 mul_most j {x} {y} J v w =
     let q = 2 ^ 1074 in
-    let a = unitsOf x in
-    let b = unitsOf y in
+    let a = units_of x in
+    let b = units_of y in
     subst (AtMost (2 ^ suc j))
     (sym (mul-rounds binary64 x y (sign_of x) (sign_of y) a q b q (pow_pos 1074) (pow_pos 1074) (value_of v) (value_of w)))
     (round-most (unlike (sign_of x) (sign_of y)) (a * b) (q * q) (suc j) (mul-pos (pow_pos 1074) (pow_pos 1074)) J
@@ -142,14 +142,14 @@ one-most : AtMost (2 ^ 1074) one
 unfolding of_bits fits
 one-most = record { fit = tt; known = tt; small = lit≤ tt }
 
-alpha-most : (m : ℕ) (f w : Float) → AtMost m f → AtMost m w → unitsOf f ≤ unitsOf w → AtMost (2 ^ 1074) (alphaOf f w)
-alpha-most m f w u v h = by (eq f nought) (eq w nought) refl refl
+alpha_most : (m : ℕ) (f w : Float) → AtMost m f → AtMost m w → units_of f ≤ units_of w → AtMost (2 ^ 1074) (alpha_of f w)
+alpha_most m f w u v h = by (eq f nought) (eq w nought) refl refl
   where
-    quotient : 0 < unitsOf w → AtMost (2 ^ 1074) (div binary64 f w)
+    quotient : 0 < units_of w → AtMost (2 ^ 1074) (div binary64 f w)
     quotient W =
         let q = 2 ^ 1074 in
-        let a = unitsOf f in
-        let b = unitsOf w in
+        let a = units_of f in
+        let b = units_of w in
         subst (AtMost q) (sym (over-one f w (sign_of f) (sign_of w) a b q W (pow_pos 1074) (value_of u) (value_of v)))
         (round-most (unlike (sign_of f) (sign_of w)) a b 1074 W (lit< tt) (le_trans (mul-le-mul_right q h) (le_of_eq (mul_comm b q))))
 
@@ -160,10 +160,10 @@ alpha-most m f w u v h = by (eq f nought) (eq w nought) refl refl
 
 -- ---- a step
 module _ (x lo hi a b : Float) (m j : ℕ) (J : suc (suc j) < 2098) where
-  pub step-tame : AtMost m (sub binary64 x lo) → AtMost m (sub binary64 hi lo) → unitsOf (sub binary64 x lo) ≤ unitsOf (sub binary64 hi lo)
+  pub step_tame : AtMost m (sub binary64 x lo) → AtMost m (sub binary64 hi lo) → units_of (sub binary64 x lo) ≤ units_of (sub binary64 hi lo)
       → AtMost (2 ^ j) a → AtMost (2 ^ j) b → AtMost (2 ^ suc (suc j)) (blend_of x lo hi a b)
   unfolding blend_of
-  step-tame f w h v u =
-      let z : AtMost (2 ^ 1074) (share x lo hi) = alpha-most m (sub binary64 x lo) (sub binary64 hi lo) f w h in
+  step_tame f w h v u =
+      let z : AtMost (2 ^ 1074) (share x lo hi) = alpha_most m (sub binary64 x lo) (sub binary64 hi lo) f w h in
       let l : suc j < 2098 = omega arith in
       add_most (suc j) J (mul_most j l (sub-most 1074 (lit< tt) one-most z) v) (mul_most j l (more (lit≤ tt) z) u)

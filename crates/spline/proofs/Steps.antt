@@ -9,13 +9,13 @@ use lib.Ieee.Fits.{up_pos, down_pos, sub-fits}
 use lib.Ieee.Scale.{finite, round_same}
 use Rattle.exact.specs.Doubles.{nought, one, zero_of}
 use Rattle.exact.specs.Signed.{Signed, Same, signed}
-use Rattle.exact.specs.Value.{Units, sign_of, unitsOf}
+use Rattle.exact.specs.Value.{Units, sign_of, units_of}
 use Rattle.exact.proofs.Few.{few-of, few-value, units-below}
 use Rattle.exact.proofs.Finite.{smaller-units}
 use Rattle.exact.proofs.Operation.{add_rounds, sub-rounds}
 use Rattle.exact.proofs.Sum.{sum_like, sum_first, sum-second, sum_comm}
 use Rattle.exact.proofs.Value.{own, units-are}
-use Rattle.spline.specs.Spline.{alphaOf, share, blend_of}
+use Rattle.spline.specs.Spline.{alpha_of, share, blend_of}
 use Rattle.spline.proofs.Equal.{eq_is}
 use Rattle.spline.proofs.Places.{Number, value_of, place, Less, placed}
 use Rattle.exact.proofs.Zeros.{round-zero, none-times}
@@ -23,26 +23,26 @@ use Rattle.spline.proofs.Zeros.{none-value, nought-is, none-is-nought, same-diff
 use Rattle.spline.proofs.Zeros.{one-less-none, one-less-one, one-units, sum-nothing}
 
 -- ---- what is a number a, and a zero
-module _ (a y : Float) (z : Bool) (A : Number a) (v : Units y (sign_of a) (unitsOf a)) where
-  added : (x : Float) → x ≡ sum binary64 (sign_of a) (unitsOf a) z 0 (2 ^ 1074) → Same (place x) (place a)
+module _ (a y : Float) (z : Bool) (A : Number a) (v : Units y (sign_of a) (units_of a)) where
+  added : (x : Float) → x ≡ sum binary64 (sign_of a) (units_of a) z 0 (2 ^ 1074) → Same (place x) (place a)
   added x e =
-      let w = sum-nothing (sign_of a) z (unitsOf a) (few-of a A.fit A.known) (units-below a A.fit A.known) in
-      let value : Units x w.0 (unitsOf a) = subst (λ (q : Float). Units q w.0 (unitsOf a)) (sym e) w.1 in
-      subst (λ (p : Signed). Same p (place a)) (sym (placed x w.0 (unitsOf a) value)) w.2
+      let w = sum-nothing (sign_of a) z (units_of a) (few-of a A.fit A.known) (units-below a A.fit A.known) in
+      let value : Units x w.0 (units_of a) = subst (λ (q : Float). Units q w.0 (units_of a)) (sym e) w.1 in
+      subst (λ (p : Signed). Same p (place a)) (sym (placed x w.0 (units_of a) value)) w.2
 
   plus_none : Same (place (add binary64 y (zero_of z))) (place a)
   plus_none =
-      added (add binary64 y (zero_of z)) (add_rounds binary64 y (zero_of z) (sign_of a) z (unitsOf a) 0 (2 ^ 1074) (pow_pos 1074) v (none-value z (2 ^ 1074)))
+      added (add binary64 y (zero_of z)) (add_rounds binary64 y (zero_of z) (sign_of a) z (units_of a) 0 (2 ^ 1074) (pow_pos 1074) v (none-value z (2 ^ 1074)))
 
   none-plus : Same (place (add binary64 (zero_of z) y)) (place a)
   none-plus =
       added (add binary64 (zero_of z) y)
-      (add_rounds binary64 (zero_of z) y z (sign_of a) 0 (unitsOf a) (2 ^ 1074) (pow_pos 1074) (none-value z (2 ^ 1074)) v
-      ∙ sum_comm binary64 z (sign_of a) 0 (unitsOf a) (2 ^ 1074))
+      (add_rounds binary64 (zero_of z) y z (sign_of a) 0 (units_of a) (2 ^ 1074) (pow_pos 1074) (none-value z (2 ^ 1074)) v
+      ∙ sum_comm binary64 z (sign_of a) 0 (units_of a) (2 ^ 1074))
 
 -- ---- the difference of two numbers
-minus_is : (x y : Float) → Number x → Number y → sub binary64 x y ≡ sum binary64 (sign_of x) (unitsOf x) (not (sign_of y)) (unitsOf y) (2 ^ 1074)
-minus_is x y X Y = sub-rounds binary64 x y (sign_of x) (sign_of y) (unitsOf x) (unitsOf y) (2 ^ 1074) (pow_pos 1074) (value_of x X) (value_of y Y)
+minus_is : (x y : Float) → Number x → Number y → sub binary64 x y ≡ sum binary64 (sign_of x) (units_of x) (not (sign_of y)) (units_of y) (2 ^ 1074)
+minus_is x y X Y = sub-rounds binary64 x y (sign_of x) (sign_of y) (units_of x) (units_of y) (2 ^ 1074) (pow_pos 1074) (value_of x X) (value_of y Y)
 
 -- ---- the left end
 or-true : (b : Bool) → (b || true) ≡ true
@@ -69,22 +69,22 @@ none-quotient s (fin u (suc n) d) t e =
     ∙ round-zero (unlike s u) (suc n * up d * 1) (mul-pos (mul-pos (zero-lt-suc n) (up_pos d)) (lit< tt)))
 
 -- a zero over a finite number, or over a zero
-none_over : (s : Bool) (w : Float) → T (finite w) → (z : Bool) × (alphaOf (zero_of s) w ≡ zero_of z)
+none_over : (s : Bool) (w : Float) → T (finite w) → (z : Bool) × (alpha_of (zero_of s) w ≡ zero_of z)
 none_over s w t = by (eq w nought) refl
   where
-    first : alphaOf (zero_of s) w ≡ cond (eq w nought) nought (div binary64 (zero_of s) w)
+    first : alpha_of (zero_of s) w ≡ cond (eq w nought) nought (div binary64 (zero_of s) w)
     first = ap (λ (b : Bool). cond (b && eq w nought) nought (div binary64 (zero_of s) w)) (none-is-nought s)
 
-    by : (b : Bool) → eq w nought ≡ b → (z : Bool) × (alphaOf (zero_of s) w ≡ zero_of z)
+    by : (b : Bool) → eq w nought ≡ b → (z : Bool) × (alpha_of (zero_of s) w ≡ zero_of z)
     by true e = (false, first ∙ ap (λ (b : Bool). cond b nought (div binary64 (zero_of s) w)) e ∙ nought-is)
     by false e = (unlike s (sign_of w), first ∙ ap (λ (b : Bool). cond b nought (div binary64 (zero_of s) w)) e ∙ none-quotient s w t e)
 
 module _ (x lo hi a b : Float) (X : Number x) (L : Number lo) (A : Number a) (B : T (finite b)) where
   share-none : T (finite (sub binary64 hi lo)) → Same (place x) (place lo) → (z : Bool) × (share x lo hi ≡ zero_of z)
   share-none t e =
-      let d = same-difference (sign_of x) (sign_of lo) (unitsOf x) (unitsOf lo) (2 ^ 1074) (pow_pos 1074) e in
+      let d = same-difference (sign_of x) (sign_of lo) (units_of x) (units_of lo) (2 ^ 1074) (pow_pos 1074) e in
       let q = none_over d.0 (sub binary64 hi lo) t in
-      (q.0, ap (λ (y : Float). alphaOf y (sub binary64 hi lo)) (minus_is x lo X L ∙ d.1) ∙ q.1)
+      (q.0, ap (λ (y : Float). alpha_of y (sub binary64 hi lo)) (minus_is x lo X L ∙ d.1) ∙ q.1)
 
   pub left_step : T (finite (sub binary64 hi lo)) → Same (place x) (place lo) → Same (place (blend_of x lo hi a b)) (place a)
   unfolding blend_of
@@ -117,11 +117,11 @@ same-less : (x y l : Signed) → Same x y → Less l y → Less l x
 same-less x y l e h = omega arith
 
 -- at least one unit stays
-least : unitsOf (round binary64 false 1 (2 ^ 1074)) ≡ 1
+least : units_of (round binary64 false 1 (2 ^ 1074)) ≡ 1
 least =
     units-are (round binary64 false 1 (2 ^ 1074)) false 1 (few-value false 1 (record { digits = 1; shift = 0; few = lit< tt; is = refl }) (lit< tt))
 
-some-units : (k : ℕ) → 0 < k → T (finite (round binary64 false k (2 ^ 1074))) → 0 < unitsOf (round binary64 false k (2 ^ 1074))
+some-units : (k : ℕ) → 0 < k → T (finite (round binary64 false k (2 ^ 1074))) → 0 < units_of (round binary64 false k (2 ^ 1074))
 some-units k h t = le_trans (le_of_eq (sym least)) (smaller-units false false 1 k (2 ^ 1074) (pow_pos 1074) h t)
 
 -- a number over itself
@@ -146,19 +146,19 @@ module _ (x lo hi a b : Float) (X : Number x) (L : Number lo) (H : Number hi) (A
   share-one : T (finite wide) → Same (place x) (place hi) → Less (place lo) (place hi) → share x lo hi ≡ one
   share-one t e l =
       let is : wide ≡ round binary64 false (gap (place hi) (place lo)) (2 ^ 1074) =
-      minus_is hi lo H L ∙ difference (sign_of hi) (sign_of lo) (unitsOf hi) (unitsOf lo) (2 ^ 1074) l in
+      minus_is hi lo H L ∙ difference (sign_of hi) (sign_of lo) (units_of hi) (units_of lo) (2 ^ 1074) l in
       let from : sub binary64 x lo ≡ wide =
       minus_is x lo X L
-      ∙ difference (sign_of x) (sign_of lo) (unitsOf x) (unitsOf lo) (2 ^ 1074) (same-less (place x) (place hi) (place lo) e l)
+      ∙ difference (sign_of x) (sign_of lo) (units_of x) (units_of lo) (2 ^ 1074) (same-less (place x) (place hi) (place lo) e l)
       ∙ ap (λ (m : ℕ). round binary64 false m (2 ^ 1074)) (same_gap (place x) (place hi) (place lo) e)
       ∙ sym is in
-      let more : 0 < unitsOf wide =
-      subst (λ (y : Float). 0 < unitsOf y) (sym is)
+      let more : 0 < units_of wide =
+      subst (λ (y : Float). 0 < units_of y) (sym is)
       (some-units (gap (place hi) (place lo)) (some-gap (place hi) (place lo) l) (subst (λ (y : Float). T (finite y)) is t)) in
       let other : eq wide nought ≡ false =
-      eq_is wide nought (sign_of wide) false (unitsOf wide) 0 (2 ^ 1074) (pow_pos 1074) (own wide (sub-fits binary64 hi lo) t) (nought-value (2 ^ 1074))
-      ∙ ap (λ (y : Bool). y && (beq (sign_of wide) false || y)) (ne_eqb (unitsOf wide) 0 (above (unitsOf wide) more)) in
-      ap (λ (y : Float). alphaOf y wide) from ∙ ap (λ (y : Bool). cond (y && y) nought (div binary64 wide wide)) other ∙ itself wide t other
+      eq_is wide nought (sign_of wide) false (units_of wide) 0 (2 ^ 1074) (pow_pos 1074) (own wide (sub-fits binary64 hi lo) t) (nought-value (2 ^ 1074))
+      ∙ ap (λ (y : Bool). y && (beq (sign_of wide) false || y)) (ne_eqb (units_of wide) 0 (above (units_of wide) more)) in
+      ap (λ (y : Float). alpha_of y wide) from ∙ ap (λ (y : Bool). cond (y && y) nought (div binary64 wide wide)) other ∙ itself wide t other
     where
       above : (n : ℕ) → 0 < n → n ≡ 0 → ⊥
       above n h e = omega arith

@@ -8,29 +8,29 @@ use lib.Ieee.Exact.{HasValue}
 use Rattle.exact.specs.Doubles.{nought}
 use Rattle.exact.proofs.Truth.{both}
 use Rattle.ieee.proofs.Cutting.{cut-natural}
-use Rattle.spline.specs.Spline.{Sizes, sizesFit, countsFit, isSpline, notFalling, controlAt, knotAt}
+use Rattle.spline.specs.Spline.{Sizes, sizes_fit, counts_fit, is_spline, not_falling, control_at, knot_at}
 use Rattle.spline.specs.Row.{counted, padded, row_of}
-use Rattle.spline.specs.Value.{number_of, whole_of, degreeIn, countIn, tells, splineAt, splineFine, valueIn, fineIn}
+use Rattle.spline.specs.Value.{number_of, whole_of, degree_in, count_in, tells, spline_at, spline_fine, value_in, fine_in}
 
 -- ---- what the test of the counts says
 pub record Counts (p n knots : ℕ) : Type 0 where
   pub sizes : Sizes p n
   pub known : knots ≡ n + p + 1
 
-pub sizes-of : (p n : ℕ) → sizesFit p n ≡ true → Sizes p n
+pub sizes-of : (p n : ℕ) → sizes_fit p n ≡ true → Sizes p n
 sizes-of p n e =
     let most = both (leb p 5 && ltb p n) (leb n 32) e in
     let front = both (leb p 5) (ltb p n) most.0 in
     record { degree = leb-true p 5 front.0; some = ltb-true p n front.1; most = leb-true n 32 most.1 }
 
-pub counts_of : (p n knots : ℕ) → countsFit p n knots ≡ true → Counts p n knots
+pub counts_of : (p n knots : ℕ) → counts_fit p n knots ≡ true → Counts p n knots
 counts_of p n knots e =
-    let parts = both (sizesFit p n) (eqb knots (n + p + 1)) e in
+    let parts = both (sizes_fit p n) (eqb knots (n + p + 1)) e in
     record { sizes = sizes-of p n parts.0; known = eqb-true knots (n + p + 1) parts.1 }
 
-pub spline-counts : (p n : ℕ) (t : List Float) → isSpline p n t ≡ true → countsFit p n (length t) ≡ true
-unfolding isSpline
-spline-counts p n t e = (both (countsFit p n (length t)) (notFalling t) e).0
+pub spline-counts : (p n : ℕ) (t : List Float) → is_spline p n t ≡ true → counts_fit p n (length t) ≡ true
+unfolding is_spline
+spline-counts p n t e = (both (counts_fit p n (length t)) (not_falling t) e).0
 
 -- ---- a count as a double, and back
 pub counted-value : (n : ℕ) → n ≤ 2 ^ 53 → HasValue (counted n) false n 1
@@ -59,19 +59,19 @@ module _ (p : ℕ) (c t : List Float) where
   unfolding row_of
   row-length = ap (λ (n : ℕ). suc (suc n)) (length-append (padded 32 c) (padded 38 t) ∙ (λ i. padded-length 32 c i + padded-length 38 t i))
 
-  module _ (e : countsFit p (length c) (length t) ≡ true) where
+  module _ (e : counts_fit p (length c) (length t) ≡ true) where
     fit : Counts p (length c) (length t)
     fit = counts_of p (length c) (length t) e
 
-    pub stored-degree : degreeIn row ≡ p
+    pub stored-degree : degree_in row ≡ p
     unfolding row_of
     stored-degree = whole-counted p (le_trans fit.sizes.degree (lit≤ tt))
 
-    pub stored-count : countIn row ≡ length c
+    pub stored-count : count_in row ≡ length c
     unfolding row_of
     stored-count = whole-counted (length c) (le_trans fit.sizes.most (lit≤ tt))
 
-    pub stored-control : (i : ℕ) → i < length c → controlAt row i ≡ get_or c i nan
+    pub stored-control : (i : ℕ) → i < length c → control_at row i ≡ get_or c i nan
     unfolding row_of
     stored-control i h =
         let l : i < 32 = omega (arith, fit.sizes.most) in
@@ -82,7 +82,7 @@ module _ (p : ℕ) (c t : List Float) where
         two : (i : ℕ) → 2 + i ≡ suc (suc i)
         two i = omega arith
 
-    pub stored-knot : (i : ℕ) → i < length t → knotAt row i ≡ get_or t i nan
+    pub stored-knot : (i : ℕ) → i < length t → knot_at row i ≡ get_or t i nan
     unfolding row_of
     stored-knot i h =
         let l : i < 38 = omega (arith, fit.sizes.most, fit.sizes.degree, fit.known) in
@@ -95,17 +95,17 @@ module _ (p : ℕ) (c t : List Float) where
 
     pub stored-tells : tells row ≡ true
     stored-tells =
-        (λ i. eq-eqb (length row) 72 row-length i && sizesFit (stored-degree i) (stored-count i))
-        ∙ (both (sizesFit p (length c)) (eqb (length t) (length c + p + 1)) e).0
+        (λ i. eq-eqb (length row) 72 row-length i && sizes_fit (stored-degree i) (stored-count i))
+        ∙ (both (sizes_fit p (length c)) (eqb (length t) (length c + p + 1)) e).0
 
-    pub stored_at : (x : Float) → valueIn row x ≡ splineAt row p (length c) x
-    unfolding valueIn
+    pub stored_at : (x : Float) → value_in row x ≡ spline_at row p (length c) x
+    unfolding value_in
     stored_at x =
-        ap (λ (b : Bool). cond b (splineAt row (degreeIn row) (countIn row) x) nought) stored-tells
-        ∙ (λ i. splineAt row (stored-degree i) (stored-count i) x)
+        ap (λ (b : Bool). cond b (spline_at row (degree_in row) (count_in row) x) nought) stored-tells
+        ∙ (λ i. spline_at row (stored-degree i) (stored-count i) x)
 
-    pub stored-fine : (x : Float) → fineIn row x ≡ splineFine row p (length c) x
-    unfolding fineIn
+    pub stored-fine : (x : Float) → fine_in row x ≡ spline_fine row p (length c) x
+    unfolding fine_in
     stored-fine x =
-        ap (λ (b : Bool). cond b (splineFine row (degreeIn row) (countIn row) x) true) stored-tells
-        ∙ (λ i. splineFine row (stored-degree i) (stored-count i) x)
+        ap (λ (b : Bool). cond b (spline_fine row (degree_in row) (count_in row) x) true) stored-tells
+        ∙ (λ i. spline_fine row (stored-degree i) (stored-count i) x)

@@ -2,7 +2,7 @@
 use Rattle.std.proofs.Common.{◌≡◌, ℕ, zero, suc, ◌+◌, ◌-◌, ◌<◌, ◌≤◌, Bool, true, false, List, ◌∙◌, ⊎_elim, eq-or-lt_of_le, add-one, arith}
 use lib.Ieee.{Float}
 use lib.Ieee.Scale.{finite}
-use Rattle.spline.specs.Walk.{wideAt, wideRound, wideRounds}
+use Rattle.spline.specs.Walk.{wide_at, wide_round, wide_rounds}
 
 -- what stays false once it is
 stays : (f : ℕ → Bool) → ((n : ℕ) → f n ≡ false → f (suc n) ≡ false) → (m n : ℕ) → m ≤ n → f m ≡ false → f n ≡ false
@@ -11,8 +11,8 @@ stays f s m (suc n) h e = ⊎_elim (λ (q : m ≡ suc n). rw q at e) (λ (q : m 
 
 module _ (row : List Float) (p k r : ℕ) where
   -- d[r+1] to d[j] in round r + 1
-  pub round-more : (j : ℕ) → r < j → wideRound row p k r (j - 1 - r) ≡ true → wideRound row p k r (j - r) ≡ finite (wideAt row p k r j)
-  unfolding wideRound
+  pub round-more : (j : ℕ) → r < j → wide_round row p k r (j - 1 - r) ≡ true → wide_round row p k r (j - r) ≡ finite (wide_at row p k r j)
+  unfolding wide_round
   round-more j h e =
       let m : ℕ = j - 1 - r in
       let more : j - r ≡ suc m = omega arith in
@@ -20,13 +20,13 @@ module _ (row : List Float) (p k r : ℕ) where
       rw (more, e, last)
 
   -- and the round's end
-  pub rounds-more : wideRounds row p k r ≡ true → wideRounds row p k (r + 1) ≡ wideRound row p k r (p - r)
-  unfolding wideRounds
+  pub rounds-more : wide_rounds row p k r ≡ true → wide_rounds row p k (r + 1) ≡ wide_round row p k r (p - r)
+  unfolding wide_rounds
   rounds-more e = rw (add-one, e)
 
-  pub not_wide : (j : ℕ) → r < j → j ≤ p → wideRounds row p k r ≡ true → wideRound row p k r (j - 1 - r) ≡ true → finite (wideAt row p k r j) ≡ false
-      → wideRounds row p k p ≡ false
-  unfolding wideRound wideRounds
+  pub not_wide : (j : ℕ) → r < j → j ≤ p → wide_rounds row p k r ≡ true → wide_round row p k r (j - 1 - r) ≡ true → finite (wide_at row p k r j) ≡ false
+      → wide_rounds row p k p ≡ false
+  unfolding wide_round wide_rounds
   not_wide j h g a e f =
-      let round = stays (wideRound row p k r) (λ n z. rw z) (j - r) (p - r) (omega arith) (round-more j h e ∙ f) in
-      stays (wideRounds row p k) (λ n z. rw z) (r + 1) p (omega arith) (rounds-more a ∙ round)
+      let round = stays (wide_round row p k r) (λ n z. rw z) (j - r) (p - r) (omega arith) (round-more j h e ∙ f) in
+      stays (wide_rounds row p k) (λ n z. rw z) (r + 1) p (omega arith) (rounds-more a ∙ round)

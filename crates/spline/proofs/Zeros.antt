@@ -5,7 +5,7 @@ use lib.Ieee.{Float, binary64, of_bits, round, units, odd, sum, add, sub, neg, m
 use lib.Ieee.Exact.{HasValue}
 use Rattle.exact.specs.Doubles.{nought, one, zero_of}
 use Rattle.exact.specs.Signed.{Same, signed}
-use Rattle.exact.specs.Value.{Units, sign_of, unitsOf}
+use Rattle.exact.specs.Value.{Units, sign_of, units_of}
 use Rattle.exact.proofs.Few.{Few, few-value}
 use Rattle.exact.proofs.Sum.{sum_like, sum_first, sum-none}
 use Rattle.exact.proofs.Unit.{one-times}
@@ -36,8 +36,8 @@ unfolding sub add neg sum round units odd of_bits
 one-less-one = refl
 
 -- ---- 1 times a double has its value
-pub one-units : (a : Float) → Number a → Units (mul binary64 one a) (sign_of a) (unitsOf a)
-one-units a A = subst (λ (z : Float). Units z (sign_of a) (unitsOf a)) (sym (one-times a A.fit)) (value_of a A)
+pub one-units : (a : Float) → Number a → Units (mul binary64 one a) (sign_of a) (units_of a)
+one-units a A = subst (λ (z : Float). Units z (sign_of a) (units_of a)) (sym (one-times a A.fit)) (value_of a A)
 
 -- ---- equal numbers differ by a zero
 pub same-difference : (s u : Bool) (a d c : ℕ) → 0 < c → Same (signed s a) (signed u d) → (z : Bool) × (sum binary64 s a (not u) d c ≡ zero_of z)

@@ -8,7 +8,7 @@ use Rattle.ieee.specs.declared.cut.Cut.TheVariants as cut
 use Rattle.exact.specs.Doubles.{nought}
 use Rattle.spline.specs.declared.value.Told.{Told}
 use Rattle.spline.specs.declared.value.Told.TheVariants.{Spline, Nothing}
-use Rattle.spline.specs.Spline.{sizesFit, inDomain, spanAt, dAt, fineAt}
+use Rattle.spline.specs.Spline.{sizes_fit, in_domain, span_at, d_at, fine_at}
 
 -- the whole number that a row holds as a double; 0 for a double that holds none
 abbrev pub number_of : Cut → ℕ
@@ -21,37 +21,37 @@ unfoldable pub whole_of : Float → ℕ
 whole_of x = number_of (cut_of x)
 
 -- the degree and the count of controls that a row tells
-abbrev pub degreeIn : List Float → ℕ
-degreeIn row = whole_of (slice_index_or row 0 nan)
+abbrev pub degree_in : List Float → ℕ
+degree_in row = whole_of (slice_index_or row 0 nan)
 
-abbrev pub countIn : List Float → ℕ
-countIn row = whole_of (slice_index_or row 1 nan)
+abbrev pub count_in : List Float → ℕ
+count_in row = whole_of (slice_index_or row 1 nan)
 
 -- ---- of a degree and a count that fit
 
 -- "The value is d[p]"; "Outside: +0"
-unfoldable pub splineAt : List Float → ℕ → ℕ → Float → Float
-splineAt row p n x = cond (inDomain row p n x) (dAt row p (spanAt row p n x) x p p) nought
+unfoldable pub spline_at : List Float → ℕ → ℕ → Float → Float
+spline_at row p n x = cond (in_domain row p n x) (d_at row p (span_at row p n x) x p p) nought
 
 -- whether no step on the way meets 8; outside there is none
-unfoldable pub splineFine : List Float → ℕ → ℕ → Float → Bool
-splineFine row p n x = cond (inDomain row p n x) (fineAt row p (spanAt row p n x) x p p) true
+unfoldable pub spline_fine : List Float → ℕ → ℕ → Float → Bool
+spline_fine row p n x = cond (in_domain row p n x) (fine_at row p (span_at row p n x) x p p) true
 
 -- ---- of any row: one that tells no spline's sizes, as one of zeros, or has not 72 numbers, is 0 everywhere
 
 abbrev pub tells : List Float → Bool
-tells row = length row == 72 && sizesFit (degreeIn row) (countIn row)
+tells row = length row == 72 && sizes_fit (degree_in row) (count_in row)
 
 -- the degree and the count that the code goes on with
-abbrev pub toldBy : List Float → Told
-toldBy row = cond (tells row) (Spline (degreeIn row) (countIn row)) Nothing
+abbrev pub told_by : List Float → Told
+told_by row = cond (tells row) (Spline (degree_in row) (count_in row)) Nothing
 
-unfoldable pub valueIn : List Float → Float → Float
-valueIn row x = cond (tells row) (splineAt row (degreeIn row) (countIn row) x) nought
+unfoldable pub value_in : List Float → Float → Float
+value_in row x = cond (tells row) (spline_at row (degree_in row) (count_in row) x) nought
 
-unfoldable pub fineIn : List Float → Float → Bool
-fineIn row x = cond (tells row) (splineFine row (degreeIn row) (countIn row) x) true
+unfoldable pub fine_in : List Float → Float → Bool
+fine_in row x = cond (tells row) (spline_fine row (degree_in row) (count_in row) x) true
 
 -- no point meets 8
 abbrev pub AlwaysFine : List Float → Type 0
-AlwaysFine row = (x : Float) → fineIn row x ≡ true
+AlwaysFine row = (x : Float) → fine_in row x ≡ true

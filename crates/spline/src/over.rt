@@ -2,8 +2,8 @@
 ghost use Rattle.std.specs.Prelude.{◌≡◌, ◌<◌, ◌≤◌, true, map, length, replicate};
 ghost use Rattle.exact.specs.Doubles.{nought};
 ghost use Rattle.std.specs.Float.Ieee.{le};
-ghost use Rattle.spline.specs.Spline.{knotAt, inDomain, spanAt, Sizes};
-ghost use Rattle.spline.specs.Value.{splineAt, valueIn, AlwaysFine};
+ghost use Rattle.spline.specs.Spline.{knot_at, in_domain, span_at, Sizes};
+ghost use Rattle.spline.specs.Value.{spline_at, value_in, AlwaysFine};
 ghost use Rattle.spline.specs.Walk.{Tame};
 
 use super::tame::is_tame;
@@ -22,7 +22,7 @@ pub fn always_fine(row: &[f64]) -> bool
 
 // Each point becomes the value at it.
 pub fn over(part: &mut [f64], row: &[f64])
-    ensures { part.new ≡ map (valueIn row.now) part.old }
+    ensures { part.new ≡ map (value_in row.now) part.old }
 {
     match read(row) {
         Told::Spline(p, n) => over_spline(part, row, p, n),
@@ -32,7 +32,7 @@ pub fn over(part: &mut [f64], row: &[f64])
 
 fn over_spline(part: &mut [f64], row: &[f64], p: usize, n: usize)
     requires { Sizes p n × (length row.now ≡ 72) }
-    ensures { part.new ≡ map (splineAt row.now p n) part.old }
+    ensures { part.new ≡ map (spline_at row.now p n) part.old }
 {
     if is_tame(row, p, n) {
         walk(part, row, p, n);
@@ -44,7 +44,7 @@ fn over_spline(part: &mut [f64], row: &[f64], p: usize, n: usize)
 // Where no knot falls, the span of a point is searched from that of the point before it.
 fn walk(part: &mut [f64], row: &[f64], p: usize, n: usize)
     requires { Sizes p n × (length row.now ≡ 72) × Tame row.now p n }
-    ensures { part.new ≡ map (splineAt row.now p n) part.old }
+    ensures { part.new ≡ map (spline_at row.now p n) part.old }
 {
     let mut k = p;
     let mut i: usize = 0;
@@ -63,8 +63,8 @@ fn walk(part: &mut [f64], row: &[f64], p: usize, n: usize)
 // From a span on, if that starts at or below x; else from the first.
 fn span_from(row: &[f64], p: usize, n: usize, last: usize, x: f64) -> usize
     requires sizes { Sizes p n × (length row.now ≡ 72) × Tame row.now p n }
-    requires p_le_last { (p ≤ last) × (last < n) × (inDomain row.now p n x ≡ true) }
-    ensures value { result ≡ spanAt row.now p n x }
+    requires p_le_last { (p ≤ last) × (last < n) × (in_domain row.now p n x ≡ true) }
+    ensures value { result ≡ span_at row.now p n x }
     ensures lower_bound { (p ≤ result) × (result < n) }
 {
     if knot(row, last) <= x {
@@ -75,8 +75,8 @@ fn span_from(row: &[f64], p: usize, n: usize, last: usize, x: f64) -> usize
 
 fn span_up(row: &[f64], p: usize, n: usize, from: usize, x: f64) -> usize
     requires sizes { Sizes p n × (length row.now ≡ 72) × Tame row.now p n }
-    requires p_le_from { (p ≤ from) × (from < n) × (le (knotAt row.now from) x ≡ true) }
-    ensures value { result ≡ spanAt row.now p n x }
+    requires p_le_from { (p ≤ from) × (from < n) × (le (knot_at row.now from) x ≡ true) }
+    ensures value { result ≡ span_at row.now p n x }
     ensures lower_bound { (p ≤ result) × (result < n) }
 {
     let mut k = from;
@@ -92,7 +92,7 @@ fn span_up(row: &[f64], p: usize, n: usize, from: usize, x: f64) -> usize
 // Each point's span is searched anew.
 fn value_each(part: &mut [f64], row: &[f64], p: usize, n: usize)
     requires { Sizes p n × (length row.now ≡ 72) }
-    ensures { part.new ≡ map (splineAt row.now p n) part.old }
+    ensures { part.new ≡ map (spline_at row.now p n) part.old }
 {
     let mut i: usize = 0;
     while i < part.len() {

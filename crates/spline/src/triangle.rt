@@ -1,27 +1,27 @@
 // The de Boor triangle, a column at a time in six numbers.
 ghost use Rattle.std.specs.Prelude.{◌≡◌, ◌+◌, ◌<◌, length};
-ghost use Rattle.spline.specs.Spline.{controlAt, knotAt, alphaOf, blend_of, dAt};
-ghost use Rattle.spline.specs.Walk.{Within, Column, wideRounds};
+ghost use Rattle.spline.specs.Spline.{control_at, knot_at, alpha_of, blend_of, d_at};
+ghost use Rattle.spline.specs.Walk.{Within, Column, wide_rounds};
 
 use ieee::finite::is_finite;
 
 pub(crate) fn control(row: &[f64], i: usize) -> f64
     requires { (i < 32) × (length row.now ≡ 72) }
-    ensures { result ≡ controlAt row.now i }
+    ensures { result ≡ control_at row.now i }
 {
     row[2 + i]
 }
 
 pub(crate) fn knot(row: &[f64], i: usize) -> f64
     requires { (i < 38) × (length row.now ≡ 72) }
-    ensures { result ≡ knotAt row.now i }
+    ensures { result ≡ knot_at row.now i }
 {
     row[34 + i]
 }
 
 // The quotient, with 0/0 taken as 0.
 fn alpha(from: f64, wide: f64) -> f64
-    ensures { result ≡ alphaOf from wide }
+    ensures { result ≡ alpha_of from wide }
 {
     if from == 0.0 {
         if wide == 0.0 {
@@ -74,7 +74,7 @@ fn column(d: &mut [f64; 6], row: &[f64], p: usize, k: usize, x: f64, r: usize)
 // d[p] after round p, on the span k.
 pub(crate) fn de_boor(row: &[f64], p: usize, k: usize, x: f64) -> f64
     requires { Within p k × (length row.now ≡ 72) }
-    ensures { result ≡ dAt row.now p k x p p }
+    ensures { result ≡ d_at row.now p k x p p }
 {
     let mut d = [0.0f64; 6];
     load(&mut d, row, p, k, x);
@@ -89,7 +89,7 @@ pub(crate) fn de_boor(row: &[f64], p: usize, k: usize, x: f64) -> f64
 // Whether hi - lo is finite in every step on the span k.
 pub(crate) fn all_wide(row: &[f64], p: usize, k: usize) -> bool
     requires { Within p k × (length row.now ≡ 72) }
-    ensures { result ≡ wideRounds row.now p k p }
+    ensures { result ≡ wide_rounds row.now p k p }
 {
     let mut r: usize = 0;
     while r < p {

@@ -1,7 +1,7 @@
 // A spline's value at a point, and whether a step on the way to it is not finite.
 ghost use Rattle.std.specs.Prelude.{◌≡◌, ◌<◌, ◌≤◌, length};
-ghost use Rattle.spline.specs.Spline.{inDomain, spanAt, Sizes};
-ghost use Rattle.spline.specs.Value.{whole_of, toldBy, splineAt, splineFine, valueIn, fineIn};
+ghost use Rattle.spline.specs.Spline.{in_domain, span_at, Sizes};
+ghost use Rattle.spline.specs.Value.{whole_of, told_by, spline_at, spline_fine, value_in, fine_in};
 
 use super::check::sizes_fit;
 use super::triangle::{all_wide, de_boor, knot};
@@ -18,7 +18,7 @@ pub enum Told {
 
 // Of a row of 72 numbers. One that tells no spline's sizes, or of another length, is 0 everywhere.
 pub fn value(row: &[f64], x: f64) -> f64
-    ensures { result ≡ valueIn row.now x }
+    ensures { result ≡ value_in row.now x }
 {
     match read(row) {
         Told::Spline(p, n) => value_of(row, p, n, x),
@@ -28,7 +28,7 @@ pub fn value(row: &[f64], x: f64) -> f64
 
 // Whether no step meets 8.
 pub fn is_fine(row: &[f64], x: f64) -> bool
-    ensures { result ≡ fineIn row.now x }
+    ensures { result ≡ fine_in row.now x }
 {
     match read(row) {
         Told::Spline(p, n) => fine_of(row, p, n, x),
@@ -37,7 +37,7 @@ pub fn is_fine(row: &[f64], x: f64) -> bool
 }
 
 pub(crate) fn read(row: &[f64]) -> Told
-    ensures { result ≡ toldBy row.now }
+    ensures { result ≡ told_by row.now }
 {
     if row.len() != 72 {
         return Told::Nothing;
@@ -52,7 +52,7 @@ pub(crate) fn read(row: &[f64]) -> Told
 
 pub(crate) fn value_of(row: &[f64], p: usize, n: usize, x: f64) -> f64
     requires { Sizes p n × (length row.now ≡ 72) }
-    ensures { result ≡ splineAt row.now p n x }
+    ensures { result ≡ spline_at row.now p n x }
 {
     if in_domain(row, p, n, x) {
         return de_boor(row, p, span(row, p, n, x), x);
@@ -62,7 +62,7 @@ pub(crate) fn value_of(row: &[f64], p: usize, n: usize, x: f64) -> f64
 
 fn fine_of(row: &[f64], p: usize, n: usize, x: f64) -> bool
     requires { Sizes p n × (length row.now ≡ 72) }
-    ensures { result ≡ splineFine row.now p n x }
+    ensures { result ≡ spline_fine row.now p n x }
 {
     if in_domain(row, p, n, x) {
         let k = span(row, p, n, x);
@@ -85,7 +85,7 @@ fn whole(x: f64) -> usize
 
 pub(crate) fn in_domain(row: &[f64], p: usize, n: usize, x: f64) -> bool
     requires { Sizes p n × (length row.now ≡ 72) }
-    ensures { result ≡ inDomain row.now p n x }
+    ensures { result ≡ in_domain row.now p n x }
 {
     both(knot(row, p) <= x, x <= knot(row, n))
 }
@@ -93,7 +93,7 @@ pub(crate) fn in_domain(row: &[f64], p: usize, n: usize, x: f64) -> bool
 // The largest k of p..n-1 with t[k] <= x, searched from above.
 fn span(row: &[f64], p: usize, n: usize, x: f64) -> usize
     requires { Sizes p n × (length row.now ≡ 72) }
-    ensures value { result ≡ spanAt row.now p n x }
+    ensures value { result ≡ span_at row.now p n x }
     ensures lower_bound { (p ≤ result) × (result < n) }
 {
     let mut k = n - 1;

@@ -23,8 +23,8 @@ use Rattle.quant.specs.contracts.phaser.phaser as phaser
 use Rattle.quant.specs.contracts.settings.set_up as set-up
 use Rattle.executor.specs.contracts.osc.OscState.shift_phase as shift-phase
 use Rattle.executor.specs.contracts.osc.OscState.set_phase as set-phase
-use Rattle.executor.specs.contracts.osc.OscState.shift_freq as shift-freq
-use Rattle.executor.specs.contracts.osc.OscState.set_freq as set-freq
+use Rattle.executor.specs.contracts.osc.OscState.shift_freq as shift_freq
+use Rattle.executor.specs.contracts.osc.OscState.set_freq as set_freq
 use Rattle.executor.specs.contracts.osc.swap_phase as swap-phase
 use Rattle.host.specs.contracts.skierralu_shift_phase as shift-phase-c
 use Rattle.host.specs.contracts.skierralu_set_phase as set-phase-c
@@ -95,11 +95,11 @@ module _ {M : Type 1} {𝓤 : Ura M} (𝓛 : Logic 𝓤) (mem : Memory → SProp
   pub set-phase-says : Says 𝓤 set-phase.ended (set-phase.clauses 𝓛 mem run) (λ κs a r e. (call.set-phase).Promise (record { osc = a.0; number = a.1.0.0; time = a.1.1.0.0 }) r)
   set-phase-says κs a g r e = (refl, refl)
 
-  pub shift-freq-says : Says 𝓤 shift-freq.ended (shift-freq.clauses 𝓛 mem run) (λ κs a r e. (call.shift-freq).Promise (record { osc = a.0; number = a.1.0.0; time = a.1.1.0.0 }) r)
-  shift-freq-says κs a g r e = (refl, refl)
+  pub shift_freq_says : Says 𝓤 shift_freq.ended (shift_freq.clauses 𝓛 mem run) (λ κs a r e. (call.shift_freq).Promise (record { osc = a.0; number = a.1.0.0; time = a.1.1.0.0 }) r)
+  shift_freq_says κs a g r e = (refl, refl)
 
-  pub set-freq-says : Says 𝓤 set-freq.ended (set-freq.clauses 𝓛 mem run) (λ κs a r e. (call.set-freq).Promise (record { osc = a.0; number = a.1.0.0; time = a.1.1.0.0 }) r)
-  set-freq-says κs a g r e = (refl, refl)
+  pub set_freq_says : Says 𝓤 set_freq.ended (set_freq.clauses 𝓛 mem run) (λ κs a r e. (call.set_freq).Promise (record { osc = a.0; number = a.1.0.0; time = a.1.1.0.0 }) r)
+  set_freq_says κs a g r e = (refl, refl)
 
   pub swap-phase-says : Says 𝓤 swap-phase.ended (swap-phase.clauses 𝓛 mem run) (λ κs a r e. (call.swap-phase).Promise (record { one = a.0; two = a.1.0; time = a.1.1.0.0 }) r)
   swap-phase-says κs a g r e = (refl, refl)
@@ -110,11 +110,11 @@ module _ {M : Type 1} {𝓤 : Ura M} (𝓛 : Logic 𝓤) (mem : Memory → SProp
   pub set-phase-c-says : Says 𝓤 set-phase-c.ended (set-phase-c.clauses 𝓛 mem run) (λ κs a r e. (call.set-phase).Promise (record { osc = a.0; number = a.1.0.0; time = a.1.1.0.0 }) r)
   set-phase-c-says κs a g r e = (refl, refl)
 
-  pub shift-freq-c-says : Says 𝓤 shift-freq-c.ended (shift-freq-c.clauses 𝓛 mem run) (λ κs a r e. (call.shift-freq).Promise (record { osc = a.0; number = a.1.0.0; time = a.1.1.0.0 }) r)
-  shift-freq-c-says κs a g r e = (refl, refl)
+  pub shift_freq_c-says : Says 𝓤 shift-freq-c.ended (shift-freq-c.clauses 𝓛 mem run) (λ κs a r e. (call.shift_freq).Promise (record { osc = a.0; number = a.1.0.0; time = a.1.1.0.0 }) r)
+  shift_freq_c-says κs a g r e = (refl, refl)
 
-  pub set-freq-c-says : Says 𝓤 set-freq-c.ended (set-freq-c.clauses 𝓛 mem run) (λ κs a r e. (call.set-freq).Promise (record { osc = a.0; number = a.1.0.0; time = a.1.1.0.0 }) r)
-  set-freq-c-says κs a g r e = (refl, refl)
+  pub set_freq_c-says : Says 𝓤 set-freq-c.ended (set-freq-c.clauses 𝓛 mem run) (λ κs a r e. (call.set_freq).Promise (record { osc = a.0; number = a.1.0.0; time = a.1.1.0.0 }) r)
+  set_freq_c-says κs a g r e = (refl, refl)
 
   pub swap-phase-c-says : Says 𝓤 swap-phase-c.ended (swap-phase-c.clauses 𝓛 mem run) (λ κs a r e. (call.swap-phase).Promise (record { one = a.0; two = a.1.0; time = a.1.1.0.0 }) r)
   swap-phase-c-says κs a g r e = (refl, refl)

@@ -6,10 +6,10 @@ use prog.Memory.{Memory}
 use prog.Routine.{Routine}
 use types.Logic.{Logic}
 use contract.Monad.{Fun}
-use Rattle.hex.specs.contracts.read as hex-read
+use Rattle.hexadecimal.specs.contracts.read as hex-read
 use Rattle.lines.specs.contracts.field.number_at as number-at
 use Rattle.naming.specs.contracts.from_bytes as from_bytes
-use Rattle.hex.specs.contracts.write as hex-write
+use Rattle.hexadecimal.specs.contracts.write as hex-write
 use Rattle.decimal.specs.contracts.print.put_double as put-double
 use Rattle.naming.specs.contracts.write as name-write
 use Rattle.decimal.specs.contracts.number.read as decimal-read
@@ -17,10 +17,10 @@ use Rattle.decimal.specs.contracts.digits.figures as figures
 use Rattle.fields.specs.contracts.value.number_in as number_in
 use Rattle.fields.specs.contracts.value.whole_in as whole_in
 use Rattle.fields.specs.contracts.value.name_in as name_in
-use Rattle.fields.specs.contracts.value.shape_in as shape-in
-use Rattle.fields.specs.contracts.value.flag_in as flag-in
+use Rattle.fields.specs.contracts.value.shape_in as shape_in
+use Rattle.fields.specs.contracts.value.flag_in as flag_in
 use Rattle.fields.specs.contracts.value.level_in as level_in
-use Rattle.fields.specs.contracts.pair.pair_in as pair-in
+use Rattle.fields.specs.contracts.pair.pair_in as pair_in
 use Rattle.fields.specs.contracts.words.value_at as value-at
 use Rattle.fields.specs.contracts.words.count as words_count
 use Rattle.job.specs.contracts.line.read as job_read
@@ -59,26 +59,26 @@ module _ {M : Type 1} {𝓤 : Ura M} (𝓛 : Logic 𝓤) (mem : Memory → SProp
   pub figures-says : Says 𝓤 figures.ended (figures.clauses 𝓛 mem run) (λ κs a r e. (call.figures).Promise a.0.now r)
   figures-says κs a g r e = (refl, refl)
 
-  pub number-in-says : Says 𝓤 number_in.ended (number_in.clauses 𝓛 mem run) (λ κs a r e. (call.number_in).Promise (record { line = a.0.now; k = a.1.0; key = a.1.1.0.now }) r)
-  number-in-says κs a g r e = (refl, refl)
+  pub number_in_says : Says 𝓤 number_in.ended (number_in.clauses 𝓛 mem run) (λ κs a r e. (call.number_in).Promise (record { line = a.0.now; k = a.1.0; key = a.1.1.0.now }) r)
+  number_in_says κs a g r e = (refl, refl)
 
-  pub whole-in-says : Says 𝓤 whole_in.ended (whole_in.clauses 𝓛 mem run) (λ κs a r e. (call.whole_in).Promise (record { line = a.0.now; k = a.1.0; key = a.1.1.0.now }) r)
-  whole-in-says κs a g r e = (refl, refl)
+  pub whole_in_says : Says 𝓤 whole_in.ended (whole_in.clauses 𝓛 mem run) (λ κs a r e. (call.whole_in).Promise (record { line = a.0.now; k = a.1.0; key = a.1.1.0.now }) r)
+  whole_in_says κs a g r e = (refl, refl)
 
-  pub name-in-says : Says 𝓤 name_in.ended (name_in.clauses 𝓛 mem run) (λ κs a r e. (call.name_in).Promise (record { line = a.0.now; k = a.1.0; key = a.1.1.0.now }) r)
-  name-in-says κs a g r e = (refl, refl)
+  pub name_in_says : Says 𝓤 name_in.ended (name_in.clauses 𝓛 mem run) (λ κs a r e. (call.name_in).Promise (record { line = a.0.now; k = a.1.0; key = a.1.1.0.now }) r)
+  name_in_says κs a g r e = (refl, refl)
 
-  pub shape-in-says : Says 𝓤 shape-in.ended (shape-in.clauses 𝓛 mem run) (λ κs a r e. (call.shape-in).Promise (record { line = a.0.now; k = a.1.0; key = a.1.1.0.now }) r)
-  shape-in-says κs a g r e = (refl, refl)
+  pub shape_in_says : Says 𝓤 shape_in.ended (shape_in.clauses 𝓛 mem run) (λ κs a r e. (call.shape_in).Promise (record { line = a.0.now; k = a.1.0; key = a.1.1.0.now }) r)
+  shape_in_says κs a g r e = (refl, refl)
 
-  pub flag-in-says : Says 𝓤 flag-in.ended (flag-in.clauses 𝓛 mem run) (λ κs a r e. (call.flag-in).Promise (record { line = a.0.now; k = a.1.0; key = a.1.1.0.now }) r)
-  flag-in-says κs a g r e = (refl, refl)
+  pub flag_in_says : Says 𝓤 flag_in.ended (flag_in.clauses 𝓛 mem run) (λ κs a r e. (call.flag_in).Promise (record { line = a.0.now; k = a.1.0; key = a.1.1.0.now }) r)
+  flag_in_says κs a g r e = (refl, refl)
 
-  pub level-in-says : Says 𝓤 level_in.ended (level_in.clauses 𝓛 mem run) (λ κs a r e. (call.level_in).Promise (record { line = a.0.now; k = a.1.0; key = a.1.1.0.now }) r)
-  level-in-says κs a g r e = (refl, refl)
+  pub level_in_says : Says 𝓤 level_in.ended (level_in.clauses 𝓛 mem run) (λ κs a r e. (call.level_in).Promise (record { line = a.0.now; k = a.1.0; key = a.1.1.0.now }) r)
+  level_in_says κs a g r e = (refl, refl)
 
-  pub pair-in-says : Says 𝓤 pair-in.ended (pair-in.clauses 𝓛 mem run) (λ κs a r e. (call.pair-in).Promise (record { line = a.0.now; k = a.1.0; first = a.1.1.0.now; l = a.1.1.1.0; second = a.1.1.1.1.0.now }) r)
-  pair-in-says κs a g r e = (refl, refl)
+  pub pair_in_says : Says 𝓤 pair_in.ended (pair_in.clauses 𝓛 mem run) (λ κs a r e. (call.pair_in).Promise (record { line = a.0.now; k = a.1.0; first = a.1.1.0.now; l = a.1.1.1.0; second = a.1.1.1.1.0.now }) r)
+  pair_in_says κs a g r e = (refl, refl)
 
   pub value-at-says : Says 𝓤 value-at.ended (value-at.clauses 𝓛 mem run) (λ κs a r e. (call.value-at).Promise (record { line = a.0.now; k = a.1.0; key = a.1.1.0.now }) r)
   value-at-says κs a g r e = (refl, refl)

@@ -35,27 +35,27 @@ module _ (c : Call) where
 -- ---- of a call on two rows: rows of 1 hold 2 then, and rows of 0 do not
 
 -- whether a row's first sample is 2
-unfoldable pub isTwo : List Float → Bool
-isTwo row = eq (get_or row 0 nan) (whole 2)
+unfoldable pub is_two : List Float → Bool
+is_two row = eq (get_or row 0 nan) (whole 2)
 
-pub one-is-not : isTwo (whole 1 ∷ []) ≡ false
-unfolding isTwo eq round
+pub one-is-not : is_two (whole 1 ∷ []) ≡ false
+unfolding is_two eq round
 one-is-not = refl
 
 module _ (c : Call) (left : Row → c.Left → List Float) (came : Row → c.Given → List Float) where
   pub rows-move : (x y : c.Given) (u v : c.Left) → Only c x u → Only c y v → c.accepted u ≡ true → c.accepted v ≡ true
       → ((r : Row) → came r x ≡ whole 1 ∷ []) → ((r : Row) → came r y ≡ whole 0 ∷ [])
-      → ((r : Row) → isTwo (left r u) ≡ true) → ((r : Row) → isTwo (left r v) ≡ false) → RowsMove c left came x y
+      → ((r : Row) → is_two (left r u) ≡ true) → ((r : Row) → is_two (left r v) ≡ false) → RowsMove c left came x y
   rows-move x y u v only_x only-y takes-x takes-y one nought two not-two =
       record {
-        untouched = λ r. not-always c (left r) (came r) isTwo x u only_x takes-x (two r) (ap isTwo (one r) ∙ one-is-not);
-        fixed = λ r. not-fixed c (left r) (λ (a : c.Given). length (came r a)) isTwo x y u v only_x only-y takes-x takes-y (ap length (one r) ∙ sym (ap length (nought r))) (two r) (not-two r);
+        untouched = λ r. not-always c (left r) (came r) is_two x u only_x takes-x (two r) (ap is_two (one r) ∙ one-is-not);
+        fixed = λ r. not-fixed c (left r) (λ (a : c.Given). length (came r a)) is_two x y u v only_x only-y takes-x takes-y (ap length (one r) ∙ sym (ap length (nought r))) (two r) (not-two r);
       }
 
   -- the same, row by row
   pub both-rows-move : (x y : c.Given) (u v : c.Left) → Only c x u → Only c y v → c.accepted u ≡ true → c.accepted v ≡ true
       → came I x ≡ whole 1 ∷ [] → came Q x ≡ whole 1 ∷ [] → came I y ≡ whole 0 ∷ [] → came Q y ≡ whole 0 ∷ []
-      → isTwo (left I u) ≡ true → isTwo (left Q u) ≡ true → isTwo (left I v) ≡ false → isTwo (left Q v) ≡ false → RowsMove c left came x y
+      → is_two (left I u) ≡ true → is_two (left Q u) ≡ true → is_two (left I v) ≡ false → is_two (left Q v) ≡ false → RowsMove c left came x y
   both-rows-move x y u v only_x only-y takes-x takes-y i-one q-one i-nought q-nought i-two q-two i-not q-not =
       rows-move x y u v only_x only-y takes-x takes-y one nought two not-two
     where
@@ -67,11 +67,11 @@ module _ (c : Call) (left : Row → c.Left → List Float) (came : Row → c.Giv
       nought I = i-nought
       nought Q = q-nought
 
-      two : (r : Row) → isTwo (left r u) ≡ true
+      two : (r : Row) → is_two (left r u) ≡ true
       two I = i-two
       two Q = q-two
 
-      not-two : (r : Row) → isTwo (left r v) ≡ false
+      not-two : (r : Row) → is_two (left r v) ≡ false
       not-two I = i-not
       not-two Q = q-not
 

@@ -9,18 +9,18 @@ use lib.ListN.{length, take, drop, replicate}
 use Rattle.exact.specs.Doubles.{nought}
 use Rattle.naming.specs.declared.Name.{Name}
 use Rattle.naming.specs.Name as name
-use Rattle.hex.specs.Hex as hex
+use Rattle.hexadecimal.specs.Hex as hex
 use Rattle.lines.specs.Field.{number_at}
 use Rattle.decimal.specs.Digits as digits
 use Rattle.decimal.specs.Number as number
 use Rattle.fields.specs.declared.words.Span.{Span}
 use Rattle.fields.specs.declared.words.Span.TheVariants as span
-use Rattle.fields.specs.Words.{words_of, isWord, Found}
+use Rattle.fields.specs.Words.{words_of, is_word, Found}
 use Rattle.fields.specs.Value as value
 use Rattle.job.specs.Line as line
 use Rattle.job.specs.List as list
 use Rattle.job.specs.Turn.{turn_of}
-use Rattle.numbers.specs.Numbers.{numbersOf, listed}
+use Rattle.numbers.specs.Numbers.{numbers_of, listed}
 use Rattle.quant.specs.declared.refusal.Answer.{Answer}
 use Rattle.sheet.specs.declared.print.Printed.{Printed}
 use Rattle.sheet.specs.declared.print.Printed.TheVariants.{Bytes, Refused}
@@ -29,7 +29,7 @@ use Rattle.sheet_answer.specs.Answer as answer
 use Rattle.lines.specs.Text.{lines_of}
 use Rattle.job_sheet.specs.First as first
 use Rattle.job_sheet.specs.Inset as inset
-use Rattle.sampler_laws.specs.Added.{countIn}
+use Rattle.sampler_laws.specs.Added.{count_in}
 use Rattle.bench_table.specs.Call.{channel}
 use Rattle.stand_ins.specs.Whole.{anything}
 use Rattle.stand_ins.specs.ByValue.{always}
@@ -61,7 +61,7 @@ module _ (n : ℕ) where
   abbrev read : text.Held
   read =
       let o = sheet.outcome (given.sheet-text n) 64 in
-      record { reading = record { answer = sheet.answer_of o; names = sheet.names_of o }; matrix = sheet.matrixOf o (replicate 64 nought) }
+      record { reading = record { answer = sheet.answer_of o; names = sheet.names_of o }; matrix = sheet.matrix_of o (replicate 64 nought) }
 
   only-read : Only text.sheet-read (given.sheet n) read
   only-read z p = λ j. record { reading = record { answer = p.answered j; names = p.named j }; matrix = p.left j }
@@ -69,14 +69,14 @@ module _ (n : ℕ) where
   abbrev put : text.Out
   put =
       let x = given.printing n in
-      let r = sheet.printedOf x.count x.names x.matrix 256 in
-      record { printed = r; out = sheet.bytesAfter x.count x.names x.matrix r x.out }
+      let r = sheet.printed_of x.count x.names x.matrix 256 in
+      record { printed = r; out = sheet.bytes_after x.count x.names x.matrix r x.out }
 
   only-print : Only text.sheet-print (given.printing n) put
   only-print z p = λ j. record { printed = p.answered j; out = p.left j }
 
   abbrev answered : text.Out
-  answered = record { printed = answer.answerPrints (given.sheet-text n) 4096; out = answer.answerLeft (given.sheet-text n) (replicate 4096 0) }
+  answered = record { printed = answer.answer_prints (given.sheet-text n) 4096; out = answer.answer_left (given.sheet-text n) (replicate 4096 0) }
 
   only-answer : Only text.sheet-answer (given.answering n) answered
   only-answer z p = λ j. record { printed = p.answer j; out = p.left j }
@@ -85,59 +85,59 @@ abbrev taken : text.Left
 taken =
     let x = given.sheet-behind in
     let f = first.first_of x.count x.text in
-    record { taken = inset.taken_of x.text x.count x.cross 64 f; factors = inset.factorsAfter x.text x.factors f }
+    record { taken = inset.taken_of x.text x.count x.cross 64 f; factors = inset.factors_after x.text x.factors f }
 
 only-taken : Only text.take-sheet given.sheet-behind taken
 only-taken z p = λ j. record { taken = p.taken j; factors = p.left j }
 
 -- something stands behind the key, so that the place is told
-isBehind : sheet.Behind → Bool
-isBehind (sheet.value bytes) = true
-isBehind sheet.other = false
+is_behind : sheet.Behind → Bool
+is_behind (sheet.value bytes) = true
+is_behind sheet.other = false
 
 stands : (z : Span) → Found given.q-text 0 [] z → text.is_at z ≡ true
-unfolding isBehind words_of sheet.behind
+unfolding is_behind words_of sheet.behind
 stands (span.At from to) p = refl
-stands span.Missing p = sym (ap isBehind p.is)
+stands span.Missing p = sym (ap is_behind p.is)
 
 -- what tells a count of 1, and the bytes of one channel's sheet
-isOne : ℕ → Bool
-isOne n = eqb n 1
+is_one : ℕ → Bool
+is_one n = eqb n 1
 
-isShort : Printed → Bool
-isShort (Bytes n) = eqb n 50
-isShort (Refused r line) = false
+is_short : Printed → Bool
+is_short (Bytes n) = eqb n 50
+is_short (Refused r line) = false
 
 pub texts : Texts
-unfolding isOne isShort of_bits round to_bits hex.digitValue hex.digitOf hex.allDigits hex.number hex.digits hex.room hex.field hex.word_at hex.written number_at name.nameByte name.every name.accepted name.wordOf name.low_bytes name.bytesOfWord name.sixteen name.bytes_of name.pastEnd name.named name.namingOf name.isName name.inPlace name.same_name name.writable name.written number.parted number.significandOf number.fewOf number.powerOf number.powerAt number.scaledBy number.size_of number.hexSizeOf number.isHex number.unsignedOf number.decimalOf number.number_of digits.place_of digits.digitOf digits.digitsFrom digits.digitsOf value.numberField value.wholeField value.pairField value.name_of value.nameField value.shapeField value.flagOf value.flagField value.signed value.levelOf value.levelField words_of isWord line.tables_of line.channelOf line.shape_of line.rows_of line.sampleOf line.actionOf line.setting_of line.line_of list.allNumbers list.numbersFrom turn_of numbersOf sheet.channelsKey sheet.columnKey sheet.rowKey sheet.factorKey sheet.onto sheet.cut sheet.behind name.isIn sheet.position sheet.nothing sheet.countStep sheet.columnNamed sheet.columnStep sheet.rowNamed sheet.rowStep sheet.factorBits sheet.factorStep sheet.step sheet.complete sheet.onward sheet.readFrom sheet.outcome sheet.answer_of sheet.blank sheet.eight sheet.names_of sheet.doubles sheet.under sheet.rowsFor sheet.matrixOf sheet.rowNames sheet.goodNames sheet.single sheet.among sheet.finiteBits sheet.fullBlocks sheet.countText sheet.columnsText sheet.factorsText sheet.blocksText sheet.sheetText sheet.patterns sheet.blocksOf sheet.sheetOf sheet.allFinite sheet.printFits sheet.columnsJudged sheet.factorAt sheet.factorsJudged sheet.printedBy sheet.printedOf sheet.bytesAfter answer.decimalOf answer.decimal answer.refusedKey answer.line_key answer.refusedText answer.zeros answer.textFor answer.answerText answer.answerPrints answer.answerLeft lines_of first.linesBytes first.first_of inset.taken_of inset.factorsAfter
+unfolding is_one is_short of_bits round to_bits hex.digit_value hex.digit_of hex.all_digits hex.number hex.digits hex.room hex.field hex.word_at hex.written number_at name.name_byte name.every name.accepted name.word_of name.low_bytes name.bytes_of_word name.sixteen name.bytes_of name.past_end name.named name.naming_of name.is_name name.in_place name.same_name name.writable name.written number.parted number.significand_of number.few_of number.power_of number.power_at number.scaled_by number.size_of number.hex_size_of number.is_hex number.unsigned_of number.decimal_of number.number_of digits.place_of digits.digit_of digits.digits_from digits.digits_of value.number_field value.whole_field value.pair_field value.name_of value.name_field value.shape_field value.flag_of value.flag_field value.signed value.level_of value.level_field words_of is_word line.tables_of line.channel_of line.shape_of line.rows_of line.sample_of line.action_of line.setting_of line.line_of list.all_numbers list.numbers_from turn_of numbers_of sheet.channels_key sheet.column_key sheet.row_key sheet.factor_key sheet.onto sheet.cut sheet.behind name.is_in sheet.position sheet.nothing sheet.count_step sheet.column_named sheet.column_step sheet.row_named sheet.row_step sheet.factor_bits sheet.factor_step sheet.step sheet.complete sheet.onward sheet.read_from sheet.outcome sheet.answer_of sheet.blank sheet.eight sheet.names_of sheet.doubles sheet.under sheet.rows_for sheet.matrix_of sheet.row_names sheet.good_names sheet.single sheet.among sheet.finite_bits sheet.full_blocks sheet.count_text sheet.columns_text sheet.factors_text sheet.blocks_text sheet.sheet_text sheet.patterns sheet.blocks_of sheet.sheet_of sheet.all_finite sheet.print_fits sheet.columns_judged sheet.factor_at sheet.factors_judged sheet.printed_by sheet.printed_of sheet.bytes_after answer.decimal_of answer.decimal answer.refused_key answer.line_key answer.refused_text answer.zeros answer.text_for answer.answer_text answer.answer_prints answer.answer_left lines_of first.lines_bytes first.first_of inset.taken_of inset.factors_after
 texts =
     record {
-      hex-read = accepts _ text.isWord (given.first given.sixteen-digits) refl;
+      hex-read = accepts _ text.is_word (given.first given.sixteen-digits) refl;
       hex-write = not-all-refused text.hex-write _ _ (only-hex (given.first given.sixteen-digits) 0) refl;
       put-double = not-all-refused text.put-double _ _ (only-double (given.first given.sixteen-digits) nought) refl;
-      number-at = accepts _ text.isWord (given.first given.blank-digits) refl;
-      name-read = accepts _ text.isNamed given.q-text refl;
+      number-at = accepts _ text.is_word (given.first given.blank-digits) refl;
+      name-read = accepts _ text.is_named given.q-text refl;
       name-write = not-all-refused text.name-write _ _ (only-name (given.first given.q-text) channel) refl;
-      decimal-read = accepts _ text.isDouble given.one-text refl;
+      decimal-read = accepts _ text.is_double given.one-text refl;
       figures = accepts _ text.is_value given.one-text refl;
-      number_in = accepts _ text.isDouble (given.bare given.one-text) refl;
+      number_in = accepts _ text.is_double (given.bare given.one-text) refl;
       whole_in = accepts _ text.is_value (given.bare given.one-text) refl;
-      name_in = accepts _ text.isCalled (given.bare given.q-text) refl;
-      shape-in = accepts _ text.isShaped (given.bare given.q-text) refl;
-      flag-in = accepts _ text.isFlag (given.bare given.one-text) refl;
-      level_in = accepts _ text.isLevel (given.bare given.one-text) refl;
-      pair-in = accepts _ text.isBoth given.bare-two refl;
+      name_in = accepts _ text.is_called (given.bare given.q-text) refl;
+      shape_in = accepts _ text.is_shaped (given.bare given.q-text) refl;
+      flag_in = accepts _ text.is_flag (given.bare given.one-text) refl;
+      level_in = accepts _ text.is_level (given.bare given.one-text) refl;
+      pair_in = accepts _ text.is_both given.bare-two refl;
       value-at = λ Asked f keeps asked refuses. true≢false (sym (stands _ (keeps _ asked)) ∙ refuses _ asked);
       job_read = accepts _ text.is_line given.run-text refl;
       all-numbers = accepts _ (λ b. b) (given.first given.one-text) refl;
-      turn_by = accepts _ text.isTurn given.turn-line refl;
+      turn_by = accepts _ text.is_turn given.turn-line refl;
       sheet-read = not-all-refused text.sheet-read _ _ (only-read 1) refl;
       sheet-print = not-all-refused text.sheet-print _ _ (only-print 1) refl;
       sheet-answer = not-all-refused text.sheet-answer _ _ (only-answer 1) refl;
       take-sheet = not-all-refused text.take-sheet _ _ only-taken refl;
-      words-counted = varies _ always itself anything isOne given.one-text given.two-ones refl refl refl refl refl;
-      numbers-counted = not-fixed text.list-numbers (λ (y : text.Numbered). y.count) anything isOne _ _ _ _ (only-list given.one-text) (only-list given.two-ones) refl refl refl refl refl;
-      columns-counted = not-fixed text.sheet-read (λ (y : text.Held). y.reading.answer) anything (λ (r : Answer). isOne (countIn r)) _ _ _ _ (only-read 1) (only-read 2) refl refl refl refl refl;
-      bytes_counted = not-fixed text.sheet-print (λ (y : text.Out). y.printed) anything isShort _ _ _ _ (only-print 1) (only-print 2) refl refl refl refl refl;
-      answer-counted = not-fixed text.sheet-answer (λ (y : text.Out). y.printed) anything isShort _ _ _ _ (only-answer 1) (only-answer 2) refl refl refl refl refl;
+      words-counted = varies _ always itself anything is_one given.one-text given.two-ones refl refl refl refl refl;
+      numbers-counted = not-fixed text.list-numbers (λ (y : text.Numbered). y.count) anything is_one _ _ _ _ (only-list given.one-text) (only-list given.two-ones) refl refl refl refl refl;
+      columns-counted = not-fixed text.sheet-read (λ (y : text.Held). y.reading.answer) anything (λ (r : Answer). is_one (count_in r)) _ _ _ _ (only-read 1) (only-read 2) refl refl refl refl refl;
+      bytes_counted = not-fixed text.sheet-print (λ (y : text.Out). y.printed) anything is_short _ _ _ _ (only-print 1) (only-print 2) refl refl refl refl refl;
+      answer-counted = not-fixed text.sheet-answer (λ (y : text.Out). y.printed) anything is_short _ _ _ _ (only-answer 1) (only-answer 2) refl refl refl refl refl;
     }

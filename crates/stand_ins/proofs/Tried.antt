@@ -4,48 +4,48 @@ use mathlib.Core.List.{[], ◌∷◌}
 use lib.Ieee.{add, sub, mul, div, rem, neg, lt, eq, le, sum, round, of_bits, of_int}
 use Rattle.ieee.specs.Ceiling.{ceiling}
 use Rattle.ieee.specs.Cut.{cut_of}
-use Rattle.ieee.specs.Exp2.{exp2Of}
+use Rattle.ieee.specs.Exp2.{exp2_of}
 use Rattle.fma.specs.Fused.{fma}
 use Rattle.trig.specs.Reduce.{wrapped, reduced}
-use Rattle.trig.specs.Trig.{horner, cosineAt, sineAt, cosineOf, sineOf}
-use Rattle.rows.specs.Rows.{allFinite}
-use Rattle.naming.specs.Name.{nameByte, every, low_bytes, bytesOfWord, sixteen, bytes_of, pastEnd, isName, same_name}
-use Rattle.mixer.specs.Mixer.{correctedRow, mixerFits}
-use Rattle.iir.specs.Section.{ran, sectionsFrom, a0sFrom}
+use Rattle.trig.specs.Trig.{horner, cosine_at, sine_at, cosine_of, sine_of}
+use Rattle.rows.specs.Rows.{all_finite}
+use Rattle.naming.specs.Name.{name_byte, every, low_bytes, bytes_of_word, sixteen, bytes_of, past_end, is_name, same_name}
+use Rattle.mixer.specs.Mixer.{corrected_row, mixer_fits}
+use Rattle.iir.specs.Section.{ran, sections_from, a0s_from}
 use Rattle.iir.specs.Filter.{given, pipelined, turns}
-use Rattle.ring.specs.Ring.{tapAt, sum_to, filteredFrom}
+use Rattle.ring.specs.Ring.{tap_at, sum_to, filtered_from}
 use Rattle.quant.specs.declared.refusal.Answer.TheVariants.{Done}
-use Rattle.shape.specs.Hann.{hannOf}
+use Rattle.shape.specs.Hann.{hann_of}
 use Rattle.points.specs.Points.{points}
-use Rattle.spline.specs.Spline.{notFalling, isSpline, inDomain, spanTo, blend_of, fineStep, dAt, fineAt}
+use Rattle.spline.specs.Spline.{not_falling, is_spline, in_domain, span_to, blend_of, fine_step, d_at, fine_at}
 use Rattle.spline.specs.Row as spline-row
-use Rattle.spline.specs.Value.{whole_of, splineAt, splineFine, valueIn, fineIn}
+use Rattle.spline.specs.Value.{whole_of, spline_at, spline_fine, value_in, fine_in}
 use Rattle.spline.specs.Same.{same_numbers}
-use Rattle.shape.specs.Segment.{envelopeAt, pointFine, values, allFine}
-use Rattle.shape.specs.Parts.{index_at, partedOf}
-use Rattle.shape.specs.Envelope.{shape_of, finitePoints, finePoints}
-use Rattle.pulse.specs.Bin.{sameRow, place_of}
-use Rattle.pulse.specs.Envelope.{envelopeOf}
-use Rattle.placing.specs.Phases.{phase0, dphase, startPair, rotationPair, phaseNumbers}
+use Rattle.shape.specs.Segment.{envelope_at, point_fine, values, all_fine}
+use Rattle.shape.specs.Parts.{index_at, parted_of}
+use Rattle.shape.specs.Envelope.{shape_of, finite_points, fine_points}
+use Rattle.pulse.specs.Bin.{same_row, place_of}
+use Rattle.pulse.specs.Envelope.{envelope_of}
+use Rattle.placing.specs.Phases.{phase0, dphase, start_pair, rotation_pair, phase_numbers}
 use Rattle.placing.specs.Judged.{judged}
-use Rattle.tables.specs.Tables.{found_from, shapeFrom, settled, settledShape}
-use Rattle.merge.specs.Sum.{keptFrom, summedBy}
-use Rattle.merge.specs.Join.{joined, joinedTwo}
+use Rattle.tables.specs.Tables.{found_from, shape_from, settled, settled_shape}
+use Rattle.merge.specs.Sum.{kept_from, summed_by}
+use Rattle.merge.specs.Join.{joined, joined_two}
 use Rattle.merge.specs.Taking.{packed, zipped}
-use Rattle.crosstalk.specs.Crosstalk.{allNames, namesJudged, rowFrom, part_of, parts_at, planned}
-use Rattle.mix.specs.Part.{onPart}
+use Rattle.crosstalk.specs.Crosstalk.{all_names, names_judged, row_from, part_of, parts_at, planned}
+use Rattle.mix.specs.Part.{on_part}
 use Rattle.mix.specs.Plateau.{carried}
 use Rattle.mix.specs.Envelope.{shaped}
-use Rattle.mixdown.specs.Runs.{ofMark}
-use Rattle.mixdown.specs.Bins.{all_rows, firstsAfter}
-use Rattle.mixdown.specs.Sampled.{ranPulses, ranBins}
+use Rattle.mixdown.specs.Runs.{of_mark}
+use Rattle.mixdown.specs.Bins.{all_rows, firsts_after}
+use Rattle.mixdown.specs.Sampled.{ran_pulses, ran_bins}
 use Rattle.commands.specs.Command.{good, required}
 use Rattle.commands.specs.Run as run
 use Rattle.sampler.specs.Sampler.{sampled}
-use Rattle.sampler_laws.specs.Added.{dues_of, allDues, withAll}
+use Rattle.sampler_laws.specs.Added.{dues_of, all_dues, with_all}
 use Rattle.system.specs.System.{outcome}
 use Rattle.bench_table.specs.Numbers.{whole}
-use Rattle.stand_ins.specs.Whole.{plateau, hann, spline, mixer, iir, fir, make, add-channel, add-shape, add-spline, execute, no-command, no-pulse, two-pulses, two-bins, Try, Trial, ones, noughts, also, tryOf, samplingOf, firstPulse, firstBin}
+use Rattle.stand_ins.specs.Whole.{plateau, hann, spline, mixer, iir, fir, make, add-channel, add-shape, add-spline, execute, no-command, no-pulse, two-pulses, two-bins, Try, Trial, ones, noughts, also, try_of, sampling_of, first_pulse, first_bin}
 
 pub record Tried (t : Try) : Type 0 where
   pub answer : (outcome t.asking.state t.asking.call).answer ≡ Done t.count
@@ -54,18 +54,18 @@ pub record Tried (t : Try) : Type 0 where
 
 -- with the first pulse, or with the pulses of the first bin, alone, the rows would hold 1
 pub record TriedFirst : Type 0 where
-  pub pulse : (firstPulse (samplingOf two-pulses)).i ≡ whole 1 ∷ []
-  pub bin : (firstBin (samplingOf two-bins)).i ≡ whole 1 ∷ []
+  pub pulse : (first_pulse (sampling_of two-pulses)).i ≡ whole 1 ∷ []
+  pub bin : (first_bin (sampling_of two-bins)).i ≡ whole 1 ∷ []
 
 pub record All : Type 0 where
-  pub each : (t : Trial) → Tried (tryOf t)
+  pub each : (t : Trial) → Tried (try_of t)
   pub first : TriedFirst
 
 pub tried : All
-unfolding outcome add sub mul div rem neg lt eq le sum round of_bits of_int ceiling cut_of exp2Of fma wrapped reduced horner cosineAt sineAt cosineOf sineOf allFinite nameByte every low_bytes bytesOfWord sixteen bytes_of pastEnd isName same_name correctedRow mixerFits ran sectionsFrom a0sFrom given pipelined turns tapAt sum_to filteredFrom points notFalling isSpline inDomain spanTo blend_of fineStep dAt fineAt spline-row.row_of whole_of splineAt splineFine valueIn fineIn envelopeAt pointFine values allFine index_at partedOf shape_of finitePoints finePoints hannOf same_numbers sameRow place_of envelopeOf phase0 dphase startPair rotationPair phaseNumbers judged found_from shapeFrom settled settledShape keptFrom summedBy joined joinedTwo packed zipped allNames namesJudged rowFrom part_of parts_at planned onPart carried shaped ofMark all_rows firstsAfter good required run.acted run.ran ranPulses ranBins sampled dues_of allDues withAll
+unfolding outcome add sub mul div rem neg lt eq le sum round of_bits of_int ceiling cut_of exp2_of fma wrapped reduced horner cosine_at sine_at cosine_of sine_of all_finite name_byte every low_bytes bytes_of_word sixteen bytes_of past_end is_name same_name corrected_row mixer_fits ran sections_from a0s_from given pipelined turns tap_at sum_to filtered_from points not_falling is_spline in_domain span_to blend_of fine_step d_at fine_at spline-row.row_of whole_of spline_at spline_fine value_in fine_in envelope_at point_fine values all_fine index_at parted_of shape_of finite_points fine_points hann_of same_numbers same_row place_of envelope_of phase0 dphase start_pair rotation_pair phase_numbers judged found_from shape_from settled settled_shape kept_from summed_by joined joined_two packed zipped all_names names_judged row_from part_of parts_at planned on_part carried shaped of_mark all_rows firsts_after good required run.acted run.ran ran_pulses ran_bins sampled dues_of all_dues with_all
 tried = record { each = each; first = record { pulse = refl; bin = refl } }
   where
-    each : (t : Trial) → Tried (tryOf t)
+    each : (t : Trial) → Tried (try_of t)
     each (ones plateau) = record { answer = refl; i = refl; q = refl }
     each (ones hann) = record { answer = refl; i = refl; q = refl }
     each (ones spline) = record { answer = refl; i = refl; q = refl }

@@ -5,32 +5,32 @@ use Rattle.quant.specs.declared.refusal.Answer.{Answer}
 use Rattle.quant.specs.declared.settings.Settings.{Settings}
 use Rattle.mixer.specs.Mixer.{Mixer}
 use Rattle.iir.specs.Iir.{Iir}
-use Rattle.ring.specs.Ring.{filteredOrKept}
+use Rattle.ring.specs.Ring.{filtered_or_kept}
 use Rattle.fir.specs.Fir.{Fir}
 use Rattle.host.specs.Coded.{Coded}
-use Rattle.mix.specs.Part.{firstRow, secondRow}
+use Rattle.mix.specs.Part.{first_row, second_row}
 use Rattle.mix.specs.Plateau.{carried, real, imaginary}
-use Rattle.mix.specs.Envelope.{shapedBy}
+use Rattle.mix.specs.Envelope.{shaped_by}
 use Rattle.points.specs.Points.{points}
-use Rattle.spline.specs.Value.{valueIn}
+use Rattle.spline.specs.Value.{value_in}
 use Rattle.shape.specs.declared.parts.Parted.{Parted}
 use Rattle.shape.specs.declared.envelope.Enveloped.{Enveloped}
-use Rattle.shape.specs.Envelope.{limitOf, envelopedOf, scratchAfter}
+use Rattle.shape.specs.Envelope.{limit_of, enveloped_of, scratch_after}
 use Rattle.pulse.specs.declared.list.Pulse.{Pulse}
 use Rattle.tables.specs.declared.Channel.{Channel}
 use Rattle.tables.specs.declared.Tables.{Tables}
 use Rattle.merge.specs.declared.taking.Taking.{Taking}
 use Rattle.merge.specs.declared.work.Ends.{Ends}
 use Rattle.merge.specs.Taking.{parts_in}
-use Rattle.merge.specs.Work.{Gathered, gatheredOf}
+use Rattle.merge.specs.Work.{Gathered, gathered_of}
 use Rattle.commands.specs.declared.command.Arranged.{Arranged}
 use Rattle.commands.specs.Run.{Ran}
-use Rattle.owned.specs.Owned.{executedOwned}
-use Rattle.mixdown.specs.Sampled.{Rowed, Out, mixedDown}
+use Rattle.owned.specs.Owned.{executed_owned}
+use Rattle.mixdown.specs.Sampled.{Rowed, Out, mixed_down}
 use Rattle.system.specs.System.{State}
 use Rattle.stand_ins.specs.StandIns.{Call, equation}
-use Rattle.stand_ins.specs.Whole.{isDone}
-use Rattle.stand_ins.specs.ByValue.{always, Bent, partsFor, hasPoints}
+use Rattle.stand_ins.specs.Whole.{is_done}
+use Rattle.stand_ins.specs.ByValue.{always, Bent, parts_for, has_points}
 
 -- ---- the steps over the C border: one or two rows, numbers, of the mixer offsets too; a code, 0 or the refusal's number
 
@@ -75,7 +75,7 @@ pub record Tapped : Type 0 where
   pub taps : List Float
 
 abbrev pub filter : Call
-filter = equation (λ (x : Tapped). filteredOrKept x.taps x.row) always
+filter = equation (λ (x : Tapped). filtered_or_kept x.taps x.row) always
 
 -- ---- one pulse onto the rows; nothing is refused
 
@@ -94,10 +94,10 @@ pub record Plateau : Type 0 where
 
 module _ (x : Plateau) (y : Two) where
   abbrev pub PlateauI : Type 0
-  PlateauI = y.i ≡ firstRow x.rows x.start x.count x.i x.q (carried real x.carrier x.rotation)
+  PlateauI = y.i ≡ first_row x.rows x.start x.count x.i x.q (carried real x.carrier x.rotation)
 
   abbrev pub PlateauQ : Type 0
-  PlateauQ = y.q ≡ secondRow x.rows x.start x.count x.i x.q (carried imaginary x.carrier x.rotation)
+  PlateauQ = y.q ≡ second_row x.rows x.start x.count x.i x.q (carried imaginary x.carrier x.rotation)
 
 abbrev pub add-plateau : Call
 add-plateau = record { Given = Plateau; Left = Two; Promise = λ x y. PlateauI x y × PlateauQ x y; accepted = always }
@@ -115,10 +115,10 @@ pub record Envelope : Type 0 where
 
 module _ (x : Envelope) (y : Two) where
   abbrev pub EnvelopeI : Type 0
-  EnvelopeI = y.i ≡ firstRow x.rows x.start (length x.points) x.i x.q (shapedBy real x.amp x.drag x.rotation x.points x.carrier)
+  EnvelopeI = y.i ≡ first_row x.rows x.start (length x.points) x.i x.q (shaped_by real x.amp x.drag x.rotation x.points x.carrier)
 
   abbrev pub EnvelopeQ : Type 0
-  EnvelopeQ = y.q ≡ secondRow x.rows x.start (length x.points) x.i x.q (shapedBy imaginary x.amp x.drag x.rotation x.points x.carrier)
+  EnvelopeQ = y.q ≡ second_row x.rows x.start (length x.points) x.i x.q (shaped_by imaginary x.amp x.drag x.rotation x.points x.carrier)
 
 abbrev pub add-envelope : Call
 add-envelope = record { Given = Envelope; Left = Two; Promise = λ x y. EnvelopeI x y × EnvelopeQ x y; accepted = always }
@@ -140,7 +140,7 @@ pub record Bends : Type 0 where
   pub row : List Float
 
 abbrev pub spline-over : Call
-spline-over = equation (λ (x : Bends). map (valueIn x.row) x.part) always
+spline-over = equation (λ (x : Bends). map (value_in x.row) x.part) always
 
 -- ---- an envelope's points in the scratch
 
@@ -153,18 +153,18 @@ pub record Points : Type 0 where
   pub scratch : List Float
 
 -- its parts, in the room that row and scratch leave
-abbrev pub partsLaid : Laying → Parted
-partsLaid x = partsFor x.bent.curve (limitOf x.bent.curve.room (length x.scratch))
+abbrev pub parts_laid : Laying → Parted
+parts_laid x = parts_for x.bent.curve (limit_of x.bent.curve.room (length x.scratch))
 
 module _ (x : Laying) (y : Points) where
   abbrev pub PointsAnswer : Type 0
-  PointsAnswer = y.answer ≡ envelopedOf x.bent.shape x.bent.numbers (partsLaid x)
+  PointsAnswer = y.answer ≡ enveloped_of x.bent.shape x.bent.numbers (parts_laid x)
 
   abbrev pub PointsLaid : Type 0
-  PointsLaid = y.scratch ≡ scratchAfter x.bent.shape x.bent.numbers (partsLaid x) x.scratch
+  PointsLaid = y.scratch ≡ scratch_after x.bent.shape x.bent.numbers (parts_laid x) x.scratch
 
 abbrev pub envelope : Call
-envelope = record { Given = Laying; Left = Points; Promise = λ x y. PointsAnswer x y × PointsLaid x y; accepted = λ y. hasPoints y.answer }
+envelope = record { Given = Laying; Left = Points; Promise = λ x y. PointsAnswer x y × PointsLaid x y; accepted = λ y. has_points y.answer }
 
 -- ---- the lists that take part, summed into the work rows; and mixed onto the rows
 
@@ -175,11 +175,11 @@ pub record Summing : Type 0 where
   pub work : List (List Float)
   pub marks : List ℕ
 
-abbrev pub gatheredFor : Summing → Gathered
-gatheredFor x = gatheredOf x.tables (parts_in x.taking) x.pulses x.work x.marks
+abbrev pub gathered_for : Summing → Gathered
+gathered_for x = gathered_of x.tables (parts_in x.taking) x.pulses x.work x.marks
 
 abbrev pub sum-lists : Call
-sum-lists = equation gatheredFor always
+sum-lists = equation gathered_for always
 
 pub record Mixing : Type 0 where
   pub settings : Settings
@@ -197,22 +197,22 @@ pub record Mixed : Type 0 where
   pub work : List (List Float)
   pub marks : List ℕ
 
-abbrev pub mixedFor : Mixing → Out
-mixedFor x = mixedDown x.settings x.tables x.taking x.ends x.bins x.work x.marks x.rows x.lent
+abbrev pub mixed_for : Mixing → Out
+mixed_for x = mixed_down x.settings x.tables x.taking x.ends x.bins x.work x.marks x.rows x.lent
 
 module _ (x : Mixing) (y : Mixed) where
   abbrev pub MixedOut : Type 0
-  MixedOut = y.out ≡ mixedFor x
+  MixedOut = y.out ≡ mixed_for x
 
   abbrev pub MixedStay : Type 0
   MixedStay = (y.work ≡ x.work) × (y.marks ≡ x.marks)
 
 abbrev pub mix-lists : Call
-mix-lists = record { Given = Mixing; Left = Mixed; Promise = λ x y. MixedOut x y × MixedStay x y; accepted = λ y. isDone y.out.answer }
+mix-lists = record { Given = Mixing; Left = Mixed; Promise = λ x y. MixedOut x y × MixedStay x y; accepted = λ y. is_done y.out.answer }
 
 -- the tables with one pulse, or with one bin, for each channel: what a stand-in would sum, or mix, by
-abbrev pub onePulse : Tables → Tables
-onePulse t =
+abbrev pub one_pulse : Tables → Tables
+one_pulse t =
     record {
       amp = t.amp;
       time = t.time;
@@ -223,8 +223,8 @@ onePulse t =
       named = t.named;
     }
 
-abbrev pub oneBin : Tables → Tables
-oneBin t =
+abbrev pub one_bin : Tables → Tables
+one_bin t =
     record {
       amp = t.amp;
       time = t.time;
@@ -242,11 +242,11 @@ pub record Owning : Type 0 where
   pub commands : List Arranged
   pub count : ℕ
 
-abbrev pub ranOwned : Owning → Ran
-ranOwned x = executedOwned x.state.tables x.state.splines x.commands x.count x.state.bins x.state.pulses
+abbrev pub ran_owned : Owning → Ran
+ran_owned x = executed_owned x.state.tables x.state.splines x.commands x.count x.state.bins x.state.pulses
 
-abbrev pub isRun : Ran → Bool
-isRun r = isDone r.result.answer
+abbrev pub is_run : Ran → Bool
+is_run r = is_done r.result.answer
 
 abbrev pub execute-owned : Call
-execute-owned = equation ranOwned isRun
+execute-owned = equation ran_owned is_run

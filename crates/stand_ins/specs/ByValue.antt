@@ -1,7 +1,7 @@
 -- The calls that take values and give one back: what each promises, as its contract has it, and when it has accepted. Definitions only.
 use Rattle.std.specs.Prelude.{ℕ, Bool, true, false, not, List, eqb, ℤ, Float}
 use Rattle.trig.specs.Reduce.{wrapped}
-use Rattle.trig.specs.Trig.{cosineAt, cosineOf, sineOf, Both}
+use Rattle.trig.specs.Trig.{cosine_at, cosine_of, sine_of, Both}
 use Rattle.naming.specs.declared.Name.{Name}
 use Rattle.quant.specs.declared.aligned.Aligned.{Aligned}
 use Rattle.quant.specs.declared.aligned.Placed.{Placed}
@@ -10,34 +10,34 @@ use Rattle.quant.specs.declared.quantity.Frequency.{Frequency}
 use Rattle.quant.specs.declared.quantity.Time.{Time}
 use Rattle.quant.specs.declared.settings.Fitting.{Fitting}
 use Rattle.quant.specs.declared.settings.Settings.{Settings}
-use Rattle.quant.specs.Aligned.{alignedOf, placed_of, alignedAnswer, placedAnswer}
-use Rattle.quant.specs.Phaser.{phasedOf, phasedAnswer}
-use Rattle.quant.specs.Settings.{fittingOf, fittingAnswer}
+use Rattle.quant.specs.Aligned.{aligned_of, placed_of, aligned_answer, placed_answer}
+use Rattle.quant.specs.Phaser.{phased_of, phased_answer}
+use Rattle.quant.specs.Settings.{fitting_of, fitting_answer}
 use Rattle.rows.specs.Rows as rows
 use Rattle.executor.specs.declared.osc.OscState.{OscState}
 use Rattle.executor.specs.declared.osc.Moved.{Moved}
 use Rattle.executor.specs.declared.osc.Swapped.{Swapped}
-use Rattle.executor.specs.Osc.{shiftedPhase, setPhaseTo, shiftedFreq, setFreqTo, swappedPhases, movedAnswer, swappedAnswer}
-use Rattle.spline.specs.Spline.{isSpline}
-use Rattle.spline.specs.Value.{valueIn, fineIn}
+use Rattle.executor.specs.Osc.{shifted_phase, set_phase_to, shifted_freq, set_freq_to, swapped_phases, moved_answer, swapped_answer}
+use Rattle.spline.specs.Spline.{is_spline}
+use Rattle.spline.specs.Value.{value_in, fine_in}
 use Rattle.pulse.specs.declared.bin.Bin.{Bin}
 use Rattle.pulse.specs.declared.envelope.Shape.{Shape}
 use Rattle.pulse.specs.declared.list.Pulse.{Pulse}
 use Rattle.pulse.specs.declared.weight.Weighed.{Weighed}
-use Rattle.pulse.specs.Weight.{weighedOf, weighedAnswer}
+use Rattle.pulse.specs.Weight.{weighed_of, weighed_answer}
 use Rattle.tables.specs.declared.Tables.{Tables}
 use Rattle.tables.specs.declared.Found.{Found}
 use Rattle.tables.specs.declared.Found.TheVariants as found
 use Rattle.tables.specs.declared.Told.{Told}
 use Rattle.tables.specs.Tables as tables
-use Rattle.points.specs.Points.{pointAt}
+use Rattle.points.specs.Points.{point_at}
 use Rattle.shape.specs.declared.parts.Parted.{Parted}
 use Rattle.shape.specs.declared.envelope.Enveloped.{Enveloped}
-use Rattle.shape.specs.Hann.{hannOf}
-use Rattle.shape.specs.Parts.{partedOf, partedAnswer}
-use Rattle.shape.specs.Envelope.{least, envelopedOf, envelopedAnswer}
+use Rattle.shape.specs.Hann.{hann_of}
+use Rattle.shape.specs.Parts.{parted_of, parted_answer}
+use Rattle.shape.specs.Envelope.{least, enveloped_of, enveloped_answer}
 use Rattle.placing.specs.declared.Judged.{Judged}
-use Rattle.placing.specs.Judged.{judged, judgedAnswer}
+use Rattle.placing.specs.Judged.{judged, judged_answer}
 use Rattle.crosstalk.specs.declared.names.Crosstalk.{Crosstalk}
 use Rattle.crosstalk.specs.declared.parts.Plan.{Plan}
 use Rattle.crosstalk.specs.Crosstalk.{planned}
@@ -45,27 +45,27 @@ use Rattle.host.specs.declared.Index.{Index}
 use Rattle.host.specs.declared.Place.{Place}
 use Rattle.host.specs.Places.{index_of, place_of}
 use Rattle.stand_ins.specs.StandIns.{Call, equation}
-use Rattle.stand_ins.specs.Whole.{isDone}
+use Rattle.stand_ins.specs.Whole.{is_done}
 
 -- ---- cosine and sine: nothing is refused
 
 abbrev pub always : {A : Type 0} → A → Bool
 always x = true
 
-abbrev pub isTrue : Bool → Bool
-isTrue b = b
+abbrev pub is_true : Bool → Bool
+is_true b = b
 
 abbrev pub cosine : Call
-cosine = equation cosineOf always
+cosine = equation cosine_of always
 
 abbrev pub sine : Call
-sine = equation sineOf always
+sine = equation sine_of always
 
 abbrev pub cosine-wrapped : Call
-cosine-wrapped = equation (λ (x : Float). cosineAt (wrapped x)) always
+cosine-wrapped = equation (λ (x : Float). cosine_at (wrapped x)) always
 
 abbrev pub hann : Call
-hann = equation hannOf always
+hann = equation hann_of always
 
 abbrev pub both : Call
 both = record { Given = Float; Left = Float × Float; Promise = λ x y. Both x y.0 y.1; accepted = always }
@@ -78,7 +78,7 @@ pub record Pointing : Type 0 where
   pub index : ℕ
 
 abbrev pub point : Call
-point = equation (λ (x : Pointing). pointAt x.start x.step x.index) always
+point = equation (λ (x : Pointing). point_at x.start x.step x.index) always
 
 -- ---- alignment: a time, a rate and a level; a phase; the clock
 
@@ -87,41 +87,41 @@ pub record Timed : Type 0 where
   pub rate : Float
   pub level : ℤ
 
-abbrev pub isIndex : Aligned → Bool
-isIndex y = isDone (alignedAnswer y)
+abbrev pub is_index : Aligned → Bool
+is_index y = is_done (aligned_answer y)
 
 abbrev pub align : Call
-align = equation (λ (x : Timed). alignedOf x.time x.rate x.level) isIndex
+align = equation (λ (x : Timed). aligned_of x.time x.rate x.level) is_index
 
-abbrev pub isStart : Placed → Bool
-isStart y = isDone (placedAnswer y)
+abbrev pub is_start : Placed → Bool
+is_start y = is_done (placed_answer y)
 
 abbrev pub place : Call
-place = equation (λ (x : Timed). placed_of (alignedOf x.time x.rate x.level)) isStart
+place = equation (λ (x : Timed). placed_of (aligned_of x.time x.rate x.level)) is_start
 
 -- over the C border
 abbrev pub align-c : Call
-align-c = equation (λ (x : Timed). index_of (alignedOf x.time x.rate x.level)) (λ (y : Index). eqb y.code 0)
+align-c = equation (λ (x : Timed). index_of (aligned_of x.time x.rate x.level)) (λ (y : Index). eqb y.code 0)
 
 abbrev pub place-c : Call
-place-c = equation (λ (x : Timed). place_of (placed_of (alignedOf x.time x.rate x.level))) (λ (y : Place). eqb y.code 0)
+place-c = equation (λ (x : Timed). place_of (placed_of (aligned_of x.time x.rate x.level))) (λ (y : Place). eqb y.code 0)
 
-abbrev pub isPair : Phased → Bool
-isPair y = isDone (phasedAnswer y)
+abbrev pub is_pair : Phased → Bool
+is_pair y = is_done (phased_answer y)
 
 abbrev pub phaser : Call
-phaser = equation phasedOf isPair
+phaser = equation phased_of is_pair
 
 pub record Clocked : Type 0 where
   pub rate : Frequency
   pub delay : Time
   pub level : ℤ
 
-abbrev pub isFit : Fitting → Bool
-isFit y = isDone (fittingAnswer y)
+abbrev pub is_fit : Fitting → Bool
+is_fit y = is_done (fitting_answer y)
 
 abbrev pub set-up : Call
-set-up = equation (λ (x : Clocked). fittingOf x.rate x.delay x.level) isFit
+set-up = equation (λ (x : Clocked). fitting_of x.rate x.delay x.level) is_fit
 
 -- ---- the oscillators: a state, a number and a time
 
@@ -130,20 +130,20 @@ pub record Turning : Type 0 where
   pub number : Float
   pub time : Float
 
-abbrev pub hasMoved : Moved → Bool
-hasMoved y = isDone (movedAnswer y)
+abbrev pub has_moved : Moved → Bool
+has_moved y = is_done (moved_answer y)
 
 abbrev pub shift-phase : Call
-shift-phase = equation (λ (x : Turning). shiftedPhase x.osc x.number) hasMoved
+shift-phase = equation (λ (x : Turning). shifted_phase x.osc x.number) has_moved
 
 abbrev pub set-phase : Call
-set-phase = equation (λ (x : Turning). setPhaseTo x.osc x.number x.time) hasMoved
+set-phase = equation (λ (x : Turning). set_phase_to x.osc x.number x.time) has_moved
 
-abbrev pub shift-freq : Call
-shift-freq = equation (λ (x : Turning). shiftedFreq x.osc x.number x.time) hasMoved
+abbrev pub shift_freq : Call
+shift_freq = equation (λ (x : Turning). shifted_freq x.osc x.number x.time) has_moved
 
-abbrev pub set-freq : Call
-set-freq = equation (λ (x : Turning). setFreqTo x.osc x.number x.time) hasMoved
+abbrev pub set_freq : Call
+set_freq = equation (λ (x : Turning). set_freq_to x.osc x.number x.time) has_moved
 
 pub record Swapping : Type 0 where
   pub one : OscState
@@ -151,7 +151,7 @@ pub record Swapping : Type 0 where
   pub time : Float
 
 abbrev pub swap-phase : Call
-swap-phase = equation (λ (x : Swapping). swappedPhases x.one x.two x.time) (λ (y : Swapped). isDone (swappedAnswer y))
+swap-phase = equation (λ (x : Swapping). swapped_phases x.one x.two x.time) (λ (y : Swapped). is_done (swapped_answer y))
 
 -- ---- a pulse: its weight, its envelope's parts, its place
 
@@ -160,11 +160,11 @@ pub record Weighing : Type 0 where
   pub phase : Float
   pub drag : Float
 
-abbrev pub isFine : Weighed → Bool
-isFine y = isDone (weighedAnswer y)
+abbrev pub is_fine : Weighed → Bool
+is_fine y = is_done (weighed_answer y)
 
 abbrev pub weigh : Call
-weigh = equation (λ (x : Weighing). weighedOf x.amplitude x.phase x.drag) isFine
+weigh = equation (λ (x : Weighing). weighed_of x.amplitude x.phase x.drag) is_fine
 
 pub record Curve : Type 0 where
   pub width : Float
@@ -174,17 +174,17 @@ pub record Curve : Type 0 where
   pub dt : Float
   pub room : ℕ
 
-abbrev pub partsFor : Curve → ℕ → Parted
-partsFor x room = partedOf x.width x.plateau x.offset x.rate x.dt room
+abbrev pub parts_for : Curve → ℕ → Parted
+parts_for x room = parted_of x.width x.plateau x.offset x.rate x.dt room
 
-abbrev pub isWithin : Parted → Bool
-isWithin y = isDone (partedAnswer y)
+abbrev pub is_within : Parted → Bool
+is_within y = is_done (parted_answer y)
 
 abbrev pub lay-out : Call
-lay-out = equation (λ (x : Curve). partsFor x x.room) isWithin
+lay-out = equation (λ (x : Curve). parts_for x x.room) is_within
 
-abbrev pub hasPoints : Enveloped → Bool
-hasPoints y = isDone (envelopedAnswer y)
+abbrev pub has_points : Enveloped → Bool
+has_points y = is_done (enveloped_answer y)
 
 -- of a shape, with the numbers of a spline beside it
 pub record Bent : Type 0 where
@@ -193,7 +193,7 @@ pub record Bent : Type 0 where
   pub curve : Curve
 
 abbrev pub measure : Call
-measure = equation (λ (x : Bent). envelopedOf x.shape x.numbers (partsFor x.curve (least x.curve.room 65536))) hasPoints
+measure = equation (λ (x : Bent). enveloped_of x.shape x.numbers (parts_for x.curve (least x.curve.room 65536))) has_points
 
 pub record Pulsed : Type 0 where
   pub settings : Settings
@@ -203,7 +203,7 @@ pub record Pulsed : Type 0 where
   pub len : ℕ
 
 abbrev pub is_placed : Judged → Bool
-is_placed y = isDone (judgedAnswer y)
+is_placed y = is_done (judged_answer y)
 
 abbrev pub judge : Call
 judge = equation (λ (x : Pulsed). judged x.settings x.bin x.numbers x.pulse x.len) is_placed
@@ -215,10 +215,10 @@ pub record Bending : Type 0 where
   pub at : Float
 
 abbrev pub spline-value : Call
-spline-value = equation (λ (x : Bending). valueIn x.row x.at) always
+spline-value = equation (λ (x : Bending). value_in x.row x.at) always
 
 abbrev pub spline-fine : Call
-spline-fine = equation (λ (x : Bending). fineIn x.row x.at) isTrue
+spline-fine = equation (λ (x : Bending). fine_in x.row x.at) is_true
 
 pub record Knotted : Type 0 where
   pub degree : ℕ
@@ -226,7 +226,7 @@ pub record Knotted : Type 0 where
   pub knots : List Float
 
 abbrev pub spline-check : Call
-spline-check = equation (λ (x : Knotted). isSpline x.degree x.controls x.knots) isTrue
+spline-check = equation (λ (x : Knotted). is_spline x.degree x.controls x.knots) is_true
 
 -- ---- the tables: a channel's state, its place, a shape's place; the plan of a sampling
 
@@ -234,21 +234,21 @@ pub record Looking : Type 0 where
   pub tables : Tables
   pub name : Name
 
-abbrev pub isKnown : Told → Bool
-isKnown y = isDone (tables.toldAnswer y)
+abbrev pub is_known : Told → Bool
+is_known y = is_done (tables.told_answer y)
 
 abbrev pub state : Call
-state = equation (λ (x : Looking). tables.state_of x.tables x.name) isKnown
+state = equation (λ (x : Looking). tables.state_of x.tables x.name) is_known
 
-abbrev pub isThere : Found → Bool
-isThere (found.At i) = true
-isThere found.Nowhere = false
+abbrev pub is_there : Found → Bool
+is_there (found.At i) = true
+is_there found.Nowhere = false
 
 abbrev pub find : Call
-find = equation (λ (x : Looking). tables.found x.tables x.name) isThere
+find = equation (λ (x : Looking). tables.found x.tables x.name) is_there
 
 abbrev pub find-shape : Call
-find-shape = equation (λ (x : Looking). tables.shapeFound x.tables x.name) isThere
+find-shape = equation (λ (x : Looking). tables.shape_found x.tables x.name) is_there
 
 pub record Planning : Type 0 where
   pub tables : Tables
@@ -266,4 +266,4 @@ pub record Verdict : Type 0 where
   pub fine : Bool
 
 abbrev pub answer : Call
-answer = equation (λ (x : Verdict). rows.answer_of x.fits x.fine) isDone
+answer = equation (λ (x : Verdict). rows.answer_of x.fits x.fine) is_done

@@ -5,15 +5,15 @@ use Rattle.naming.specs.declared.Name.{Name}
 use Rattle.quant.specs.declared.complex.Complex.{Complex}
 use Rattle.pulse.specs.declared.list.Pulse.{Pulse}
 use Rattle.pulse.specs.declared.envelope.Shape.TheVariants.{Plain, Hann}
-use Rattle.pulse.specs.Bin.{noNumbers}
-use Rattle.tables.specs.Tables.{atRest, noName, fresh}
+use Rattle.pulse.specs.Bin.{no_numbers}
+use Rattle.tables.specs.Tables.{at_rest, no_name, fresh}
 use Rattle.merge.specs.declared.taking.Taking.{Taking}
-use Rattle.sheet.specs.Sheet.{sheetText}
+use Rattle.sheet.specs.Sheet.{sheet_text}
 use Rattle.bench_table.specs.Numbers.{over, whole}
-use Rattle.bench_table.specs.Call.{channel, clock, binWith, pulseAt, noCrosstalk}
+use Rattle.bench_table.specs.Call.{channel, clock, bin_with, pulse_at, no_crosstalk}
 use Rattle.stand_ins.specs.Whole.{tables_of, holding, rising, barrier, mixer-offsets, fir-numbers}
 use Rattle.stand_ins.specs.ByValue.{Pointing, Timed, Clocked, Turning, Swapping, Weighing, Curve, Bent, Pulsed, Bending, Knotted, Looking, Planning, Verdict}
-use Rattle.stand_ins.specs.Buffers.{Step, Tapped, Plateau, Envelope, Part, Bends, Laying, Summing, gatheredFor, Mixing, Owning}
+use Rattle.stand_ins.specs.Buffers.{Step, Tapped, Plateau, Envelope, Part, Bends, Laying, Summing, gathered_for, Mixing, Owning}
 use Rattle.stand_ins.specs.Texts.{Place, Field, Fields, Sheet, Printing, Answering, Behind}
 
 -- ---- by value: time 0 at rate 1 and level 0, an oscillator at rest, amplitude 1, a width of 1 at an offset of 0.5
@@ -25,10 +25,10 @@ abbrev pub clocked : Clocked
 clocked = record { rate = record { 0 = whole 1 }; delay = record { 0 = whole 0 }; level = pos 0 }
 
 abbrev pub turning : Turning
-turning = record { osc = atRest; number = whole 0; time = whole 0 }
+turning = record { osc = at_rest; number = whole 0; time = whole 0 }
 
 abbrev pub swapping : Swapping
-swapping = record { one = atRest; two = atRest; time = whole 0 }
+swapping = record { one = at_rest; two = at_rest; time = whole 0 }
 
 abbrev pub weighing : Weighing
 weighing = record { amplitude = whole 1; phase = whole 0; drag = whole 0 }
@@ -37,10 +37,10 @@ abbrev pub curve : Curve
 curve = record { width = whole 1; plateau = whole 0; offset = over 5 10; rate = whole 1; dt = whole 1; room = 1 }
 
 abbrev pub bent : Bent
-bent = record { shape = Hann; numbers = noNumbers; curve = curve }
+bent = record { shape = Hann; numbers = no_numbers; curve = curve }
 
 abbrev pub pulsed : Pulsed
-pulsed = record { settings = clock (pos 0); bin = binWith Plain (whole 0) (whole 1); numbers = noNumbers; pulse = pulseAt (whole 0); len = 1 }
+pulsed = record { settings = clock (pos 0); bin = bin_with Plain (whole 0) (whole 1); numbers = no_numbers; pulse = pulse_at (whole 0); len = 1 }
 
 abbrev pub looking : Looking
 looking = record { tables = tables_of 0 0; name = channel }
@@ -61,16 +61,16 @@ shape-looking =
             amp = record { 0 = whole 0 };
             time = record { 0 = whole 0 };
             oversize = false;
-            channels = replicate 8 (fresh noName atRest);
+            channels = replicate 8 (fresh no_name at_rest);
             count = 0;
-            shapes = channel ∷ replicate 7 noName;
+            shapes = channel ∷ replicate 7 no_name;
             named = 1;
           };
       name = channel;
     }
 
 abbrev pub planning : Planning
-planning = record { tables = tables_of 0 0; channel = channel; cross = noCrosstalk; factors = [] }
+planning = record { tables = tables_of 0 0; channel = channel; cross = no_crosstalk; factors = [] }
 
 abbrev pub fine : Verdict
 fine = record { fits = true; fine = true }
@@ -130,20 +130,20 @@ names = channel ∷ record { first = 0x72; second = 0; len = 1 } ∷ []
 abbrev pub sheet-text : ℕ → List ℕ
 sheet-text n =
     let columns = take n names in
-    sheetText (record { columns = columns; blocks = map (λ (m : Name). record { row = m; factors = replicate n 0 }) columns })
+    sheet_text (record { columns = columns; blocks = map (λ (m : Name). record { row = m; factors = replicate n 0 }) columns })
 
 abbrev pub sheet : ℕ → Sheet
 sheet n = record { text = sheet-text n; matrix = replicate 64 nought }
 
 abbrev pub printing : ℕ → Printing
-printing n = record { count = n; names = channel ∷ record { first = 0x72; second = 0; len = 1 } ∷ replicate 6 noName; matrix = replicate 4 nought; out = replicate 256 0 }
+printing n = record { count = n; names = channel ∷ record { first = 0x72; second = 0; len = 1 } ∷ replicate 6 no_name; matrix = replicate 4 nought; out = replicate 256 0 }
 
 abbrev pub answering : ℕ → Answering
 answering n = record { text = sheet-text n; out = replicate 4096 0 }
 
 -- four lines behind a job's line
 abbrev pub sheet-behind : Behind
-sheet-behind = record { text = sheet-text 1; count = 4; cross = record { count = 0; names = replicate 8 noName }; factors = replicate 64 nought }
+sheet-behind = record { text = sheet-text 1; count = 4; cross = record { count = 0; names = replicate 8 no_name }; factors = replicate 64 nought }
 
 -- ---- rows of one sample each, which holds x: the steps over the C border give twice the sample
 
@@ -206,7 +206,7 @@ summing bins pulses =
 abbrev pub mixing : ℕ → List (List Float) → List Pulse → Mixing
 mixing x bins pulses =
     let s = holding (whole x) bins pulses in
-    let g = gatheredFor (summing bins pulses) in
+    let g = gathered_for (summing bins pulses) in
     record {
       settings = clock (pos 0);
       tables = s.tables;

@@ -5,11 +5,11 @@ use Rattle.tables.specs.declared.Tables.{Tables}
 use Rattle.merge.specs.declared.work.Ends.{Ends}
 use Rattle.merge.specs.Work.{Gathered}
 use Rattle.commands.specs.Run.{Ran}
-use Rattle.mixdown.specs.Sampled.{Rowed, mixedDown}
+use Rattle.mixdown.specs.Sampled.{Rowed, mixed_down}
 use Rattle.bench_table.specs.Numbers.{over}
 use Rattle.bench_table.specs.Call.{channel}
 use Rattle.stand_ins.specs.StandIns.{NotAllRefused, NotAlways, NotFixed, Row, I, Q, RowsMove}
-use Rattle.stand_ins.specs.Whole.{anything, whole-system, rowLeft, rowCame, answer_of, sampling-call, rowsLeft, firstPulse, firstBin, OnRows, plateau, on, execute, no-command, no-pulse, two-pulses, two-bins, else, samplingOf, Trial, tryOf, mixer-numbers, iir-numbers, fir-numbers, bin-alone, bin-pair, pulse-alone, pulse-pair, pulse-of-each}
+use Rattle.stand_ins.specs.Whole.{anything, whole_system, row_left, row_came, answer_of, sampling_call, rows_left, first_pulse, first_bin, OnRows, plateau, on, execute, no-command, no-pulse, two-pulses, two-bins, else, sampling_of, Trial, try_of, mixer-numbers, iir-numbers, fir-numbers, bin-alone, bin-pair, pulse-alone, pulse-pair, pulse-of-each}
 use Rattle.stand_ins.specs.ByValue as value
 use Rattle.stand_ins.specs.Texts as text
 use Rattle.stand_ins.specs.Buffers as lent
@@ -22,15 +22,15 @@ itself x = x
 
 pub record TenCalls : Type 1 where
   -- "all calls refused": of each call
-  pub all-refused : (t : Trial) → NotAllRefused whole-system (tryOf t).asking
+  pub all-refused : (t : Trial) → NotAllRefused whole_system (try_of t).asking
   -- "rows untouched", "one fixed row": a sampling of a plateau, one of Hann's shape, one of a spline, and the four steps
-  pub rows-move : (k : OnRows) → RowsMove whole-system rowLeft rowCame (on 1 k).asking (on 0 k).asking
+  pub rows-move : (k : OnRows) → RowsMove whole_system row_left row_came (on 1 k).asking (on 0 k).asking
   -- "only the first pulse or bin sampled"
-  pub first-pulse : NotAlways sampling-call rowsLeft firstPulse (samplingOf two-pulses)
-  pub first-bin : NotAlways sampling-call rowsLeft firstBin (samplingOf two-bins)
+  pub first-pulse : NotAlways sampling_call rows_left first_pulse (sampling_of two-pulses)
+  pub first-bin : NotAlways sampling_call rows_left first_bin (sampling_of two-bins)
   -- "a count not tied to the list"
-  pub commands-counted : NotFixed whole-system answer_of anything (else execute).asking (else no-command).asking
-  pub pulses-counted : NotFixed whole-system answer_of anything (on 0 plateau).asking (else no-pulse).asking
+  pub commands-counted : NotFixed whole_system answer_of anything (else execute).asking (else no-command).asking
+  pub pulses-counted : NotFixed whole_system answer_of anything (on 0 plateau).asking (else no-pulse).asking
 
 -- ---- by value
 
@@ -54,8 +54,8 @@ pub record ByValue : Type 1 where
   pub set-up : NotAllRefused value.set-up given.clocked
   pub shift-phase : NotAllRefused value.shift-phase given.turning
   pub set-phase : NotAllRefused value.set-phase given.turning
-  pub shift-freq : NotAllRefused value.shift-freq given.turning
-  pub set-freq : NotAllRefused value.set-freq given.turning
+  pub shift_freq : NotAllRefused value.shift_freq given.turning
+  pub set_freq : NotAllRefused value.set_freq given.turning
   pub swap-phase : NotAllRefused value.swap-phase given.swapping
   pub weigh : NotAllRefused value.weigh given.weighing
   pub lay-out : NotAllRefused value.lay-out given.curve
@@ -84,10 +84,10 @@ pub record Texts : Type 1 where
   pub number_in : NotAllRefused text.number_in (given.bare given.one-text)
   pub whole_in : NotAllRefused text.whole_in (given.bare given.one-text)
   pub name_in : NotAllRefused text.name_in (given.bare given.q-text)
-  pub shape-in : NotAllRefused text.shape-in (given.bare given.q-text)
-  pub flag-in : NotAllRefused text.flag-in (given.bare given.one-text)
+  pub shape_in : NotAllRefused text.shape_in (given.bare given.q-text)
+  pub flag_in : NotAllRefused text.flag_in (given.bare given.one-text)
   pub level_in : NotAllRefused text.level_in (given.bare given.one-text)
-  pub pair-in : NotAllRefused text.pair-in given.bare-two
+  pub pair_in : NotAllRefused text.pair_in given.bare-two
   pub value-at : NotAllRefused text.value-at (given.bare given.q-text)
   pub job_read : NotAllRefused text.job_read given.run-text
   pub all-numbers : NotAllRefused text.all-numbers (given.first given.one-text)
@@ -110,34 +110,34 @@ abbrev pub one_of : {A : Type 0} → (A → List Float) → (A → List Float) �
 one_of i q I a = i a
 one_of i q Q a = q a
 
-abbrev pub stepLeft : Row → lent.Coded-rows → List Float
-stepLeft = one_of (λ (y : lent.Coded-rows). y.i) (λ (y : lent.Coded-rows). y.q)
+abbrev pub step_left : Row → lent.Coded-rows → List Float
+step_left = one_of (λ (y : lent.Coded-rows). y.i) (λ (y : lent.Coded-rows). y.q)
 
-abbrev pub stepCame : Row → lent.Step → List Float
-stepCame = one_of (λ (x : lent.Step). x.i) (λ (x : lent.Step). x.q)
+abbrev pub step_came : Row → lent.Step → List Float
+step_came = one_of (λ (x : lent.Step). x.i) (λ (x : lent.Step). x.q)
 
-abbrev pub bothLeft : Row → lent.Two → List Float
-bothLeft = one_of (λ (y : lent.Two). y.i) (λ (y : lent.Two). y.q)
+abbrev pub both_left : Row → lent.Two → List Float
+both_left = one_of (λ (y : lent.Two). y.i) (λ (y : lent.Two). y.q)
 
-abbrev pub mixedLeft : Row → lent.Mixed → List Float
-mixedLeft = one_of (λ (y : lent.Mixed). y.out.left.i) (λ (y : lent.Mixed). y.out.left.q)
+abbrev pub mixed_left : Row → lent.Mixed → List Float
+mixed_left = one_of (λ (y : lent.Mixed). y.out.left.i) (λ (y : lent.Mixed). y.out.left.q)
 
-abbrev pub mixedCame : Row → lent.Mixing → List Float
-mixedCame = one_of (λ (x : lent.Mixing). x.lent.i) (λ (x : lent.Mixing). x.lent.q)
+abbrev pub mixed_came : Row → lent.Mixing → List Float
+mixed_came = one_of (λ (x : lent.Mixing). x.lent.i) (λ (x : lent.Mixing). x.lent.q)
 
 -- what the sum would be of the first pulse of each list alone; what the rows would be with the first pulse of all alone, and with the first bin of each
 -- list alone
-abbrev pub firstSummed : lent.Summing → Gathered
-firstSummed x = lent.gatheredFor (record { tables = lent.onePulse x.tables; taking = x.taking; pulses = x.pulses; work = x.work; marks = x.marks })
+abbrev pub first_summed : lent.Summing → Gathered
+first_summed x = lent.gathered_for (record { tables = lent.one_pulse x.tables; taking = x.taking; pulses = x.pulses; work = x.work; marks = x.marks })
 
-abbrev pub mixedBy : Tables → Ends → lent.Mixing → Rowed
-mixedBy t ends x = (mixedDown x.settings t x.taking ends x.bins x.work x.marks x.rows x.lent).left
+abbrev pub mixed_by : Tables → Ends → lent.Mixing → Rowed
+mixed_by t ends x = (mixed_down x.settings t x.taking ends x.bins x.work x.marks x.rows x.lent).left
 
-abbrev pub firstMixed : lent.Mixing → Rowed
-firstMixed x = mixedBy x.tables (record { ends = replicate 8 1 }) x
+abbrev pub first_mixed : lent.Mixing → Rowed
+first_mixed x = mixed_by x.tables (record { ends = replicate 8 1 }) x
 
-abbrev pub firstBinMixed : lent.Mixing → Rowed
-firstBinMixed x = mixedBy (lent.oneBin x.tables) x.ends x
+abbrev pub first_bin_mixed : lent.Mixing → Rowed
+first_bin_mixed x = mixed_by (lent.one_bin x.tables) x.ends x
 
 pub record Buffers : Type 1 where
   -- "all calls refused"
@@ -148,23 +148,23 @@ pub record Buffers : Type 1 where
   pub mix-lists : NotAllRefused lent.mix-lists (given.mixing 1 bin-alone pulse-alone)
   pub execute-owned : NotAllRefused lent.execute-owned (given.owning 1)
   -- "rows untouched", "one fixed row"
-  pub mixer-moves : RowsMove lent.mixer-c stepLeft stepCame (given.stepping mixer-numbers 1) (given.stepping mixer-numbers 0)
-  pub iir-moves : RowsMove lent.iir-c stepLeft stepCame (given.stepping iir-numbers 1) (given.stepping iir-numbers 0)
-  pub fir-moves : RowsMove lent.fir-c stepLeft stepCame (given.stepping fir-numbers 1) (given.stepping fir-numbers 0)
+  pub mixer-moves : RowsMove lent.mixer-c step_left step_came (given.stepping mixer-numbers 1) (given.stepping mixer-numbers 0)
+  pub iir-moves : RowsMove lent.iir-c step_left step_came (given.stepping iir-numbers 1) (given.stepping iir-numbers 0)
+  pub fir-moves : RowsMove lent.fir-c step_left step_came (given.stepping fir-numbers 1) (given.stepping fir-numbers 0)
   pub row-filtered : NotAlways lent.filter itself (λ (x : lent.Tapped). x.row) (given.tapped 1)
   pub row-moves : NotFixed lent.filter itself (λ (x : lent.Tapped). length x.row) (given.tapped 1) (given.tapped 0)
-  pub plateau-moves : RowsMove lent.add-plateau bothLeft (one_of (λ (x : lent.Plateau). x.i) (λ (x : lent.Plateau). x.q)) (given.plateau 1) (given.plateau 0)
-  pub envelope-moves : RowsMove lent.add-envelope bothLeft (one_of (λ (x : lent.Envelope). x.i) (λ (x : lent.Envelope). x.q)) (given.enveloped 1) (given.enveloped 0)
-  pub lists-move : RowsMove lent.mix-lists mixedLeft mixedCame (given.mixing 1 bin-alone pulse-alone) (given.mixing 0 bin-alone pulse-alone)
+  pub plateau-moves : RowsMove lent.add-plateau both_left (one_of (λ (x : lent.Plateau). x.i) (λ (x : lent.Plateau). x.q)) (given.plateau 1) (given.plateau 0)
+  pub envelope-moves : RowsMove lent.add-envelope both_left (one_of (λ (x : lent.Envelope). x.i) (λ (x : lent.Envelope). x.q)) (given.enveloped 1) (given.enveloped 0)
+  pub lists-move : RowsMove lent.mix-lists mixed_left mixed_came (given.mixing 1 bin-alone pulse-alone) (given.mixing 0 bin-alone pulse-alone)
   pub part-laid : NotAlways lent.lay itself (λ (x : lent.Part). x.part) (given.parting one)
   pub part-moves : NotFixed lent.lay itself (λ (x : lent.Part). length x.part) (given.parting one) (given.parting nought)
   pub spline-laid : NotAlways lent.spline-over itself (λ (x : lent.Bends). x.part) (given.bends nought)
   pub spline-moves : NotFixed lent.spline-over itself (λ (x : lent.Bends). length x.part) (given.bends nought) (given.bends (over 5 10))
   pub scratch-filled : NotAlways lent.envelope (λ (y : lent.Points). y.scratch) (λ (x : lent.Laying). x.scratch) given.laying
   -- "only the first pulse or bin sampled"
-  pub first-summed : NotAlways lent.sum-lists itself firstSummed (given.summing bin-alone pulse-pair)
-  pub first-mixed : NotAlways lent.mix-lists (λ (y : lent.Mixed). y.out.left) firstMixed (given.mixing 0 bin-alone pulse-pair)
-  pub first-bin-mixed : NotAlways lent.mix-lists (λ (y : lent.Mixed). y.out.left) firstBinMixed (given.mixing 0 bin-pair pulse-of-each)
+  pub first-summed : NotAlways lent.sum-lists itself first_summed (given.summing bin-alone pulse-pair)
+  pub first-mixed : NotAlways lent.mix-lists (λ (y : lent.Mixed). y.out.left) first_mixed (given.mixing 0 bin-alone pulse-pair)
+  pub first-bin-mixed : NotAlways lent.mix-lists (λ (y : lent.Mixed). y.out.left) first_bin_mixed (given.mixing 0 bin-pair pulse-of-each)
   -- "a count not tied to the list"
   pub commands-counted : NotFixed lent.execute-owned (λ (y : Ran). y.result.answer) anything (given.owning 1) (given.owning 0)
   pub pulses-counted : NotFixed lent.mix-lists (λ (y : lent.Mixed). y.out.answer) anything (given.mixing 0 bin-alone pulse-alone) (given.mixing 0 bin-alone pulse-pair)

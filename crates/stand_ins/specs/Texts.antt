@@ -2,19 +2,19 @@
 use Rattle.std.specs.Prelude.{ℕ, Bool, true, false, ◌&&◌, List, eqb, Float, length, get_or}
 use Rattle.std.specs.Float.{binary64}
 use Rattle.std.specs.Float.Ieee.{to_bits}
-use Rattle.hex.specs.declared.Word.{Word}
-use Rattle.hex.specs.declared.Word.TheVariants as word
-use Rattle.hex.specs.Hex as hex
+use Rattle.hexadecimal.specs.declared.Word.{Word}
+use Rattle.hexadecimal.specs.declared.Word.TheVariants as word
+use Rattle.hexadecimal.specs.Hex as hex
 use Rattle.lines.specs.Field.{number_at}
 use Rattle.naming.specs.declared.Name.{Name}
 use Rattle.naming.specs.declared.Naming.{Naming}
 use Rattle.naming.specs.Name as name
-use Rattle.tables.specs.Tables.{namingAnswer}
+use Rattle.tables.specs.Tables.{naming_answer}
 use Rattle.decimal.specs.declared.digits.Digits.{Digits}
 use Rattle.decimal.specs.declared.digits.Digits.TheVariants as digits
 use Rattle.decimal.specs.declared.number.Number.{Number}
 use Rattle.decimal.specs.declared.number.Number.TheVariants as number
-use Rattle.decimal.specs.Digits.{digitsOf}
+use Rattle.decimal.specs.Digits.{digits_of}
 use Rattle.decimal.specs.Number.{number_of}
 use Rattle.fields.specs.declared.pair.Pair.{Pair}
 use Rattle.fields.specs.declared.pair.Pair.TheVariants as pair
@@ -35,7 +35,7 @@ use Rattle.job.specs.declared.line.Line.TheVariants as line
 use Rattle.job.specs.declared.turn.Turn.{Turn}
 use Rattle.job.specs.declared.turn.Turn.TheVariants as turn
 use Rattle.job.specs.Line.{line_of}
-use Rattle.job.specs.List.{numbersFrom}
+use Rattle.job.specs.List.{numbers_from}
 use Rattle.job.specs.Turn.{turn_of}
 use Rattle.numbers.specs.Numbers.{Stored}
 use Rattle.sheet.specs.declared.read.Reading.{Reading}
@@ -49,7 +49,7 @@ use Rattle.job_sheet.specs.declared.Inset.TheVariants as inset
 use Rattle.job_sheet.specs.declared.Taken.{Taken}
 use Rattle.job_sheet.specs.Inset.{Took}
 use Rattle.stand_ins.specs.StandIns.{Call, equation}
-use Rattle.stand_ins.specs.Whole.{isDone}
+use Rattle.stand_ins.specs.Whole.{is_done}
 use Rattle.stand_ins.specs.ByValue.{always}
 
 -- ---- at a place of a text: sixteen hex digits, a name
@@ -58,21 +58,21 @@ pub record Place : Type 0 where
   pub text : List ℕ
   pub at : ℕ
 
-abbrev pub isWord : Word → Bool
-isWord (word.Bits n) = true
-isWord word.Bad = false
+abbrev pub is_word : Word → Bool
+is_word (word.Bits n) = true
+is_word word.Bad = false
 
 abbrev pub hex-read : Call
-hex-read = equation (λ (x : Place). hex.word_at x.text x.at) isWord
+hex-read = equation (λ (x : Place). hex.word_at x.text x.at) is_word
 
 abbrev pub number-at : Call
-number-at = equation (λ (x : Place). number_at x.text x.at) isWord
+number-at = equation (λ (x : Place). number_at x.text x.at) is_word
 
-abbrev pub isNamed : Naming → Bool
-isNamed y = isDone (namingAnswer y)
+abbrev pub is_named : Naming → Bool
+is_named y = is_done (naming_answer y)
 
 abbrev pub name-read : Call
-name-read = equation name.namingOf isNamed
+name-read = equation name.naming_of is_named
 
 -- what is written there; whether there was room, and the text afterwards
 pub record Written : Type 0 where
@@ -91,19 +91,19 @@ name-write = record { Given = Name × Place; Left = Written; Promise = λ x y. n
 
 -- ---- numbers
 
-abbrev pub isDouble : Number → Bool
-isDouble (number.Double x) = true
-isDouble number.Bad = false
+abbrev pub is_double : Number → Bool
+is_double (number.Double x) = true
+is_double number.Bad = false
 
 abbrev pub decimal-read : Call
-decimal-read = equation number_of isDouble
+decimal-read = equation number_of is_double
 
 abbrev pub is_value : Digits → Bool
 is_value (digits.Value n) = true
 is_value digits.Bad = false
 
 abbrev pub figures : Call
-figures = equation digitsOf is_value
+figures = equation digits_of is_value
 
 -- ---- the fields of a line: word k, behind a key
 
@@ -112,42 +112,42 @@ pub record Field : Type 0 where
   pub k : ℕ
   pub key : List ℕ
 
-abbrev pub behindKey : {A : Type 0} → (List ℕ → List ℕ → A) → Field → A
-behindKey read x = read x.key (word_in x.line x.k)
+abbrev pub behind_key : {A : Type 0} → (List ℕ → List ℕ → A) → Field → A
+behind_key read x = read x.key (word_in x.line x.k)
 
 abbrev pub number_in : Call
-number_in = equation (behindKey value.numberField) isDouble
+number_in = equation (behind_key value.number_field) is_double
 
 abbrev pub whole_in : Call
-whole_in = equation (behindKey value.wholeField) is_value
+whole_in = equation (behind_key value.whole_field) is_value
 
-abbrev pub isCalled : Called → Bool
-isCalled (called.Name n) = true
-isCalled called.Bad = false
+abbrev pub is_called : Called → Bool
+is_called (called.Name n) = true
+is_called called.Bad = false
 
 abbrev pub name_in : Call
-name_in = equation (behindKey value.nameField) isCalled
+name_in = equation (behind_key value.name_field) is_called
 
-abbrev pub isShaped : Shaped → Bool
-isShaped (shaped.As t n) = true
-isShaped shaped.Bad = false
+abbrev pub is_shaped : Shaped → Bool
+is_shaped (shaped.As t n) = true
+is_shaped shaped.Bad = false
 
-abbrev pub shape-in : Call
-shape-in = equation (behindKey value.shapeField) isShaped
+abbrev pub shape_in : Call
+shape_in = equation (behind_key value.shape_field) is_shaped
 
-abbrev pub isFlag : Flag → Bool
-isFlag (flag.Is t) = true
-isFlag flag.Bad = false
+abbrev pub is_flag : Flag → Bool
+is_flag (flag.Is t) = true
+is_flag flag.Bad = false
 
-abbrev pub flag-in : Call
-flag-in = equation (behindKey value.flagField) isFlag
+abbrev pub flag_in : Call
+flag_in = equation (behind_key value.flag_field) is_flag
 
-abbrev pub isLevel : Level → Bool
-isLevel (level.Is z) = true
-isLevel level.Bad = false
+abbrev pub is_level : Level → Bool
+is_level (level.Is z) = true
+is_level level.Bad = false
 
 abbrev pub level_in : Call
-level_in = equation (behindKey value.levelField) isLevel
+level_in = equation (behind_key value.level_field) is_level
 
 pub record Fields : Type 0 where
   pub line : List ℕ
@@ -156,12 +156,12 @@ pub record Fields : Type 0 where
   pub l : ℕ
   pub second : List ℕ
 
-abbrev pub isBoth : Pair → Bool
-isBoth (pair.Both x y) = true
-isBoth pair.Bad = false
+abbrev pub is_both : Pair → Bool
+is_both (pair.Both x y) = true
+is_both pair.Bad = false
 
-abbrev pub pair-in : Call
-pair-in = equation (λ (x : Fields). value.pairField x.first x.second (word_in x.line x.k) (word_in x.line x.l)) isBoth
+abbrev pub pair_in : Call
+pair_in = equation (λ (x : Fields). value.pair_field x.first x.second (word_in x.line x.k) (word_in x.line x.l)) is_both
 
 -- this one promises where the value stands, or another place with the same bytes
 abbrev pub is_at : Span → Bool
@@ -200,14 +200,14 @@ job_read = equation line_of is_line
 
 -- whether every word from one on is a number: of no line, a program would refuse all numbers
 abbrev pub all-numbers : Call
-all-numbers = equation (λ (x : Place). numbersFrom x.at (words_of x.text)) (λ b. b)
+all-numbers = equation (λ (x : Place). numbers_from x.at (words_of x.text)) (λ b. b)
 
-abbrev pub isTurn : Turn → Bool
-isTurn (turn.By n x start span) = true
-isTurn turn.Bad = false
+abbrev pub is_turn : Turn → Bool
+is_turn (turn.By n x start span) = true
+is_turn turn.Bad = false
 
 abbrev pub turn_by : Call
-turn_by = equation (λ (x : Field). turn_of x.key (words_of x.line)) isTurn
+turn_by = equation (λ (x : Field). turn_of x.key (words_of x.line)) is_turn
 
 pub record Numbered : Type 0 where
   pub count : ℕ
@@ -229,7 +229,7 @@ pub record Held : Type 0 where
 
 abbrev pub sheet-read : Call
 sheet-read =
-    record { Given = Sheet; Left = Held; Promise = λ x y. Read x.text x.matrix y.reading y.matrix; accepted = λ y. isDone y.reading.answer }
+    record { Given = Sheet; Left = Held; Promise = λ x y. Read x.text x.matrix y.reading y.matrix; accepted = λ y. is_done y.reading.answer }
 
 pub record Printing : Type 0 where
   pub count : ℕ
@@ -241,9 +241,9 @@ pub record Out : Type 0 where
   pub printed : Printed
   pub out : List ℕ
 
-abbrev pub isBytes : Printed → Bool
-isBytes (printed.Bytes n) = true
-isBytes (printed.Refused r line) = false
+abbrev pub is_bytes : Printed → Bool
+is_bytes (printed.Bytes n) = true
+is_bytes (printed.Refused r line) = false
 
 abbrev pub sheet-print : Call
 sheet-print =
@@ -251,7 +251,7 @@ sheet-print =
       Given = Printing;
       Left = Out;
       Promise = λ x y. Print x.count x.names x.matrix x.out y.printed y.out;
-      accepted = λ y. isBytes y.printed;
+      accepted = λ y. is_bytes y.printed;
     }
 
 pub record Answering : Type 0 where
@@ -265,7 +265,7 @@ sheet-answer =
       Given = Answering;
       Left = Out;
       Promise = λ x y. Answered x.text x.out y.printed y.out;
-      accepted = λ y. isBytes y.printed && eqb (get_or y.out 0 0) 99;
+      accepted = λ y. is_bytes y.printed && eqb (get_or y.out 0 0) 99;
     }
 
 -- ---- a sheet behind a job's line
@@ -280,9 +280,9 @@ pub record Left : Type 0 where
   pub taken : Taken
   pub factors : List Float
 
-abbrev pub isSheet : Inset → Bool
-isSheet (inset.Sheet answer) = isDone answer
-isSheet inset.Fewer = false
+abbrev pub is_sheet : Inset → Bool
+is_sheet (inset.Sheet answer) = is_done answer
+is_sheet inset.Fewer = false
 
 abbrev pub take-sheet : Call
 take-sheet =
@@ -290,5 +290,5 @@ take-sheet =
       Given = Behind;
       Left = Left;
       Promise = λ x y. Took x.text x.count x.cross x.factors y.taken y.factors;
-      accepted = λ y. isSheet y.taken.inset;
+      accepted = λ y. is_sheet y.taken.inset;
     }

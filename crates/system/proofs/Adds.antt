@@ -11,18 +11,18 @@ use Rattle.naming.specs.declared.Name.{Name}
 use Rattle.quant.specs.declared.refusal.Refusal.{Refusal}
 use Rattle.quant.specs.declared.refusal.Refusal.TheVariants.{Unfit, Malformed, Full, WrongSize, WrongSpline}
 use Rattle.quant.specs.Refusal.{number_of}
-use Rattle.quant.specs.Settings.{isTolerance}
+use Rattle.quant.specs.Settings.{is_tolerance}
 use Rattle.executor.specs.declared.osc.OscState.{OscState}
 use Rattle.tables.specs.declared.Tabled.{Tabled}
-use Rattle.tables.specs.Tables.{Formed, formed, empty, done, refused, made, withAdded, withAddedShape, withAddedSpline}
-use Rattle.system.specs.System.{State, tabled, hasFormed, remade}
-use Rattle.system.specs.Said.{MakeSaid, AddSaid, channelNumbers, shapeNumbers, splineNumbers}
+use Rattle.tables.specs.Tables.{Formed, formed, empty, done, refused, made, with_added, with_added_shape, with_added_spline}
+use Rattle.system.specs.System.{State, tabled, has_formed, remade}
+use Rattle.system.specs.Said.{MakeSaid, AddSaid, channel_numbers, shape_numbers, spline_numbers}
 use Rattle.system.proofs.Added.{channel-by, shape-by, spline-by}
 
 module _ (s : State) where
   pub make-said : (amp time : Float) (oversize : Bool) → let o = remade s (made amp time oversize) in MakeSaid s o.answer o.after
   unfolding among
-  make-said amp time oversize = go (isTolerance amp && isTolerance time)
+  make-said amp time oversize = go (is_tolerance amp && is_tolerance time)
     where
       go : (b : Bool) → let o = remade s (cond b (done (empty amp time oversize)) (refused Unfit (empty nought nought false))) in MakeSaid s o.answer o.after
       go true = refl
@@ -34,7 +34,7 @@ module _ (s : State) where
     Said x = AddSaid numbers s (tabled s x).answer (tabled s x).after
 
     abbrev SaidForm : Formed → Type 0
-    SaidForm x = AddSaid numbers s (hasFormed s x).answer (hasFormed s x).after
+    SaidForm x = AddSaid numbers s (has_formed s x).answer (has_formed s x).after
 
     came : (why : Refusal) → among numbers (number_of why) ≡ true → Said (refused why s.tables)
     came why number = record { number = number; place = refl; left = refl }
@@ -42,22 +42,22 @@ module _ (s : State) where
     came-form : (why : Refusal) → among numbers (number_of why) ≡ true → SaidForm (formed (refused why s.tables) s.splines)
     came-form why number = record { number = number; place = refl; left = refl }
 
-  pub channel-said : (n : Name) (o : OscState) → Said channelNumbers (withAdded s.tables n o)
+  pub channel-said : (n : Name) (o : OscState) → Said channel_numbers (with_added s.tables n o)
   unfolding among
   channel-said n o =
-      let l = channelNumbers in
+      let l = channel_numbers in
       channel-by (Said l) s.tables n o (λ i e. refl) refl (came l Malformed refl) (came l Full refl)
 
-  pub shape-said : (n : Name) → SaidForm shapeNumbers (withAddedShape s.tables n s.splines)
+  pub shape-said : (n : Name) → SaidForm shape_numbers (with_added_shape s.tables n s.splines)
   unfolding among
   shape-said n =
-      let l = shapeNumbers in
+      let l = shape_numbers in
       shape-by (SaidForm l) s.tables s.splines n (λ i row. refl) (λ row. refl) (came-form l WrongSize refl) (came-form l Malformed refl) (came-form l Full refl)
 
   pub spline-said : (n : Name) (degree : ℕ) (controls knots : List Float)
-      → SaidForm splineNumbers (withAddedSpline s.tables n degree controls knots s.splines)
+      → SaidForm spline_numbers (with_added_spline s.tables n degree controls knots s.splines)
   unfolding among
   spline-said n degree controls knots =
-      let l = splineNumbers in
+      let l = spline_numbers in
       spline-by (SaidForm l) s.tables s.splines n (λ i row. refl) (λ row. refl) (came-form l WrongSize refl) (came-form l Malformed refl) (came-form l Full refl) degree
       controls knots (came-form l WrongSpline refl)

@@ -12,19 +12,19 @@ use Rattle.exact.specs.Doubles.{nought, one}
 use Rattle.naming.specs.declared.Name.{Name}
 use Rattle.pulse.specs.declared.bin.Bin.{Bin}
 use Rattle.pulse.specs.declared.list.Pulse.{Pulse}
-use Rattle.pulse.specs.Bin.{bin_of, numbersOf}
+use Rattle.pulse.specs.Bin.{bin_of, numbers_of}
 use Rattle.tables.specs.declared.Tables.{Tables}
 use Rattle.tables.specs.declared.Found.{Found}
 use Rattle.tables.specs.declared.Found.TheVariants.{At, Nowhere}
-use Rattle.tables.specs.Tables.{found, channelsIn, channelAt}
+use Rattle.tables.specs.Tables.{found, channels_in, channel_at}
 use Rattle.tables.proofs.Finding.{found-under}
 use Rattle.commands.specs.Play.{rows_of}
 use Rattle.merge.specs.Taking.{Part, parts_in}
 use Rattle.crosstalk.specs.declared.names.Crosstalk.{Crosstalk}
-use Rattle.crosstalk.specs.Crosstalk.{namesIn, row_of, part_of, rowParts, row_at, parts_at, planned}
+use Rattle.crosstalk.specs.Crosstalk.{names_in, row_of, part_of, row_parts, row_at, parts_at, planned}
 use Rattle.crosstalk.proofs.Laws.{plan-parts}
-use Rattle.mixdown.specs.Bins.{isAmong, all_rows, firstsAfter, binsBy}
-use Rattle.sampler_laws.specs.Added.{Due, dues_of, allDues}
+use Rattle.mixdown.specs.Bins.{is_among, all_rows, firsts_after, bins_by}
+use Rattle.sampler_laws.specs.Added.{Due, dues_of, all_dues}
 
 -- ---- each of some
 abbrev pub Each : {A : Type 0} → (A → Type 0) → List A → Type 0
@@ -53,7 +53,7 @@ module _ (t : Tables) where
 
   found-there : (n : Name) (i : ℕ) → found t n ≡ At i → i < t.count
   found-there n i e =
-      let under = found-under 0 n (channelsIn t) i e in
+      let under = found-under 0 n (channels_in t) i e in
       let short = rw (length-take t.count t.channels) at under in
       omega (arith, short)
 
@@ -62,52 +62,52 @@ module _ (t : Tables) where
   part-there n (At i) x ps e h = (found-there n i e, h)
   part-there n Nowhere x ps e h = h
 
-  row-there : (ns : List Name) (fs : List Float) → Each There (rowParts t ns fs)
-  unfolding rowParts
+  row-there : (ns : List Name) (fs : List Float) → Each There (row_parts t ns fs)
+  unfolding row_parts
   row-there [] fs = tt
   row-there (n ∷ ns) [] = tt
   row-there (n ∷ ns) (f ∷ fs) = go (eq f nought) (row-there ns fs)
     where
-      go : (b : Bool) → Each There (rowParts t ns fs) → Each There (cond b (rowParts t ns fs) (part_of (found t n) f (rowParts t ns fs)))
+      go : (b : Bool) → Each There (row_parts t ns fs) → Each There (cond b (row_parts t ns fs) (part_of (found t n) f (row_parts t ns fs)))
       go true h = h
-      go false h = part-there n (found t n) f (rowParts t ns fs) refl h
+      go false h = part-there n (found t n) f (row_parts t ns fs) refl h
 
   module _ (channel : Name) (c : Crosstalk) (factors : List Float) where
     at_there : (f : Found) → Each There (parts_at t channel c factors f)
     unfolding parts_at
-    at_there (At r) = row-there (namesIn c) (row_at r c.count factors)
+    at_there (At r) = row-there (names_in c) (row_at r c.count factors)
     at_there Nowhere = part-there channel (found t channel) one [] refl tt
 
     pub parts-there : (planned t channel c factors).refused ≡ false → Each There (parts_in (planned t channel c factors).taking)
-    parts-there ok = subst (Each There) (sym (plan-parts t channel c factors ok).parts) (at_there (row_of channel (namesIn c)))
+    parts-there ok = subst (Each There) (sym (plan-parts t channel c factors ok).parts) (at_there (row_of channel (names_in c)))
 
   -- ---- their bins
-  module _ (bins : List (List Float)) (P : List Float → Type 0) (known : (i k : ℕ) → i < t.count → k < (channelAt t i).bins → P (get_or bins (64 * i + k) [])) where
+  module _ (bins : List (List Float)) (P : List Float → Type 0) (known : (i k : ℕ) → i < t.count → k < (channel_at t i).bins → P (get_or bins (64 * i + k) [])) where
     rows-each : (i : ℕ) → i < t.count → Each P (rows_of t bins i)
     rows-each i there = each_at P [] (rows_of t bins i) at
       where
         at : (k : ℕ) → k < length (rows_of t bins i) → P (get_or (rows_of t bins i) k [])
         at k below =
-            let short = rw (length-take (channelAt t i).bins (take 64 (drop (64 * i) bins)), length-take 64 (drop (64 * i) bins)) at below in
-            let first : k < (channelAt t i).bins = omega (arith, short) in
+            let short = rw (length-take (channel_at t i).bins (take 64 (drop (64 * i) bins)), length-take 64 (drop (64 * i) bins)) at below in
+            let first : k < (channel_at t i).bins = omega (arith, short) in
             let second : k < 64 = omega (arith, short) in
-            rw (get_or-take (channelAt t i).bins (take 64 (drop (64 * i) bins)) k [] first, get_or-take 64 (drop (64 * i) bins) k [] second, get_or-drop (64 * i) bins k []) (known i k there first)
+            rw (get_or-take (channel_at t i).bins (take 64 (drop (64 * i) bins)) k [] first, get_or-take 64 (drop (64 * i) bins) k [] second, get_or-drop (64 * i) bins k []) (known i k there first)
 
     all-each : (ps : List Part) → Each There ps → Each P (all_rows t bins ps)
     unfolding all_rows
     all-each [] h = tt
     all-each (p ∷ ps) h = each_append P (rows_of t bins p.place) (all_rows t bins ps) (rows-each p.place h.0) (all-each ps h.1)
 
-    firsts-each : (before rs : List (List Float)) → Each P rs → Each P (firstsAfter before rs)
-    unfolding firstsAfter
+    firsts-each : (before rs : List (List Float)) → Each P rs → Each P (firsts_after before rs)
+    unfolding firsts_after
     firsts-each before [] h = tt
-    firsts-each before (r ∷ rs) h = go (isAmong r before) (firsts-each (before ++ (r ∷ [])) rs h.1)
+    firsts-each before (r ∷ rs) h = go (is_among r before) (firsts-each (before ++ (r ∷ [])) rs h.1)
       where
-        go : (b : Bool) → Each P (firstsAfter (before ++ (r ∷ [])) rs) → Each P (cond b (firstsAfter (before ++ (r ∷ [])) rs) (r ∷ firstsAfter (before ++ (r ∷ [])) rs))
+        go : (b : Bool) → Each P (firsts_after (before ++ (r ∷ [])) rs) → Each P (cond b (firsts_after (before ++ (r ∷ [])) rs) (r ∷ firsts_after (before ++ (r ∷ [])) rs))
         go true k = k
         go false k = (h.0, k)
 
-    pub bins-each : (ps : List Part) → Each There ps → Each P (binsBy t bins ps)
+    pub bins-each : (ps : List Part) → Each There ps → Each P (bins_by t bins ps)
     bins-each ps h = firsts-each [] (all_rows t bins ps) (all-each ps h)
 
 -- ---- their pulses
@@ -121,7 +121,7 @@ module _ (P : List Float → Type 0) (Q : Bin → Type 0) (holds : (row : List F
   of-each b numbers [] h = tt
   of-each b numbers (p ∷ ps) h = (h, of-each b numbers ps h)
 
-  pub dues-each : (merged : List Float → List Pulse) (rs : List (List Float)) → Each P rs → Each OfBin (allDues merged rs)
-  unfolding allDues
-  dues-each merged [] h = tt
-  dues-each merged (r ∷ rs) h = each_append OfBin (dues_of (bin_of r) (numbersOf r) (merged r)) (allDues merged rs) (of-each (bin_of r) (numbersOf r) (merged r) (holds r h.0)) (dues-each merged rs h.1)
+  pub dues_each : (merged : List Float → List Pulse) (rs : List (List Float)) → Each P rs → Each OfBin (all_dues merged rs)
+  unfolding all_dues
+  dues_each merged [] h = tt
+  dues_each merged (r ∷ rs) h = each_append OfBin (dues_of (bin_of r) (numbers_of r) (merged r)) (all_dues merged rs) (of-each (bin_of r) (numbers_of r) (merged r) (holds r h.0)) (dues_each merged rs h.1)

@@ -20,32 +20,32 @@ use Rattle.pulse.specs.declared.list.Pulse.{Pulse}
 use Rattle.tables.specs.declared.Tables.{Tables}
 use Rattle.commands.specs.declared.command.Arranged.{Arranged}
 use Rattle.commands.specs.declared.step.Step.{Step}
-use Rattle.commands.specs.Step.{binsAfter, pulsesAfter}
-use Rattle.commands.specs.Run.{Ran, ranTo, refusedAt, step_of, ran, sizesFit, executed}
-use Rattle.commands_laws.specs.Words.{further, secondCall}
-use Rattle.commands_laws.proofs.Calls.{asDone, in-two-calls, refused-call}
-use Rattle.system.specs.System.{State, told, withStored, hasRun, outcome}
-use Rattle.system.specs.Said.{commandNumbers, CommandsRemain, before-any, at_one, CommandsSaid}
+use Rattle.commands.specs.Step.{bins_after, pulses_after}
+use Rattle.commands.specs.Run.{Ran, ran_to, refused_at, step_of, ran, sizes_fit, executed}
+use Rattle.commands_laws.specs.Words.{further, second_call}
+use Rattle.commands_laws.proofs.Calls.{as_done, in_two-calls, refused-call}
+use Rattle.system.specs.System.{State, told, with_stored, has_run, outcome}
+use Rattle.system.specs.Said.{command_numbers, CommandsRemain, before-any, at_one, CommandsSaid}
 use Rattle.system.proofs.Numbers.{step-number}
 
 -- how a run ends, of which k commands have run before: all are run, or it is refused behind fewer
 data Ends (commands : List Arranged) (k : ℕ) (a : Answer) : Type 0 where
   all : (n : ℕ) → n ≡ k + length commands → a ≡ Done n → Ends commands k a
-  one : (why : Refusal) (n : ℕ) → n < k + length commands → among commandNumbers (number_of why) ≡ true → a ≡ Refused why n → Ends commands k a
+  one : (why : Refusal) (n : ℕ) → n < k + length commands → among command_numbers (number_of why) ≡ true → a ≡ Refused why n → Ends commands k a
 
 ran_ends : (k : ℕ) (t : Tables) (splines : List (List Float)) (commands : List Arranged) (bins : List (List Float)) (pulses : List Pulse)
     → Ends commands k (ran k t splines commands bins pulses).result.answer
 unfolding ran
 ran_ends k t splines [] bins pulses = all k (omega arith) refl
-ran_ends k t splines (a ∷ more) bins pulses = go s.stop refl (ran_ends (suc k) s.tables splines more (binsAfter s splines bins) (pulsesAfter s pulses))
+ran_ends k t splines (a ∷ more) bins pulses = go s.stop refl (ran_ends (suc k) s.tables splines more (bins_after s splines bins) (pulses_after s pulses))
   where
     s : Step
     s = step_of t splines bins a
 
     later : Ran
-    later = ran (suc k) s.tables splines more (binsAfter s splines bins) (pulsesAfter s pulses)
+    later = ran (suc k) s.tables splines more (bins_after s splines bins) (pulses_after s pulses)
 
-    go : (b : Bool) → s.stop ≡ b → Ends more (suc k) later.result.answer → Ends (a ∷ more) k (cond b (ranTo (refusedAt t s.why k) bins pulses) later).result.answer
+    go : (b : Bool) → s.stop ≡ b → Ends more (suc k) later.result.answer → Ends (a ∷ more) k (cond b (ran_to (refused_at t s.why k) bins pulses) later).result.answer
     go true e h = one s.why k (omega arith) (step-number t splines bins a e) refl
     go false e (all n is h) = all n (omega (arith, is)) h
     go false e (one why n below number h) = one why n (omega (arith, below)) number h
@@ -66,7 +66,7 @@ pub record Sized (commands splines bins pulses : ℕ) : Type 0 where
   pub rows : bins ≡ 512
   pub records : pulses ≡ 8192
 
-pub fitting : (commands splines bins pulses : ℕ) → sizesFit commands splines bins pulses ≡ true → Sized commands splines bins pulses
+pub fitting : (commands splines bins pulses : ℕ) → sizes_fit commands splines bins pulses ≡ true → Sized commands splines bins pulses
 fitting commands splines bins pulses e =
     let three = both (leb commands 1024 && eqb splines 8 && eqb bins 512) (eqb pulses 8192) e in
     let two = both (leb commands 1024 && eqb splines 8) (eqb bins 512) three.0 in
@@ -83,42 +83,42 @@ module _ (s : State) (commands : List Arranged) where
   run = executed s.tables s.splines commands s.bins s.pulses
 
   abbrev sized : Bool
-  sized = sizesFit (length commands) (length s.splines) (length s.bins) (length s.pulses)
+  sized = sizes_fit (length commands) (length s.splines) (length s.bins) (length s.pulses)
 
   abbrev Said : Ran → Type 0
-  Said x = CommandsSaid s commands (hasRun s x).answer (hasRun s x).after
+  Said x = CommandsSaid s commands (has_run s x).answer (has_run s x).after
 
   module _ (fits : Sized (length commands) (length s.splines) (length s.bins) (length s.pulses)) where
     module _ (why : Refusal) (k : ℕ) (told-so : run.result.answer ≡ Refused why k) where
       -- the commands before the refused one, alone
-      alone : executed s.tables s.splines (take k commands) s.bins s.pulses ≡ asDone k run
+      alone : executed s.tables s.splines (take k commands) s.bins s.pulses ≡ as_done k run
       alone = refused-call s.tables s.splines commands s.bins s.pulses why k fits.few fits.shapes fits.rows fits.records told-so
 
       abbrev rest : Ran
       rest = executed run.result.tables s.splines (drop k commands) run.bins run.pulses
 
       -- the whole call is those, and then the rest
-      in_two : run ≡ secondCall (Done k) (asDone k run) s.splines (drop k commands)
+      in_two : run ≡ second_call (Done k) (as_done k run) s.splines (drop k commands)
       in_two =
           let cut = take-append-drop k commands in
           ap (λ (l : List Arranged). executed s.tables s.splines l s.bins s.pulses) (sym cut)
-          ∙ in-two-calls s.tables s.splines (take k commands) (drop k commands) s.bins s.pulses (rw cut fits.few) fits.shapes fits.rows fits.records
-          ∙ ap (λ (x : Ran). secondCall x.result.answer x s.splines (drop k commands)) alone
+          ∙ in_two-calls s.tables s.splines (take k commands) (drop k commands) s.bins s.pulses (rw cut fits.few) fits.shapes fits.rows fits.records
+          ∙ ap (λ (x : Ran). second_call x.result.answer x s.splines (drop k commands)) alone
 
-      again : hasRun (hasRun s run).after rest ≡ told (Refused why 0) (hasRun s run).after
-      unfolding secondCall
+      again : has_run (has_run s run).after rest ≡ told (Refused why 0) (has_run s run).after
+      unfolding second_call
       again =
           let answer : rest.result.answer ≡ Refused why 0 = none-further k rest.result.answer why (sym (ap (λ (x : Ran). x.result.answer) in_two) ∙ told-so) in
           let back = sym in_two in
-          λ j. told (answer j) (withStored s (back j).result.tables (back j).bins (back j).pulses)
+          λ j. told (answer j) (with_stored s (back j).result.tables (back j).bins (back j).pulses)
 
-      remain : k < length commands → among commandNumbers (number_of why) ≡ true → CommandsRemain s commands why k (hasRun s run).after
+      remain : k < length commands → among command_numbers (number_of why) ≡ true → CommandsRemain s commands why k (has_run s run).after
       unfolding outcome
-      remain below number = record { number = number; place = below; earlier = ap (hasRun s) alone; next = again }
+      remain below number = record { number = number; place = below; earlier = ap (has_run s) alone; next = again }
 
     by_end : Ends commands 0 run.result.answer → Said run
-    by_end (all n is h) = subst (λ (a : Answer). CommandsSaid s commands a (hasRun s run).after) (sym h) (omega (arith, is))
-    by_end (one why n below number h) = subst (λ (a : Answer). CommandsSaid s commands a (hasRun s run).after) (sym h) (at_one (remain why n h (omega (arith, below)) number))
+    by_end (all n is h) = subst (λ (a : Answer). CommandsSaid s commands a (has_run s run).after) (sym h) (omega (arith, is))
+    by_end (one why n below number h) = subst (λ (a : Answer). CommandsSaid s commands a (has_run s run).after) (sym h) (at_one (remain why n h (omega (arith, below)) number))
 
   by_size : (b : Bool) → sized ≡ b → Said run
   unfolding among
@@ -126,7 +126,7 @@ module _ (s : State) (commands : List Arranged) where
       let is : run ≡ ran 0 s.tables s.splines commands s.bins s.pulses = rw e refl in
       by_end (fitting (length commands) (length s.splines) (length s.bins) (length s.pulses) e) (subst (λ (x : Ran). Ends commands 0 x.result.answer) (sym is) (ran_ends 0 s.tables s.splines commands s.bins s.pulses))
   by_size false e =
-      let is : run ≡ ranTo (refusedAt s.tables WrongSize 0) s.bins s.pulses = rw e refl in
+      let is : run ≡ ran_to (refused_at s.tables WrongSize 0) s.bins s.pulses = rw e refl in
       subst Said (sym is) (before-any e (record { number = refl; place = refl; left = refl }))
 
   pub commands-said : Said run

@@ -13,23 +13,23 @@ use lib.Seq.{get_or-set_other}
 use Rattle.naming.specs.declared.Name.{Name}
 use Rattle.naming.specs.Name.{same_name}
 use Rattle.naming.proofs.Named.{same-exactly}
-use Rattle.pulse.specs.Bin.{numbersOf}
+use Rattle.pulse.specs.Bin.{numbers_of}
 use Rattle.executor.specs.declared.osc.OscState.{OscState}
 use Rattle.tables.specs.declared.Channel.{Channel}
 use Rattle.tables.specs.declared.Tabled.{Tabled}
 use Rattle.tables.specs.declared.Found.TheVariants.{At}
-use Rattle.tables.specs.Tables.{Formed, formed, found, noChannel, channelAt, done, fresh, withChannels, withAdded, withShape, withAddedShape, withAddedSpline}
+use Rattle.tables.specs.Tables.{Formed, formed, found, no_channel, channel_at, done, fresh, with_channels, with_added, with_shape, with_added_shape, with_added_spline}
 use Rattle.commands_laws.specs.Sound.{Reached}
 use Rattle.commands_laws.proofs.Sound.{sound}
 use Rattle.commands_laws.proofs.Apart.{has-name}
-use Rattle.system.specs.System.{State, Call, make, add-channel, add-shape, add-spline, execute, sample, mixer, iir, fir, Event, calls, lends, withLent, outcome}
+use Rattle.system.specs.System.{State, Call, make, add-channel, add-shape, add-spline, execute, sample, mixer, iir, fir, Event, calls, lends, with_lent, outcome}
 use Rattle.system.specs.Kept.{Spares, AllSpare, after, Kept}
 use Rattle.system.proofs.Added.{channel-by, shape-by, spline-by}
 use Rattle.system.proofs.KeptRows.{Stays, as_before, and_then, commands-stay}
 
 module _ (i k : ℕ) (under : i < 8) (low : k < 64) where
   -- ---- one call
-  module _ (s : State) (channel : i < s.tables.count) (there : k < (channelAt s.tables i).bins) where
+  module _ (s : State) (channel : i < s.tables.count) (there : k < (channel_at s.tables i).bins) where
     abbrev LeftIn : Tabled → Type 0
     LeftIn x = Stays s.tables s.bins i k x.tables s.bins
 
@@ -41,9 +41,9 @@ module _ (i k : ℕ) (under : i < 8) (low : k < 64) where
 
     -- another place is set
     set-stays : (j count : ℕ) (c : Channel) → (i ≡ j → ⊥) → s.tables.count ≤ count
-        → LeftIn (done (withChannels s.tables (set s.tables.channels j c) count))
+        → LeftIn (done (with_channels s.tables (set s.tables.channels j c) count))
     set-stays j count c apart most =
-        let is = get_or-set_other s.tables.channels j i c noChannel apart in
+        let is = get_or-set_other s.tables.channels j i c no_channel apart in
         record {
           channel = omega (arith, most, channel);
           name = ap (λ (x : Channel). x.name) is;
@@ -52,7 +52,7 @@ module _ (i k : ℕ) (under : i < 8) (low : k < 64) where
         }
 
     -- a channel of another name: the one that is found has that name, and a new one goes behind those that are there
-    channel-stays : (n : Name) (o : OscState) → same_name (channelAt s.tables i).name n ≡ false → LeftIn (withAdded s.tables n o)
+    channel-stays : (n : Name) (o : OscState) → same_name (channel_at s.tables i).name n ≡ false → LeftIn (with_added s.tables n o)
     channel-stays n o other =
         let t = s.tables in
         channel-by LeftIn t n o
@@ -62,21 +62,21 @@ module _ (i k : ℕ) (under : i < 8) (low : k < 64) where
       where
         apart : (j : ℕ) → found s.tables n ≡ At j → i ≡ j → ⊥
         apart j e is =
-            let named = ap (λ (m : ℕ). (channelAt s.tables m).name) is ∙ has-name s.tables n j e in
-            true≢false (sym ((same-exactly (channelAt s.tables i).name n).1 named) ∙ other)
+            let named = ap (λ (m : ℕ). (channel_at s.tables m).name) is ∙ has-name s.tables n j e in
+            true≢false (sym ((same-exactly (channel_at s.tables i).name n).1 named) ∙ other)
 
     -- a shape: no channel is touched
-    one_more : (n : Name) (rows : List (List Float)) → LeftBy (formed (done (withShape s.tables n)) rows)
+    one_more : (n : Name) (rows : List (List Float)) → LeftBy (formed (done (with_shape s.tables n)) rows)
     one_more n rows = record { channel = channel; name = refl; there = there; same = refl }
 
-    shape-stays : (n : Name) → LeftBy (withAddedShape s.tables n s.splines)
+    shape-stays : (n : Name) → LeftBy (with_added_shape s.tables n s.splines)
     shape-stays n = shape-by LeftBy s.tables s.splines n (λ j row. came) (λ row. one_more n (set s.splines s.tables.named row)) came came came
 
-    spline-stays : (n : Name) (degree : ℕ) (controls knots : List Float) → LeftBy (withAddedSpline s.tables n degree controls knots s.splines)
+    spline-stays : (n : Name) (degree : ℕ) (controls knots : List Float) → LeftBy (with_added_spline s.tables n degree controls knots s.splines)
     spline-stays n degree controls knots =
         spline-by LeftBy s.tables s.splines n (λ j row. came) (λ row. one_more n (set s.splines s.tables.named row)) came came came degree controls knots came
 
-    call_stays : (c : Call) → Spares (channelAt s.tables i).name c
+    call_stays : (c : Call) → Spares (channel_at s.tables i).name c
         → let u = (outcome s c).after in Stays s.tables s.bins i k u.tables u.bins
     unfolding outcome Spares
     call_stays (make amp time oversize) spares = absurd spares
@@ -90,7 +90,7 @@ module _ (i k : ℕ) (under : i < 8) (low : k < 64) where
     call_stays (fir n taps) spares = came
 
   -- ---- any run
-  run-stays : (s : State) (run : List Event) → i < s.tables.count → k < (channelAt s.tables i).bins → AllSpare (channelAt s.tables i).name run
+  run-stays : (s : State) (run : List Event) → i < s.tables.count → k < (channel_at s.tables i).bins → AllSpare (channel_at s.tables i).name run
       → Stays s.tables s.bins i k (after s run).tables (after s run).bins
   unfolding after AllSpare
   run-stays s [] channel there spare = as_before s.tables s.bins i k channel there
@@ -100,23 +100,23 @@ module _ (i k : ℕ) (under : i < 8) (low : k < 64) where
       let spare' = subst (λ (n : Name). AllSpare n more) (sym one.name) spare.1 in
       let later = run-stays (outcome s c).after more one.channel one.there spare' in
       and_then s.tables u.tables (after u more).tables s.bins u.bins (after u more).bins i k one later
-  run-stays s (lends rows work marks ∷ more) channel there spare = run-stays (withLent s rows work marks) more channel there spare
+  run-stays s (lends rows work marks ∷ more) channel there spare = run-stays (with_lent s rows work marks) more channel there spare
 
 -- "64 bins .. a channel", of 8 channels: bin k of the channel at place i
-pub stored-keeps : (s : State) (run : List Event) (i k : ℕ) → i < s.tables.count → i < 8 → k < (channelAt s.tables i).bins → k < 64
-    → AllSpare (channelAt s.tables i).name run → Kept s i k (after s run)
+pub stored-keeps : (s : State) (run : List Event) (i k : ℕ) → i < s.tables.count → i < 8 → k < (channel_at s.tables i).bins → k < 64
+    → AllSpare (channel_at s.tables i).name run → Kept s i k (after s run)
 stored-keeps s run i k channel under there low spare =
     let h = run-stays i k under low s run channel there spare in
     record { there = h.there; same = h.same }
 
 -- the numbers of its spline, which every pulse of the bin is sampled by
-pub spline-keeps : (s : State) (run : List Event) (i k : ℕ) → i < s.tables.count → i < 8 → k < (channelAt s.tables i).bins → k < 64
-    → AllSpare (channelAt s.tables i).name run → numbersOf (get_or (after s run).bins (64 * i + k) []) ≡ numbersOf (get_or s.bins (64 * i + k) [])
-spline-keeps s run i k channel under there low spare = ap numbersOf (stored-keeps s run i k channel under there low spare).same
+pub spline-keeps : (s : State) (run : List Event) (i k : ℕ) → i < s.tables.count → i < 8 → k < (channel_at s.tables i).bins → k < 64
+    → AllSpare (channel_at s.tables i).name run → numbers_of (get_or (after s run).bins (64 * i + k) []) ≡ numbers_of (get_or s.bins (64 * i + k) [])
+spline-keeps s run i k channel under there low spare = ap numbers_of (stored-keeps s run i k channel under there low spare).same
 
 -- from made tables, after any run of calls: then there are at most 8 channels, and 64 bins in each
 pub from-made : (s : State) (run : List Event) (i k : ℕ) → Reached s.tables s.splines s.bins s.pulses
-    → i < s.tables.count → k < (channelAt s.tables i).bins → AllSpare (channelAt s.tables i).name run → Kept s i k (after s run)
+    → i < s.tables.count → k < (channel_at s.tables i).bins → AllSpare (channel_at s.tables i).name run → Kept s i k (after s run)
 from-made s run i k h channel there spare =
     let known = sound s.tables s.splines s.bins s.pulses h in
     let few = known.few in

@@ -14,13 +14,13 @@ use Rattle.quant.specs.declared.refusal.Refusal.{Refusal}
 use Rattle.quant.specs.declared.refusal.Refusal.TheVariants.{DoubledName, NoList, NoColumn}
 use Rattle.quant.specs.Refusal.{number_of}
 use Rattle.crosstalk.specs.declared.names.Crosstalk.{Crosstalk}
-use Rattle.crosstalk.specs.Crosstalk.{namesIn}
+use Rattle.crosstalk.specs.Crosstalk.{names_in}
 use Rattle.crosstalk.specs.Faults.{AtFault, NoneBefore, FirstAtFault}
 use Rattle.crosstalk.proofs.Laws.{name-planned}
 use Rattle.sampler.specs.declared.Request.{Request}
 use Rattle.sampler.specs.Sampler.{Left, sampled}
-use Rattle.system.specs.System.{State, outcome, hasSampled}
-use Rattle.system.specs.Said.{pulseNumbers, AtName, SampleSaid, before-any, at_name, at_one}
+use Rattle.system.specs.System.{State, outcome, has_sampled}
+use Rattle.system.specs.Said.{pulse_numbers, AtName, SampleSaid, before-any, at_name, at_one}
 use Rattle.system.proofs.Sampling.{sample-said}
 use Rattle.system.proofs.Twelve.{Answers}
 
@@ -35,7 +35,7 @@ module _ (s : State) (r : Request) (c : Crosstalk) (factors : List Float) where
   result = sampled s.tables r c factors s.bins s.pulses s.rows s.work s.marks
 
   -- none of the three is among the other numbers of the call
-  no_other : (q : Refusal) → OfNames q → (among (1 ∷ 13 ∷ 2 ∷ 7 ∷ []) (number_of q) ≡ false) × (among pulseNumbers (number_of q) ≡ false)
+  no_other : (q : Refusal) → OfNames q → (among (1 ∷ 13 ∷ 2 ∷ 7 ∷ []) (number_of q) ≡ false) × (among pulse_numbers (number_of q) ≡ false)
   unfolding among
   no_other q seventeen = (refl, refl)
   no_other q eighteen = (refl, refl)
@@ -43,9 +43,9 @@ module _ (s : State) (r : Request) (c : Crosstalk) (factors : List Float) where
 
   told_at : (q : Refusal) (k : ℕ) → OfNames q → Answers s r c factors (Refused q k) → AtName s r c factors q k
   unfolding outcome
-  told_at q k of e = by (subst (λ (a : Answer). SampleSaid s r c factors a (hasSampled s result).after) e (sample-said s r c factors))
+  told_at q k of e = by (subst (λ (a : Answer). SampleSaid s r c factors a (has_sampled s result).after) e (sample-said s r c factors))
     where
-      by : SampleSaid s r c factors (Refused q k) (hasSampled s result).after → AtName s r c factors q k
+      by : SampleSaid s r c factors (Refused q k) (has_sampled s result).after → AtName s r c factors q k
       by (before-any h) = absurd (true≢false (sym h.number ∙ (no_other q of).0))
       by (at_name h _) = h
       by (at_one h) = absurd (true≢false (sym h.number ∙ (no_other q of).1))
@@ -64,12 +64,12 @@ module _ (s : State) (r : Request) (c : Crosstalk) (factors : List Float) where
   pub never-no-column : (k : ℕ) → Answers s r c factors (Refused NoColumn k) → ⊥
   never-no-column k e = none (told_at NoColumn k nineteen e).first
     where
-      no_way : (i : ℕ) → AtFault s.tables (namesIn c) i NoColumn → ⊥
+      no_way : (i : ℕ) → AtFault s.tables (names_in c) i NoColumn → ⊥
       no_way i = elim [ ]
 
-      none : FirstAtFault s.tables (namesIn c) NoColumn k → ⊥
+      none : FirstAtFault s.tables (names_in c) NoColumn k → ⊥
       none f = no_way f.place f.fault
 
   -- no name is at fault: none of the three
-  pub no-name-refused : NoneBefore s.tables (namesIn c) (length (namesIn c)) → (q : Refusal) (k : ℕ) → OfNames q → Answers s r c factors (Refused q k) → ⊥
+  pub no-name-refused : NoneBefore s.tables (names_in c) (length (names_in c)) → (q : Refusal) (k : ℕ) → OfNames q → Answers s r c factors (Refused q k) → ⊥
   no-name-refused none q k of e = let first = (told_at q k of e).first in none first.place first.there q first.fault

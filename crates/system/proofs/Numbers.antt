@@ -13,31 +13,31 @@ use Rattle.naming.specs.Name.{same_name}
 use Rattle.quant.specs.Refusal.{number_of}
 use Rattle.executor.specs.declared.osc.Moved.{Moved}
 use Rattle.executor.specs.declared.osc.Swapped.{Swapped}
-use Rattle.executor.specs.Osc.{swappedPhases}
+use Rattle.executor.specs.Osc.{swapped_phases}
 use Rattle.pulse.specs.declared.envelope.Shape.{Shape}
 use Rattle.pulse.specs.declared.envelope.Shape.TheVariants.{Plain}
 use Rattle.pulse.specs.declared.weight.Weighed.{Weighed}
 use Rattle.pulse.specs.declared.weight.Weighed.TheVariants.{Fine, Overflow}
-use Rattle.pulse.specs.Bin.{headOf, kind_of, place_of}
-use Rattle.pulse.specs.Weight.{negligible, weighedOf}
+use Rattle.pulse.specs.Bin.{head_of, kind_of, place_of}
+use Rattle.pulse.specs.Weight.{negligible, weighed_of}
 use Rattle.tables.specs.declared.Tables.{Tables}
 use Rattle.tables.specs.declared.Found.{Found}
 use Rattle.tables.specs.declared.Found.TheVariants.{At, Nowhere}
-use Rattle.tables.specs.Tables.{found, shapeFound, channelAt}
+use Rattle.tables.specs.Tables.{found, shape_found, channel_at}
 use Rattle.commands.specs.declared.command.Play.{Play}
 use Rattle.commands.specs.declared.command.Command.{Command}
 use Rattle.commands.specs.declared.command.Command.TheVariants as C
 use Rattle.commands.specs.declared.command.Arranged.{Arranged}
 use Rattle.commands.specs.declared.step.Step.{Step}
-use Rattle.commands.specs.Command.{wellFormed, tooLong}
-use Rattle.commands.specs.Step.{noSpline, numbersAt, stops, goesOn, withOsc, turned, movedBy, turnedAt, swappedTo, swappedAt, swappedBetween}
-use Rattle.commands.specs.Play.{rows_of, isNew, isFull, stores, storedWith, plateauOf, binFor, splineFor, playedAt, playedAs, playedBy, played}
+use Rattle.commands.specs.Command.{well_formed, too_long}
+use Rattle.commands.specs.Step.{no_spline, numbers_at, stops, goes_on, with_osc, turned, moved_by, turned_at, swapped_to, swapped_at, swapped_between}
+use Rattle.commands.specs.Play.{rows_of, is_new, is_full, stores, stored_with, plateau_of, bin_for, spline_for, played_at, played_as, played_by, played}
 use Rattle.commands.specs.Run.{acted, step_of}
-use Rattle.system.specs.Said.{commandNumbers}
+use Rattle.system.specs.Said.{command_numbers}
 
 -- a step that stops has one of the numbers
 abbrev Numbered : Step → Type 0
-Numbered x = x.stop ≡ true → among commandNumbers (number_of x.why) ≡ true
+Numbered x = x.stop ≡ true → among command_numbers (number_of x.why) ≡ true
 
 one_of : (b : Bool) (x y : Step) → Numbered x → Numbered y → Numbered (cond b x y)
 one_of true x y h k = h
@@ -50,66 +50,66 @@ on e = absurd (true≢false (sym e))
 module _ (t : Tables) where
   turned-number : (i : ℕ) (m : Moved) → Numbered (turned t i m)
   unfolding among
-  turned-number i m = one_of m.refused (stops t NotFinite) (goesOn (withOsc t i m.osc)) (λ e. refl) on
+  turned-number i m = one_of m.refused (stops t NotFinite) (goes_on (with_osc t i m.osc)) (λ e. refl) on
 
-  turned-at-number : (f : Found) (c : Command) (time : Float) → Numbered (turnedAt t f c time)
-  unfolding turnedAt among
+  turned-at-number : (f : Found) (c : Command) (time : Float) → Numbered (turned_at t f c time)
+  unfolding turned_at among
   turned-at-number Nowhere c time = λ e. refl
-  turned-at-number (At i) c time = turned-number i (movedBy c time (channelAt t i).osc)
+  turned-at-number (At i) c time = turned-number i (moved_by c time (channel_at t i).osc)
 
-  swapped-to-number : (i j : ℕ) (x : Swapped) → Numbered (swappedTo t i j x)
+  swapped-to-number : (i j : ℕ) (x : Swapped) → Numbered (swapped_to t i j x)
   unfolding among
-  swapped-to-number i j x = one_of x.refused (stops t NotFinite) (goesOn (withOsc (withOsc t i x.one) j x.two)) (λ e. refl) on
+  swapped-to-number i j x = one_of x.refused (stops t NotFinite) (goes_on (with_osc (with_osc t i x.one) j x.two)) (λ e. refl) on
 
-  swapped-at-number : (f g : Found) (time : Float) → Numbered (swappedAt t f g time)
-  unfolding swappedAt among
+  swapped-at-number : (f g : Found) (time : Float) → Numbered (swapped_at t f g time)
+  unfolding swapped_at among
   swapped-at-number Nowhere g time = λ e. refl
   swapped-at-number (At i) Nowhere time = λ e. refl
-  swapped-at-number (At i) (At j) time = swapped-to-number i j (swappedPhases (channelAt t i).osc (channelAt t j).osc time)
+  swapped-at-number (At i) (At j) time = swapped-to-number i j (swapped_phases (channel_at t i).osc (channel_at t j).osc time)
 
-  swapped-number : (n m : Name) (time : Float) → Numbered (swappedBetween t n m time)
+  swapped-number : (n m : Name) (time : Float) → Numbered (swapped_between t n m time)
   swapped-number n m time =
       let f = found t n in
       let g = found t m in
-      one_of (same_name n m) (goesOn t) (swappedAt t f g time) on (swapped-at-number f g time)
+      one_of (same_name n m) (goes_on t) (swapped_at t f g time) on (swapped-at-number f g time)
 
   module _ (splines bins : List (List Float)) where
-    stored-with-number : (i : ℕ) (start : Float) (w : Weighed) (head : List Float) (spline : ℕ) → Numbered (storedWith t splines bins i start w head spline)
-    unfolding storedWith among
+    stored-with-number : (i : ℕ) (start : Float) (w : Weighed) (head : List Float) (spline : ℕ) → Numbered (stored_with t splines bins i start w head spline)
+    unfolding stored_with among
     stored-with-number i start Overflow head spline = λ e. refl
     stored-with-number i start (Fine w) head spline =
-        let place = place_of (head ++ numbersAt splines spline) (rows_of t bins i) in
-        one_of (isFull t bins i place) (stops t Full) (stores t i place (isNew t bins i place) start w head spline) (λ e. refl) on
+        let place = place_of (head ++ numbers_at splines spline) (rows_of t bins i) in
+        one_of (is_full t bins i place) (stops t Full) (stores t i place (is_new t bins i place) start w head spline) (λ e. refl) on
 
     module _ (start span : Float) (p : Play) where
-      played-at-number : (f : Found) (kind : Shape) (k : ℕ) → Numbered (playedAt t splines bins f start span p kind k)
-      unfolding playedAt among
+      played-at-number : (f : Found) (kind : Shape) (k : ℕ) → Numbered (played_at t splines bins f start span p kind k)
+      unfolding played_at among
       played-at-number Nowhere kind k = λ e. refl
       played-at-number (At i) kind k =
-          let b = binFor t i kind p span in
-          let w = weighedOf p.amplitude.0 p.phase.0 p.drag in
-          let spline = splineFor b.envelope.shape k in
-          let storing = storedWith t splines bins i start w (headOf b) spline in
+          let b = bin_for t i kind p span in
+          let w = weighed_of p.amplitude.0 p.phase.0 p.drag in
+          let spline = spline_for b.envelope.shape k in
+          let storing = stored_with t splines bins i start w (head_of b) spline in
           let quiet = negligible p.amplitude.0 t.amp.0 in
-          one_of (finite b.global.0 && finite b.envelope.plateau.0) (cond quiet (goesOn t) storing) (stops t NotFinite)
-          (one_of quiet (goesOn t) storing on (stored-with-number i start w (headOf b) spline))
+          one_of (finite b.global.0 && finite b.envelope.plateau.0) (cond quiet (goes_on t) storing) (stops t NotFinite)
+          (one_of quiet (goes_on t) storing on (stored-with-number i start w (head_of b) spline))
           (λ e. refl)
 
-      played-as-number : (kind : Shape) (k : ℕ) → Numbered (playedAs t splines bins start span p kind k)
+      played_as_number : (kind : Shape) (k : ℕ) → Numbered (played_as t splines bins start span p kind k)
       unfolding among
-      played-as-number kind k =
+      played_as_number kind k =
           let f = found t p.channel in
-          one_of (lt (plateauOf p span) nought) (stops t NegativePlateau) (playedAt t splines bins f start span p kind k) (λ e. refl) (played-at-number f kind k)
+          one_of (lt (plateau_of p span) nought) (stops t NegativePlateau) (played_at t splines bins f start span p kind k) (λ e. refl) (played-at-number f kind k)
 
-      played-by-number : (f : Found) → Numbered (playedBy t splines bins f start span p)
-      unfolding playedBy among
+      played-by-number : (f : Found) → Numbered (played_by t splines bins f start span p)
+      unfolding played_by among
       played-by-number Nowhere = λ e. refl
-      played-by-number (At k) = played-as-number (kind_of (numbersAt splines k)) k
+      played-by-number (At k) = played_as_number (kind_of (numbers_at splines k)) k
 
       played-number : Numbered (played t splines bins start span p)
       played-number =
-          let f = shapeFound t p.shape in
-          one_of p.shaped (playedBy t splines bins f start span p) (playedAs t splines bins start span p Plain noSpline) (played-by-number f) (played-as-number Plain noSpline)
+          let f = shape_found t p.shape in
+          one_of p.shaped (played_by t splines bins f start span p) (played_as t splines bins start span p Plain no_spline) (played-by-number f) (played_as_number Plain no_spline)
 
     acted-number : (start span : Float) (c : Command) → Numbered (acted t splines bins start span c)
     unfolding acted
@@ -125,6 +125,6 @@ module _ (t : Tables) where
     unfolding among
     step-number a =
         let x = acted t splines bins a.start.0 a.span.0 a.command in
-        one_of (wellFormed a) (cond (tooLong t a) (stops t Oversize) x) (stops t Malformed)
-        (one_of (tooLong t a) (stops t Oversize) x (λ e. refl) (acted-number a.start.0 a.span.0 a.command))
+        one_of (well_formed a) (cond (too_long t a) (stops t Oversize) x) (stops t Malformed)
+        (one_of (too_long t a) (stops t Oversize) x (λ e. refl) (acted-number a.start.0 a.span.0 a.command))
         (λ e. refl)

@@ -18,31 +18,31 @@ use Rattle.quant.specs.declared.settings.Fitting.{Fitting}
 use Rattle.quant.specs.declared.settings.Fitting.TheVariants.{Fit, Unfit}
 use Rattle.quant.specs.declared.settings.Settings.{Settings}
 use Rattle.quant.specs.Refusal.{number_of}
-use Rattle.quant.specs.Settings.{isRate, isLevel, fitting, fittingOf}
+use Rattle.quant.specs.Settings.{is_rate, is_level, fitting, fitting_of}
 use Rattle.crosstalk.specs.declared.names.Crosstalk.{Crosstalk}
 use Rattle.crosstalk.specs.declared.parts.Plan.{Plan}
-use Rattle.crosstalk.specs.Crosstalk.{namesIn, planned}
+use Rattle.crosstalk.specs.Crosstalk.{names_in, planned}
 use Rattle.crosstalk.specs.Faults.{AtFault, doubled, no-list}
 use Rattle.crosstalk.proofs.Laws.{Way, wrong_size, malformed, at-fault, unknown, accepted, way}
-use Rattle.mixdown.specs.Bins.{binsBy, mergedOf}
+use Rattle.mixdown.specs.Bins.{bins_by, merged_of}
 use Rattle.mixdown.specs.Sampled.{out}
 use Rattle.sampler.specs.declared.Request.{Request}
-use Rattle.sampler.specs.Prepared.{settingsOf}
-use Rattle.sampler.specs.Sizes.{sizesFit}
+use Rattle.sampler.specs.Prepared.{settings_of}
+use Rattle.sampler.specs.Sizes.{sizes_fit}
 use Rattle.sampler.specs.Sampler.{Left, left, sampled}
 use Rattle.sampler.proofs.Done.{Accepted}
-use Rattle.sampler_laws.specs.Added.{withAll, countIn}
+use Rattle.sampler_laws.specs.Added.{with_all, count_in}
 use Rattle.sampler_laws.proofs.Added.{First}
 use Rattle.sampler_laws.proofs.Calls.{rows-added}
-use Rattle.system.specs.System.{State, withLent, hasSampled}
-use Rattle.system.specs.Said.{parts_of, pulsesOf, withPulses, verdict, before-any, at_name, at_one, SampleSaid}
+use Rattle.system.specs.System.{State, with_lent, has_sampled}
+use Rattle.system.specs.Said.{parts_of, pulses_of, with_pulses, verdict, before-any, at_name, at_one, SampleSaid}
 use Rattle.system.proofs.Verdict.{fewer, bins-verdict}
 
 -- settings that fit are those of the request
-pub settings-are : (r : Request) (s : Settings) → fittingOf r.rate r.delay r.level ≡ Fit s → s ≡ settingsOf r
-settings-are r s e = go (isRate r.rate.0 && finite (div binary64 one r.rate.0) && finite r.delay.0 && isLevel r.level) e
+pub settings-are : (r : Request) (s : Settings) → fitting_of r.rate r.delay r.level ≡ Fit s → s ≡ settings_of r
+settings-are r s e = go (is_rate r.rate.0 && finite (div binary64 one r.rate.0) && finite r.delay.0 && is_level r.level) e
   where
-    go : (b : Bool) → fitting b r.rate r.delay r.level ≡ Fit s → s ≡ settingsOf r
+    go : (b : Bool) → fitting b r.rate r.delay r.level ≡ Fit s → s ≡ settings_of r
     go true f = cc
     go false f = let z : ◌≡◌ {A = ℕ} 0 1 = cc in absurd (omega arith)
 
@@ -54,21 +54,21 @@ module _ (s : State) (r : Request) (c : Crosstalk) (factors : List Float) where
   plan = planned s.tables r.channel c factors
 
   abbrev sized : Bool
-  sized = sizesFit r.rows (length s.rows.i) (length s.rows.q) (length s.rows.scratch) (length s.bins) (length s.pulses) (length s.work) (length s.marks)
+  sized = sizes_fit r.rows (length s.rows.i) (length s.rows.q) (length s.rows.scratch) (length s.bins) (length s.pulses) (length s.work) (length s.marks)
 
   abbrev Said : Left → Type 0
-  Said x = SampleSaid s r c factors (hasSampled s x).answer (hasSampled s x).after
+  Said x = SampleSaid s r c factors (has_sampled s x).answer (has_sampled s x).after
 
   -- ---- before the first pulse
 
   abbrev came : Answer → Left
   came a = left a s.rows s.work s.marks
 
-  plan-said : (z : Settings) → fittingOf r.rate r.delay r.level ≡ Fit z → sized ≡ true → plan.refused ≡ true → Said (came plan.answer)
+  plan-said : (z : Settings) → fitting_of r.rate r.delay r.level ≡ Fit z → sized ≡ true → plan.refused ≡ true → Said (came plan.answer)
   unfolding among
   plan-said z fit sizes e = by plan (way s.tables r.channel c factors) e
     where
-      named : (q : Refusal) (i : ℕ) → AtFault s.tables (namesIn c) i q → among (17 ∷ 18 ∷ []) (number_of q) ≡ true
+      named : (q : Refusal) (i : ℕ) → AtFault s.tables (names_in c) i q → among (17 ∷ 18 ∷ []) (number_of q) ≡ true
       named q i (doubled _) = refl
       named q i (no-list _ _) = refl
 
@@ -85,46 +85,46 @@ module _ (s : State) (r : Request) (c : Crosstalk) (factors : List Float) where
   -- ---- from the first pulse on
 
   module _ (a : Accepted s.tables r c factors s.bins s.pulses s.rows s.work s.marks) where
-    fit : a.settings ≡ settingsOf r
+    fit : a.settings ≡ settings_of r
     fit = settings-are r a.settings a.fit
 
     -- the verdict on its pulses
-    pub told-so : result.answer ≡ verdict (settingsOf r) (length s.rows.i) (pulsesOf s r c factors) 0
+    pub told-so : result.answer ≡ verdict (settings_of r) (length s.rows.i) (pulses_of s r c factors) 0
     told-so =
         let parts = parts_of s r c factors in
         ap (λ (x : Left). x.answer) a.is
-        ∙ bins-verdict a.settings r.rows (mergedOf s.tables s.bins s.pulses parts) (binsBy s.tables s.bins parts) 0 s.rows
-        ∙ ap (λ (x : Settings). verdict x (length s.rows.i) (pulsesOf s r c factors) 0) fit
+        ∙ bins-verdict a.settings r.rows (merged_of s.tables s.bins s.pulses parts) (bins_by s.tables s.bins parts) 0 s.rows
+        ∙ ap (λ (x : Settings). verdict x (length s.rows.i) (pulses_of s r c factors) 0) fit
 
     -- the first pulses, as many as are added
-    abbrev added : First a.settings r.rows (pulsesOf s r c factors) 0 s.rows (out result.answer result.rows)
+    abbrev added : First a.settings r.rows (pulses_of s r c factors) 0 s.rows (out result.answer result.rows)
     added = rows-added s.tables r c factors s.bins s.pulses s.rows s.work s.marks a
 
     -- what remains
-    remain : (k : ℕ) → added.many ≡ k → (hasSampled s result).after ≡ withPulses s r c factors k
+    remain : (k : ℕ) → added.many ≡ k → (has_sampled s result).after ≡ with_pulses s r c factors k
     remain k many =
         let rows =
         added.rows_are
-        ∙ ap (λ (x : Settings). withAll x r.rows (take added.many (pulsesOf s r c factors)) s.rows) fit
-        ∙ ap (λ (n : ℕ). withAll (settingsOf r) r.rows (take n (pulsesOf s r c factors)) s.rows) many in
+        ∙ ap (λ (x : Settings). with_all x r.rows (take added.many (pulses_of s r c factors)) s.rows) fit
+        ∙ ap (λ (n : ℕ). with_all (settings_of r) r.rows (take n (pulses_of s r c factors)) s.rows) many in
         let work = ap (λ (x : Left). x.work) a.is in
         let marks = ap (λ (x : Left). x.marks) a.is in
-        λ j. withLent s (rows j) (work j) (marks j)
+        λ j. with_lent s (rows j) (work j) (marks j)
 
-    by_answer : (x : Answer) → result.answer ≡ x → SampleSaid s r c factors x (hasSampled s result).after
+    by_answer : (x : Answer) → result.answer ≡ x → SampleSaid s r c factors x (has_sampled s result).after
     by_answer (Done k) e =
-        let whole = added.all-if-done k e in
-        let counted : k ≡ 0 + added.many = sym (ap countIn e) ∙ added.counted in
+        let whole = added.all_if_done k e in
+        let counted : k ≡ 0 + added.many = sym (ap count_in e) ∙ added.counted in
         record { count = omega (arith, whole, counted); left = remain k (omega (arith, counted)); none = sym told-so ∙ e }
     by_answer (Refused w k) e =
-        let counted : k ≡ 0 + added.many = sym (ap countIn e) ∙ added.counted in
+        let counted : k ≡ 0 + added.many = sym (ap count_in e) ∙ added.counted in
         let first = sym told-so ∙ e in
-        let g = fewer (settingsOf r) (length s.rows.i) (pulsesOf s r c factors) 0 w k first in
+        let g = fewer (settings_of r) (length s.rows.i) (pulses_of s r c factors) 0 w k first in
         at_one (record { number = g.number; place = let h = g.place in omega (arith, h); remain = remain k (omega (arith, counted)); first = first })
 
   -- ---- its checks in order
 
-  by_flags : (z : Settings) (b d : Bool) → fittingOf r.rate r.delay r.level ≡ Fit z → sized ≡ b → plan.refused ≡ d → Said result
+  by_flags : (z : Settings) (b d : Bool) → fitting_of r.rate r.delay r.level ≡ Fit z → sized ≡ b → plan.refused ≡ d → Said result
   unfolding sampled among
   by_flags z false d f g h =
       let is : result ≡ came (Refused why.WrongSize 0) = rw (f, g) refl in
@@ -136,9 +136,9 @@ module _ (s : State) (r : Request) (c : Crosstalk) (factors : List Float) where
 
   pub sample-said : Said result
   unfolding sampled among
-  sample-said = by (fittingOf r.rate r.delay r.level) refl
+  sample-said = by (fitting_of r.rate r.delay r.level) refl
     where
-      by : (f : Fitting) → fittingOf r.rate r.delay r.level ≡ f → Said result
+      by : (f : Fitting) → fitting_of r.rate r.delay r.level ≡ f → Said result
       by Unfit e =
           let is : result ≡ came (Refused why.Unfit 0) = rw e refl in
           subst Said (sym is) (before-any (record { number = refl; place = refl; left = refl }))

@@ -11,12 +11,12 @@ use Rattle.quant.specs.declared.refusal.Answer.{Answer}
 use Rattle.quant.specs.declared.refusal.Answer.TheVariants.{Refused}
 use Rattle.quant.specs.declared.refusal.Refusal.TheVariants.{WrongA0}
 use Rattle.rows.specs.Rows.{answer_of}
-use Rattle.iir.specs.Section.{sectionsOf}
+use Rattle.iir.specs.Section.{sections_of}
 use Rattle.iir.specs.Filter.{filtered}
 use Rattle.iir.specs.A0.{AtSection}
 use Rattle.iir.proofs.Calls as filter
-use Rattle.system.specs.System.{State, iir, Step, stepped, iirStep, outcome}
-use Rattle.system.specs.Said.{StepSaid, IirSaid, as-a-step, at-section}
+use Rattle.system.specs.System.{State, iir, Step, stepped, iir_step, outcome}
+use Rattle.system.specs.Said.{StepSaid, IirSaid, as_a-step, at-section}
 
 -- a step with these rows, where it is done, and this answer
 abbrev leaving : List Float → List Float → Answer → Step
@@ -29,14 +29,14 @@ module _ (s : State) where
   step-said i q true false = record { number = refl; place = refl; left = refl }
   step-said i q true true = refl
 
-  pub iir-said : (n : ℕ) (sections : List Float) → let x = iirStep s.rows n sections in IirSaid s n sections (stepped s x).answer (stepped s x).after
+  pub iir-said : (n : ℕ) (sections : List Float) → let x = iir_step s.rows n sections in IirSaid s n sections (stepped s x).answer (stepped s x).after
   unfolding among
-  iir-said n sections = by (iirStep s.rows n sections).answer (filter.way n s.rows.i s.rows.q sections)
+  iir-said n sections = by (iir_step s.rows n sections).answer (filter.way n s.rows.i s.rows.q sections)
     where
       by : (a : Answer) → filter.Way n s.rows.i s.rows.q sections a
-          → let x = leaving (filtered (sectionsOf sections) s.rows.i) (filtered (sectionsOf sections) s.rows.q) a in IirSaid s n sections (stepped s x).answer (stepped s x).after
-      by a (filter.wrong_size e) = as-a-step (record { number = refl; place = refl; left = refl })
-      by a (filter.malformed e f) = as-a-step (record { number = refl; place = refl; left = refl })
+          → let x = leaving (filtered (sections_of sections) s.rows.i) (filtered (sections_of sections) s.rows.q) a in IirSaid s n sections (stepped s x).answer (stepped s x).after
+      by a (filter.wrong_size e) = as_a-step (record { number = refl; place = refl; left = refl })
+      by a (filter.malformed e f) = as_a-step (record { number = refl; place = refl; left = refl })
       by a (filter.at-section k h) = at-section h (record { number = refl; place = refl; left = refl })
       by a (filter.accepted h) = refl
 

@@ -7,15 +7,15 @@ use lib.Ieee.{Float}
 use lib.ListN.{length}
 use Rattle.quant.specs.declared.refusal.Answer.{Answer}
 use Rattle.quant.specs.declared.refusal.Answer.TheVariants.{Done, Refused}
-use Rattle.rows.specs.Rows.{allFinite}
-use Rattle.mixer.specs.Mixer.{mixerFits}
-use Rattle.fir.specs.Fir.{firFits}
+use Rattle.rows.specs.Rows.{all_finite}
+use Rattle.mixer.specs.Mixer.{mixer_fits}
+use Rattle.fir.specs.Fir.{fir_fits}
 use Rattle.tables.specs.declared.Tabled.{Tabled}
 use Rattle.tables.specs.Tables.{made}
 use Rattle.commands_laws.specs.Sound.{Reached}
 use Rattle.commands_laws.specs.Sound as reached
 use Rattle.commands_laws.proofs.Sound.{sound}
-use Rattle.system.specs.System.{State, Call, make, add-channel, add-shape, add-spline, execute, sample, mixer, iir, fir, Event, calls, lends, withTables, withLent, adopted, remade, mixerStep, firStep, outcome}
+use Rattle.system.specs.System.{State, Call, make, add-channel, add-shape, add-spline, execute, sample, mixer, iir, fir, Event, calls, lends, with_tables, with_lent, adopted, remade, mixer_step, fir_step, outcome}
 use Rattle.system.specs.Said.{AsSaid, Holds, EveryCall}
 use Rattle.system.proofs.Promised.{answered, only}
 use Rattle.system.proofs.Adds.{make-said, channel-said, shape-said, spline-said}
@@ -33,9 +33,9 @@ said s (add-shape n) = shape-said s n
 said s (add-spline n p c t) = spline-said s n p c t
 said s (execute commands) = commands-said s commands
 said s (sample r c factors) = sample-said s r c factors
-said s (mixer n m o) = let x = mixerStep s.rows n m o in step-said s x.i x.q (mixerFits n (length s.rows.i) (length s.rows.q) (length m) (length o)) (allFinite m && allFinite o)
+said s (mixer n m o) = let x = mixer_step s.rows n m o in step-said s x.i x.q (mixer_fits n (length s.rows.i) (length s.rows.q) (length m) (length o)) (all_finite m && all_finite o)
 said s (iir n sections) = iir-said s n sections
-said s (fir n taps) = let x = firStep s.rows n taps in step-said s x.i x.q (firFits n (length s.rows.i) (length s.rows.q) (length taps)) (allFinite taps)
+said s (fir n taps) = let x = fir_step s.rows n taps in step-said s x.i x.q (fir_fits n (length s.rows.i) (length s.rows.q) (length taps)) (all_finite taps)
 
 pub holds : (s : State) (c : Call) → Holds s c
 holds s c = record { answered = answered s c; only = only s c; said = said s c }
@@ -49,7 +49,7 @@ Known s = Reached s.tables s.splines s.bins s.pulses
 remade-known : (s : State) (x : Tabled) → Known s → Reached x.tables s.splines s.bins s.pulses → Known (remade s x).after
 remade-known s x old new = by x.answer
   where
-    by : (a : Answer) → Known (adopted a s (withTables s x.tables))
+    by : (a : Answer) → Known (adopted a s (with_tables s x.tables))
     by (Done k) = new
     by (Refused why k) = old
 
@@ -79,7 +79,7 @@ every_call : (s : State) (events : List Event) → Known s → EveryCall s event
 unfolding EveryCall
 every_call s [] h = tt
 every_call s (calls c ∷ more) h = let k = next s c h in one_more s c more k (every_call (outcome s c).after more k)
-every_call s (lends rows work marks ∷ more) h = every_call (withLent s rows work marks) more h
+every_call s (lends rows work marks ∷ more) h = every_call (with_lent s rows work marks) more h
 
 -- "64 bins and 1,024 stored pulses a channel", of 8 channels, with whatever in them; all else that is lent may have any size. The first tables are made:
 -- of tolerances that fit (else the caller has no tables yet).
@@ -89,5 +89,5 @@ unfolding outcome
 whole amp time oversize lent events fit rows records =
     let start = reached.start amp time oversize lent.splines lent.bins lent.pulses rows records in
     let c = make amp time oversize in
-    let after : Known (outcome lent c).after = subst (λ (a : Answer). Known (adopted a lent (withTables lent (made amp time oversize).tables))) (sym fit) start in
+    let after : Known (outcome lent c).after = subst (λ (a : Answer). Known (adopted a lent (with_tables lent (made amp time oversize).tables))) (sym fit) start in
     one_more lent c events after (every_call (outcome lent c).after events after)

@@ -18,30 +18,30 @@ use Rattle.quant.specs.declared.refusal.Refusal.TheVariants as why
 use Rattle.quant.specs.declared.settings.Fitting.{Fitting}
 use Rattle.quant.specs.declared.settings.Fitting.TheVariants.{Fit, Unfit}
 use Rattle.quant.specs.declared.settings.Settings.{Settings}
-use Rattle.quant.specs.Settings.{fittingOf}
+use Rattle.quant.specs.Settings.{fitting_of}
 use Rattle.pulse.specs.Bin.{bin_of}
-use Rattle.tables.specs.Tables.{channelAt}
+use Rattle.tables.specs.Tables.{channel_at}
 use Rattle.commands_laws.specs.Sound.{Sound, Reached}
 use Rattle.commands_laws.proofs.Sound.{sound}
 use Rattle.crosstalk.specs.declared.names.Crosstalk.{Crosstalk}
 use Rattle.crosstalk.specs.declared.parts.Plan.{Plan}
-use Rattle.crosstalk.specs.Crosstalk.{namesIn, planned}
+use Rattle.crosstalk.specs.Crosstalk.{names_in, planned}
 use Rattle.crosstalk.specs.Faults.{AtFault, doubled, no-list}
 use Rattle.crosstalk.proofs.Laws.{Way, wrong_size, malformed, at-fault, unknown, accepted, way}
 use Rattle.placing.specs.declared.Judged.TheVariants as judgement
 use Rattle.placing.specs.Judged.{judged}
 use Rattle.placing.proofs.Twelve.{Over, Kept, Judgeable}
 use Rattle.placing.proofs.Twelve as one
-use Rattle.mixdown.specs.Bins.{binsBy, mergedOf}
+use Rattle.mixdown.specs.Bins.{bins_by, merged_of}
 use Rattle.sampler.specs.declared.Request.{Request}
-use Rattle.sampler.specs.Prepared.{settingsOf, Passes}
-use Rattle.sampler.specs.Sizes.{sizesFit}
+use Rattle.sampler.specs.Prepared.{settings_of, Passes}
+use Rattle.sampler.specs.Sizes.{sizes_fit}
 use Rattle.sampler.specs.Sampler.{Left, sampled}
 use Rattle.sampler.proofs.Order.{fitting-sizes}
 use Rattle.sampler_laws.specs.Added.{Due}
 use Rattle.system.specs.System.{State, sample, outcome}
-use Rattle.system.specs.Said.{parts_of, pulsesOf, verdict}
-use Rattle.system.proofs.Bins.{Each, each-here, parts-there, bins-each, dues-each}
+use Rattle.system.specs.Said.{parts_of, pulses_of, verdict}
+use Rattle.system.proofs.Bins.{Each, each-here, parts-there, bins-each, dues_each}
 use Rattle.system.proofs.Sampling.{settings-are, told-so}
 use Rattle.system.proofs.Verdict.{PulseAt, first-refused, first-told}
 
@@ -56,7 +56,7 @@ module _ (s : State) (r : Request) (c : Crosstalk) (factors : List Float) where
   len = length s.rows.i
 
   abbrev sized : Bool
-  sized = sizesFit r.rows len (length s.rows.q) (length s.rows.scratch) (length s.bins) (length s.pulses) (length s.work) (length s.marks)
+  sized = sizes_fit r.rows len (length s.rows.q) (length s.rows.scratch) (length s.bins) (length s.pulses) (length s.work) (length s.marks)
 
   abbrev plan : Plan
   plan = planned s.tables r.channel c factors
@@ -71,15 +71,15 @@ module _ (s : State) (r : Request) (c : Crosstalk) (factors : List Float) where
   -- 12: pulse k is the first that is refused, and its end index is over the row length
   pub record EndsPast (k : ℕ) : Type 0 where
     pub heard : Heard
-    pub pulse : PulseAt (settingsOf r) len (pulsesOf s r c factors) 0 k
-    pub over : Over (settingsOf r) pulse.this.bin pulse.this.pulse len
+    pub pulse : PulseAt (settings_of r) len (pulses_of s r c factors) 0 k
+    pub over : Over (settings_of r) pulse.this.bin pulse.this.pulse len
 
   -- ---- no check before the first pulse gives 12
 
   plan-other : (k : ℕ) → plan.answer ≡ Refused why.EndPastRow k → ⊥
   plan-other k e = by plan (way s.tables r.channel c factors) e
     where
-      named : (q : Refusal) (i j : ℕ) → AtFault s.tables (namesIn c) i q → Refused q j ≡ Refused why.EndPastRow k → ⊥
+      named : (q : Refusal) (i j : ℕ) → AtFault s.tables (names_in c) i q → Refused q j ≡ Refused why.EndPastRow k → ⊥
       named q i j (doubled _) f = let z : ◌≡◌ {A = ℕ} 0 1 = cc in omega arith
       named q i j (no-list _ _) f = let z : ◌≡◌ {A = ℕ} 0 1 = cc in omega arith
 
@@ -93,7 +93,7 @@ module _ (s : State) (r : Request) (c : Crosstalk) (factors : List Float) where
   abbrev result : Left
   result = sampled s.tables r c factors s.bins s.pulses s.rows s.work s.marks
 
-  by_flags : (k : ℕ) (z : Settings) (b d : Bool) → fittingOf r.rate r.delay r.level ≡ Fit z → sized ≡ b → plan.refused ≡ d → result.answer ≡ Refused why.EndPastRow k → Heard
+  by_flags : (k : ℕ) (z : Settings) (b d : Bool) → fitting_of r.rate r.delay r.level ≡ Fit z → sized ≡ b → plan.refused ≡ d → result.answer ≡ Refused why.EndPastRow k → Heard
   unfolding sampled
   by_flags k z false d f g h e =
       let is : result.answer ≡ Refused why.WrongSize 0 = rw (f, g) refl in
@@ -102,11 +102,11 @@ module _ (s : State) (r : Request) (c : Crosstalk) (factors : List Float) where
   by_flags k z true true f g h e = let is : result.answer ≡ plan.answer = rw (f, g, h) refl in absurd (plan-other k (sym is ∙ e))
   by_flags k z true false f g h e = record { fit = f ∙ ap Fit (settings-are r z f); sizes = g; plan = h }
 
-  heard-twelve : (k : ℕ) → result.answer ≡ Refused why.EndPastRow k → Heard
+  heard_twelve : (k : ℕ) → result.answer ≡ Refused why.EndPastRow k → Heard
   unfolding sampled
-  heard-twelve k e = by (fittingOf r.rate r.delay r.level) refl
+  heard_twelve k e = by (fitting_of r.rate r.delay r.level) refl
     where
-      by : (f : Fitting) → fittingOf r.rate r.delay r.level ≡ f → Heard
+      by : (f : Fitting) → fitting_of r.rate r.delay r.level ≡ f → Heard
       by Unfit f =
           let is : result.answer ≡ Refused why.Unfit 0 = rw f refl in
           let no : Refused why.Unfit 0 ≡ Refused why.EndPastRow k = sym is ∙ e in
@@ -114,22 +114,22 @@ module _ (s : State) (r : Request) (c : Crosstalk) (factors : List Float) where
       by (Fit z) f = by_flags k z sized plan.refused f refl refl e
 
   -- the call's answer is the verdict on its pulses
-  verdict-told : Heard → result.answer ≡ verdict (settingsOf r) len (pulsesOf s r c factors) 0
+  verdict-told : Heard → result.answer ≡ verdict (settings_of r) len (pulses_of s r c factors) 0
   unfolding sampled
-  verdict-told h = told-so s r c factors (record { settings = settingsOf r; fit = h.fit; sizes = h.sizes; plan = h.plan; is = rw (h.fit, h.sizes, h.plan) refl })
+  verdict-told h = told-so s r c factors (record { settings = settings_of r; fit = h.fit; sizes = h.sizes; plan = h.plan; is = rw (h.fit, h.sizes, h.plan) refl })
 
   module _ (known : Sound s.tables s.bins s.pulses) (doubles : Doubles s.bins) (rate : T (fits binary64 r.rate.0)) where
     module _ (a : Heard) where
       -- every pulse's bin is as plays leave it
-      pub pulse-kept : (before behind : List Due) (d : Due) → pulsesOf s r c factors ≡ before ++ (d ∷ behind) → Kept d.bin
+      pub pulse-kept : (before behind : List Due) (d : Due) → pulses_of s r c factors ≡ before ++ (d ∷ behind) → Kept d.bin
       pulse-kept before behind d are =
           let t = s.tables in
           let parts = parts_of s r c factors in
           let rows = bins-each t s.bins (λ (row : List Float). Kept (bin_of row)) at parts (parts-there t r.channel c factors a.plan) in
-          let dues = dues-each (λ (row : List Float). Kept (bin_of row)) Kept (λ row h. h) (mergedOf t s.bins s.pulses parts) (binsBy t s.bins parts) rows in
+          let dues = dues_each (λ (row : List Float). Kept (bin_of row)) Kept (λ row h. h) (merged_of t s.bins s.pulses parts) (bins_by t s.bins parts) rows in
           each-here (λ (x : Due). Kept x.bin) before d behind (subst (Each (λ (x : Due). Kept x.bin)) are dues)
         where
-          at : (i k : ℕ) → i < s.tables.count → k < (channelAt s.tables i).bins → Kept (bin_of (get_or s.bins (64 * i + k) []))
+          at : (i k : ℕ) → i < s.tables.count → k < (channel_at s.tables i).bins → Kept (bin_of (get_or s.bins (64 * i + k) []))
           at i k there below = record { good = known.good i k there below; width_fits = doubles (64 * i + k) 1; plateau-fits = doubles (64 * i + k) 2 }
 
       short : len ≤ 65536
@@ -137,36 +137,36 @@ module _ (s : State) (r : Request) (c : Crosstalk) (factors : List Float) where
           let z = fitting-sizes r.rows len (length s.rows.q) (length s.rows.scratch) (length s.bins) (length s.pulses) (length s.work) (length s.marks) a.sizes in
           leb-true len 65536 (both (leb len 65536) _ z.its-rows).0
 
-      -- so it is refused by 12 only when its end index is over the row length (that it is then: `twelve-given` of `placing`)
-      judgeable : (before behind : List Due) (d : Due) → pulsesOf s r c factors ≡ before ++ (d ∷ behind) → Judgeable (settingsOf r) d.bin len
+      -- so it is refused by 12 only when its end index is over the row length (that it is then: `twelve_given` of `placing`)
+      judgeable : (before behind : List Due) (d : Due) → pulses_of s r c factors ≡ before ++ (d ∷ behind) → Judgeable (settings_of r) d.bin len
       judgeable before behind d are =
           record { bin = pulse-kept before behind d are; fit = a.fit; rate-fits = rate; row = short }
 
-      pub pulse-twelve : (before behind : List Due) (d : Due) → pulsesOf s r c factors ≡ before ++ (d ∷ behind) → judged (settingsOf r) d.bin d.numbers d.pulse len ≡ judgement.Refused why.EndPastRow
-          → Over (settingsOf r) d.bin d.pulse len
-      pulse-twelve before behind d are e = one.only-twelve (settingsOf r) d.bin d.numbers d.pulse len (judgeable before behind d are) e
+      pub pulse_twelve : (before behind : List Due) (d : Due) → pulses_of s r c factors ≡ before ++ (d ∷ behind) → judged (settings_of r) d.bin d.numbers d.pulse len ≡ judgement.Refused why.EndPastRow
+          → Over (settings_of r) d.bin d.pulse len
+      pulse_twelve before behind d are e = one.only_twelve (settings_of r) d.bin d.numbers d.pulse len (judgeable before behind d are) e
 
     -- ---- it is given nowhere else
-    pub only-twelve : (k : ℕ) → Answers (Refused why.EndPastRow k) → EndsPast k
+    pub only_twelve : (k : ℕ) → Answers (Refused why.EndPastRow k) → EndsPast k
     unfolding outcome
-    only-twelve k e =
-        let a = heard-twelve k e in
-        let f = first-refused (settingsOf r) len why.EndPastRow (pulsesOf s r c factors) 0 k (sym (verdict-told a) ∙ e) in
+    only_twelve k e =
+        let a = heard_twelve k e in
+        let f = first-refused (settings_of r) len why.EndPastRow (pulses_of s r c factors) 0 k (sym (verdict-told a) ∙ e) in
         let p = f.pulse in
         record {
           heard = a;
           pulse = p;
-          over = pulse-twelve a p.before p.behind p.this p.are f.refused;
+          over = pulse_twelve a p.before p.behind p.this p.are f.refused;
         }
 
   -- ---- it is given there, from any state
-  pub twelve-given : (k : ℕ) → EndsPast k → Answers (Refused why.EndPastRow k)
+  pub twelve_given : (k : ℕ) → EndsPast k → Answers (Refused why.EndPastRow k)
   unfolding outcome
-  twelve-given k h =
+  twelve_given k h =
       let p = h.pulse in
       verdict-told h.heard
-      ∙ first-told (settingsOf r) len why.EndPastRow (pulsesOf s r c factors) 0 k (record { pulse = p; refused = one.twelve-given (settingsOf r) p.this.bin p.this.numbers p.this.pulse len h.over })
+      ∙ first-told (settings_of r) len why.EndPastRow (pulses_of s r c factors) 0 k (record { pulse = p; refused = one.twelve_given (settings_of r) p.this.bin p.this.numbers p.this.pulse len h.over })
 
 -- ---- from made tables, after any run of adds and command calls, accepted or refused: no other call writes tables, bins or pulses
 pub from-made : (s : State) (r : Request) (c : Crosstalk) (factors : List Float) → Reached s.tables s.splines s.bins s.pulses → Doubles s.bins → T (fits binary64 r.rate.0) → (k : ℕ) → Answers s r c factors (Refused why.EndPastRow k) → EndsPast s r c factors k
-from-made s r c factors h doubles rate k e = only-twelve s r c factors (sound s.tables s.splines s.bins s.pulses h) doubles rate k e
+from-made s r c factors h doubles rate k e = only_twelve s r c factors (sound s.tables s.splines s.bins s.pulses h) doubles rate k e

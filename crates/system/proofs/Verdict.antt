@@ -18,22 +18,22 @@ use Rattle.quant.specs.declared.settings.Settings.{Settings}
 use Rattle.quant.specs.Refusal.{number_of}
 use Rattle.pulse.specs.declared.bin.Bin.{Bin}
 use Rattle.pulse.specs.declared.list.Pulse.{Pulse}
-use Rattle.pulse.specs.Bin.{bin_of, numbersOf}
+use Rattle.pulse.specs.Bin.{bin_of, numbers_of}
 use Rattle.shape.specs.Envelope.{least}
 use Rattle.shape.proofs.Envelopes.{refused-by}
 use Rattle.placing.specs.declared.Judged.{Judged}
 use Rattle.placing.specs.declared.Judged.TheVariants as judgement
-use Rattle.placing.specs.Judged.{judged, judgedAnswer}
+use Rattle.placing.specs.Judged.{judged, judged_answer}
 use Rattle.placing.proofs.Ways.{Way, no_index, before, beyond, past, unshaped, over, plain-rest, curved-rest, flat, curved, way}
-use Rattle.mixdown.specs.Sampled.{Rowed, Out, out, addedTo, unlessRefused, ranPulses, and_then, ranBins}
+use Rattle.mixdown.specs.Sampled.{Rowed, Out, out, added_to, unless_refused, ran_pulses, and_then, ran_bins}
 use Rattle.mixdown.proofs.Lengths.{i-length}
-use Rattle.sampler_laws.specs.Added.{Due, dues_of, allDues}
-use Rattle.system.specs.Said.{pulseNumbers, unless, verdict}
+use Rattle.sampler_laws.specs.Added.{Due, dues_of, all_dues}
+use Rattle.system.specs.Said.{pulse_numbers, unless, verdict}
 
 -- ---- the numbers of a pulse
 
 abbrev Numbered : Refusal → Type 0
-Numbered why = among pulseNumbers (number_of why) ≡ true
+Numbered why = among pulse_numbers (number_of why) ≡ true
 
 module _ (why : Refusal) where
   same : (x : Refusal) → Numbered x → judgement.Refused x ≡ judgement.Refused why → Numbered why
@@ -79,7 +79,7 @@ module _ (s : Settings) (len : ℕ) where
       one_more f = record { place = let h = f.place in omega (arith, h); number = f.number }
 
       go : (j : Judged) → judged s d.bin d.numbers d.pulse len ≡ j → (verdict s len ds (suc k) ≡ Refused why n → Fewer ds (suc k) why n)
-          → unless (judgedAnswer j) k (verdict s len ds (suc k)) ≡ Refused why n → Fewer (d ∷ ds) k why n
+          → unless (judged_answer j) k (verdict s len ds (suc k)) ≡ Refused why n → Fewer (d ∷ ds) k why n
       go (judgement.Refused r) h later f =
           let is : r ≡ why = cc in
           let at : k ≡ n = cc in
@@ -99,7 +99,7 @@ module _ (s : Settings) (len : ℕ) where
   verdict-append (d ∷ ds) es k = go (judged s d.bin d.numbers d.pulse len) (verdict-append ds es (suc k))
     where
       go : (j : Judged) → verdict s len (ds ++ es) (suc k) ≡ onward (verdict s len ds (suc k)) (verdict s len es)
-          → unless (judgedAnswer j) k (verdict s len (ds ++ es) (suc k)) ≡ onward (unless (judgedAnswer j) k (verdict s len ds (suc k))) (verdict s len es)
+          → unless (judged_answer j) k (verdict s len (ds ++ es) (suc k)) ≡ onward (unless (judged_answer j) k (verdict s len ds (suc k))) (verdict s len es)
       go (judgement.Refused r) h = refl
       go (judgement.Plateau f) h = h
       go (judgement.Shaped f) h = h
@@ -141,13 +141,13 @@ module _ (s : Settings) (len : ℕ) (why : Refusal) where
             refused = f.refused;
           }
 
-      go : (x : Judged) → judged s d.bin d.numbers d.pulse len ≡ x → (verdict s len ds (suc j) ≡ Refused why k → FirstRefused ds (suc j) k) → unless (judgedAnswer x) j (verdict s len ds (suc j)) ≡ Refused why k → FirstRefused (d ∷ ds) j k
+      go : (x : Judged) → judged s d.bin d.numbers d.pulse len ≡ x → (verdict s len ds (suc j) ≡ Refused why k → FirstRefused ds (suc j) k) → unless (judged_answer x) j (verdict s len ds (suc j)) ≡ Refused why k → FirstRefused (d ∷ ds) j k
       go (judgement.Refused r) h more f =
           let is : r ≡ why = cc in
           let at : j ≡ k = cc in
           record { pulse = record { before = []; this = d; behind = ds; are = refl; place = omega (arith, at); accepted = ap Done at }; refused = h ∙ ap judgement.Refused is }
-      go (judgement.Plateau x) h more f = later (λ ys. ap (λ (y : Judged). unless (judgedAnswer y) j (verdict s len ys (suc j))) h) (more f)
-      go (judgement.Shaped x) h more f = later (λ ys. ap (λ (y : Judged). unless (judgedAnswer y) j (verdict s len ys (suc j))) h) (more f)
+      go (judgement.Plateau x) h more f = later (λ ys. ap (λ (y : Judged). unless (judged_answer y) j (verdict s len ys (suc j))) h) (more f)
+      go (judgement.Shaped x) h more f = later (λ ys. ap (λ (y : Judged). unless (judged_answer y) j (verdict s len ys (suc j))) h) (more f)
 
   pub first-told : (ds : List Due) (j k : ℕ) → FirstRefused ds j k → verdict s len ds j ≡ Refused why k
   unfolding verdict
@@ -156,50 +156,50 @@ module _ (s : Settings) (len : ℕ) (why : Refusal) where
       ap (λ (l : List Due). verdict s len l j) p.are
       ∙ verdict-append s len p.before (p.this ∷ p.behind) j
       ∙ ap (λ (a : Answer). onward s len a (verdict s len (p.this ∷ p.behind))) p.accepted
-      ∙ ap (λ (y : Judged). unless (judgedAnswer y) k (verdict s len p.behind (suc k))) f.refused
+      ∙ ap (λ (y : Judged). unless (judged_answer y) k (verdict s len p.behind (suc k))) f.refused
 
 -- ---- the pulses of a bin
 module _ (s : Settings) (rows : ℕ) where
   -- one pulse, and then others
   abbrev later : Bin → List Float → List Pulse → ℕ → Rowed → Judged → Out
-  later b numbers ps k st j = ranPulses s b numbers rows ps (suc k) (addedTo s b numbers rows j st)
+  later b numbers ps k st j = ran_pulses s b numbers rows ps (suc k) (added_to s b numbers rows j st)
 
-  pulses-long : (b : Bin) (numbers : List Float) (ps : List Pulse) (k : ℕ) (st : Rowed) → length (ranPulses s b numbers rows ps k st).left.i ≡ length st.i
-  unfolding ranPulses
+  pulses-long : (b : Bin) (numbers : List Float) (ps : List Pulse) (k : ℕ) (st : Rowed) → length (ran_pulses s b numbers rows ps k st).left.i ≡ length st.i
+  unfolding ran_pulses
   pulses-long b numbers [] k st = refl
-  pulses-long b numbers (p ∷ ps) k st = let j = judged s b numbers p (length st.i) in go j (i-length s b numbers rows st j) (pulses-long b numbers ps (suc k) (addedTo s b numbers rows j st))
+  pulses-long b numbers (p ∷ ps) k st = let j = judged s b numbers p (length st.i) in go j (i-length s b numbers rows st j) (pulses-long b numbers ps (suc k) (added_to s b numbers rows j st))
     where
-      go : (j : Judged) → length (addedTo s b numbers rows j st).i ≡ length st.i → length (later b numbers ps k st j).left.i ≡ length (addedTo s b numbers rows j st).i
-          → length (unlessRefused j k st (later b numbers ps k st j)).left.i ≡ length st.i
+      go : (j : Judged) → length (added_to s b numbers rows j st).i ≡ length st.i → length (later b numbers ps k st j).left.i ≡ length (added_to s b numbers rows j st).i
+          → length (unless_refused j k st (later b numbers ps k st j)).left.i ≡ length st.i
       go (judgement.Refused r) e h = refl
       go (judgement.Plateau f) e h = h ∙ e
       go (judgement.Shaped f) e h = h ∙ e
 
-  pulses-verdict : (b : Bin) (numbers : List Float) (ps : List Pulse) (k : ℕ) (st : Rowed) → (ranPulses s b numbers rows ps k st).answer ≡ verdict s (length st.i) (dues_of b numbers ps) k
-  unfolding ranPulses dues_of verdict
+  pulses-verdict : (b : Bin) (numbers : List Float) (ps : List Pulse) (k : ℕ) (st : Rowed) → (ran_pulses s b numbers rows ps k st).answer ≡ verdict s (length st.i) (dues_of b numbers ps) k
+  unfolding ran_pulses dues_of verdict
   pulses-verdict b numbers [] k st = refl
-  pulses-verdict b numbers (p ∷ ps) k st = let j = judged s b numbers p (length st.i) in go j (i-length s b numbers rows st j) (pulses-verdict b numbers ps (suc k) (addedTo s b numbers rows j st))
+  pulses-verdict b numbers (p ∷ ps) k st = let j = judged s b numbers p (length st.i) in go j (i-length s b numbers rows st j) (pulses-verdict b numbers ps (suc k) (added_to s b numbers rows j st))
     where
-      go : (j : Judged) → length (addedTo s b numbers rows j st).i ≡ length st.i → (later b numbers ps k st j).answer ≡ verdict s (length (addedTo s b numbers rows j st).i) (dues_of b numbers ps) (suc k)
-          → (unlessRefused j k st (later b numbers ps k st j)).answer ≡ unless (judgedAnswer j) k (verdict s (length st.i) (dues_of b numbers ps) (suc k))
+      go : (j : Judged) → length (added_to s b numbers rows j st).i ≡ length st.i → (later b numbers ps k st j).answer ≡ verdict s (length (added_to s b numbers rows j st).i) (dues_of b numbers ps) (suc k)
+          → (unless_refused j k st (later b numbers ps k st j)).answer ≡ unless (judged_answer j) k (verdict s (length st.i) (dues_of b numbers ps) (suc k))
       go (judgement.Refused r) e h = refl
       go (judgement.Plateau f) e h = h ∙ ap (λ (n : ℕ). verdict s n (dues_of b numbers ps) (suc k)) e
       go (judgement.Shaped f) e h = h ∙ ap (λ (n : ℕ). verdict s n (dues_of b numbers ps) (suc k)) e
 
   -- ---- all bins
-  pub bins-verdict : (merged : List Float → List Pulse) (rs : List (List Float)) (k : ℕ) (st : Rowed) → (ranBins s rows merged rs k st).answer ≡ verdict s (length st.i) (allDues merged rs) k
-  unfolding ranBins allDues verdict
+  pub bins-verdict : (merged : List Float → List Pulse) (rs : List (List Float)) (k : ℕ) (st : Rowed) → (ran_bins s rows merged rs k st).answer ≡ verdict s (length st.i) (all_dues merged rs) k
+  unfolding ran_bins all_dues verdict
   bins-verdict merged [] k st = refl
   bins-verdict merged (r ∷ rs) k st =
       let b = bin_of r in
-      let numbers = numbersOf r in
-      let o = ranPulses s b numbers rows (merged r) k st in
+      let numbers = numbers_of r in
+      let o = ran_pulses s b numbers rows (merged r) k st in
       let len = length st.i in
       by o.answer o.left (pulses-long b numbers (merged r) k st) (bins-verdict merged rs)
-      ∙ ap (λ (a : Answer). onward s len a (verdict s len (allDues merged rs))) (pulses-verdict b numbers (merged r) k st)
-      ∙ sym (verdict-append s len (dues_of b numbers (merged r)) (allDues merged rs) k)
+      ∙ ap (λ (a : Answer). onward s len a (verdict s len (all_dues merged rs))) (pulses-verdict b numbers (merged r) k st)
+      ∙ sym (verdict-append s len (dues_of b numbers (merged r)) (all_dues merged rs) k)
     where
-      by : (a : Answer) (l : Rowed) → length l.i ≡ length st.i → ((n : ℕ) (x : Rowed) → (ranBins s rows merged rs n x).answer ≡ verdict s (length x.i) (allDues merged rs) n)
-          → (and_then (out a l) (ranBins s rows merged rs)).answer ≡ onward s (length st.i) a (verdict s (length st.i) (allDues merged rs))
-      by (Done n) l e h = h n l ∙ ap (λ (m : ℕ). verdict s m (allDues merged rs) n) e
+      by : (a : Answer) (l : Rowed) → length l.i ≡ length st.i → ((n : ℕ) (x : Rowed) → (ran_bins s rows merged rs n x).answer ≡ verdict s (length x.i) (all_dues merged rs) n)
+          → (and_then (out a l) (ran_bins s rows merged rs)).answer ≡ onward s (length st.i) a (verdict s (length st.i) (all_dues merged rs))
+      by (Done n) l e h = h n l ∙ ap (λ (m : ℕ). verdict s m (all_dues merged rs) n) e
       by (Refused why n) l e h = refl

@@ -3,8 +3,8 @@
 use Rattle.std.specs.Prelude.{ℕ, ◌+◌, ◌*◌, ◌<◌, ◌≡◌, false, List, [], ◌∷◌, get_or}
 use Rattle.naming.specs.declared.Name.{Name}
 use Rattle.naming.specs.Name.{same_name}
-use Rattle.tables.specs.Tables.{channelAt}
-use Rattle.system.specs.System.{State, Call, make, add-channel, add-shape, add-spline, execute, sample, mixer, iir, fir, Event, calls, lends, withLent, outcome}
+use Rattle.tables.specs.Tables.{channel_at}
+use Rattle.system.specs.System.{State, Call, make, add-channel, add-shape, add-spline, execute, sample, mixer, iir, fir, Event, calls, lends, with_lent, outcome}
 
 -- a call that neither makes tables anew nor replaces the channel of a name
 unfoldable pub Spares : Name → Call → Type 0
@@ -27,9 +27,9 @@ AllSpare name (lends rows work marks ∷ more) = AllSpare name more
 unfoldable pub after : State → List Event → State
 after s [] = s
 after s (calls c ∷ more) = after (outcome s c).after more
-after s (lends rows work marks ∷ more) = after (withLent s rows work marks) more
+after s (lends rows work marks ∷ more) = after (with_lent s rows work marks) more
 
 -- bin k of the channel at place i, which is there in s, is there in u, with the same row
 pub record Kept (s : State) (i k : ℕ) (u : State) : Type 0 where
-  pub there : k < (channelAt u.tables i).bins
+  pub there : k < (channel_at u.tables i).bins
   pub same : get_or u.bins (64 * i + k) [] ≡ get_or s.bins (64 * i + k) []

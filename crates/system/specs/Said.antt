@@ -9,31 +9,31 @@ use Rattle.quant.specs.declared.refusal.Refusal.{Refusal}
 use Rattle.quant.specs.declared.settings.Fitting.TheVariants.{Fit}
 use Rattle.quant.specs.declared.settings.Settings.{Settings}
 use Rattle.quant.specs.Refusal.{number_of}
-use Rattle.quant.specs.Settings.{fittingOf}
+use Rattle.quant.specs.Settings.{fitting_of}
 use Rattle.iir.specs.A0.{AtSection}
 use Rattle.commands.specs.declared.command.Arranged.{Arranged}
-use Rattle.commands.specs.Run.{sizesFit}
+use Rattle.commands.specs.Run.{sizes_fit}
 use Rattle.commands_laws.specs.Sound.{Sound}
 use Rattle.merge.specs.Taking.{Part, parts_in}
-use Rattle.merge.specs.Work.{gatheredOf}
+use Rattle.merge.specs.Work.{gathered_of}
 use Rattle.crosstalk.specs.declared.names.Crosstalk.{Crosstalk}
-use Rattle.crosstalk.specs.Crosstalk.{namesIn, crossFits, crossFine, planned}
+use Rattle.crosstalk.specs.Crosstalk.{names_in, cross_fits, cross_fine, planned}
 use Rattle.crosstalk.specs.Faults.{FirstAtFault}
-use Rattle.placing.specs.Judged.{judged, judgedAnswer}
-use Rattle.mixdown.specs.Bins.{binsBy, mergedOf}
+use Rattle.placing.specs.Judged.{judged, judged_answer}
+use Rattle.mixdown.specs.Bins.{bins_by, merged_of}
 use Rattle.sampler.specs.declared.Request.{Request}
-use Rattle.sampler.specs.Prepared.{settingsOf}
+use Rattle.sampler.specs.Prepared.{settings_of}
 use Rattle.sampler.specs.Sizes as lent
-use Rattle.sampler_laws.specs.Added.{Due, allDues, withAll}
-use Rattle.system.specs.System.{State, Call, make, add-channel, add-shape, add-spline, execute, sample, mixer, iir, fir, Event, calls, lends, Outcome, told, withLent, Promised, outcome}
+use Rattle.sampler_laws.specs.Added.{Due, all_dues, with_all}
+use Rattle.system.specs.System.{State, Call, make, add-channel, add-shape, add-spline, execute, sample, mixer, iir, fir, Event, calls, lends, Outcome, told, with_lent, Promised, outcome}
 
 -- "Order for a command: 2, 4, 5, 6, 7, 8, 3"
-abbrev pub commandNumbers : List ℕ
-commandNumbers = 2 ∷ 4 ∷ 5 ∷ 6 ∷ 7 ∷ 8 ∷ 3 ∷ []
+abbrev pub command_numbers : List ℕ
+command_numbers = 2 ∷ 4 ∷ 5 ∷ 6 ∷ 7 ∷ 8 ∷ 3 ∷ []
 
 -- "then each pulse: 8 for its index, 9, 10, 11, 12, 8 for the rest"
-abbrev pub pulseNumbers : List ℕ
-pulseNumbers = 8 ∷ 9 ∷ 10 ∷ 11 ∷ 12 ∷ []
+abbrev pub pulse_numbers : List ℕ
+pulse_numbers = 8 ∷ 9 ∷ 10 ∷ 11 ∷ 12 ∷ []
 
 -- ---- refused before anything changed: with one of these numbers, at this place, and all is as it came
 pub record AsItCame (numbers : List ℕ) (at : ℕ) (came : State) (why : Refusal) (k : ℕ) (u : State) : Type 0 where
@@ -48,14 +48,14 @@ MakeSaid s (Refused why k) u = AsItCame (1 ∷ []) 0 s why k u
 
 -- "Adding a channel or shape: 2, 3"; of a shape 13 first, where its lent rows are not eight; of a spline "a new 16 for falling knots or wrong counts, after
 -- 2 and before 3"
-abbrev pub channelNumbers : List ℕ
-channelNumbers = 2 ∷ 3 ∷ []
+abbrev pub channel_numbers : List ℕ
+channel_numbers = 2 ∷ 3 ∷ []
 
-abbrev pub shapeNumbers : List ℕ
-shapeNumbers = 13 ∷ 2 ∷ 3 ∷ []
+abbrev pub shape_numbers : List ℕ
+shape_numbers = 13 ∷ 2 ∷ 3 ∷ []
 
-abbrev pub splineNumbers : List ℕ
-splineNumbers = 13 ∷ 2 ∷ 16 ∷ 3 ∷ []
+abbrev pub spline_numbers : List ℕ
+spline_numbers = 13 ∷ 2 ∷ 16 ∷ 3 ∷ []
 
 abbrev pub AddSaid : List ℕ → State → Answer → State → Type 0
 AddSaid numbers s (Done k) u = k ≡ 0
@@ -69,7 +69,7 @@ StepSaid s (Refused why k) u = AsItCame (13 ∷ 2 ∷ []) 0 s why k u
 -- of sections, by document 02, "a new 22, after 13 and 2 .., with the section from 0 as place; rows stay": nothing judged before refuses, and section k
 -- is the first whose a0 does not equal 1
 pub data IirRefused (s : State) (n : ℕ) (sections : List Float) (why : Refusal) (k : ℕ) (u : State) : Type 0 where
-  as-a-step : AsItCame (13 ∷ 2 ∷ []) 0 s why k u → IirRefused s n sections why k u
+  as_a-step : AsItCame (13 ∷ 2 ∷ []) 0 s why k u → IirRefused s n sections why k u
   at-section : AtSection n s.rows.i s.rows.q sections k → AsItCame (22 ∷ []) k s why k u → IirRefused s n sections why k u
 
 abbrev pub IirSaid : State → ℕ → List Float → Answer → State → Type 0
@@ -80,14 +80,14 @@ IirSaid s n sections (Refused why k) u = IirRefused s n sections why k u
 
 -- refused with k commands run: they alone are accepted and leave just this; the next is the refused one, and, asked again, it is refused again
 pub record CommandsRemain (s : State) (commands : List Arranged) (why : Refusal) (k : ℕ) (u : State) : Type 0 where
-  pub number : among commandNumbers (number_of why) ≡ true
+  pub number : among command_numbers (number_of why) ≡ true
   pub place : k < length commands
   pub earlier : outcome s (execute (take k commands)) ≡ told (Done k) u
   pub next : outcome u (execute (drop k commands)) ≡ told (Refused why 0) u
 
 -- "A list over 1,024 commands: 13 before any"; so too shapes' rows, bins or pulses of a wrong size
 pub data CommandsRefused (s : State) (commands : List Arranged) (why : Refusal) (k : ℕ) (u : State) : Type 0 where
-  before-any : sizesFit (length commands) (length s.splines) (length s.bins) (length s.pulses) ≡ false → AsItCame (13 ∷ []) 0 s why k u → CommandsRefused s commands why k u
+  before-any : sizes_fit (length commands) (length s.splines) (length s.bins) (length s.pulses) ≡ false → AsItCame (13 ∷ []) 0 s why k u → CommandsRefused s commands why k u
   at_one : CommandsRemain s commands why k u → CommandsRefused s commands why k u
 
 abbrev pub CommandsSaid : State → List Arranged → Answer → State → Type 0
@@ -100,16 +100,16 @@ CommandsSaid s commands (Refused why k) u = CommandsRefused s commands why k u
 abbrev pub parts_of : State → Request → Crosstalk → List Float → List Part
 parts_of s r c factors = parts_in (planned s.tables r.channel c factors).taking
 
-abbrev pub pulsesOf : State → Request → Crosstalk → List Float → List Due
-pulsesOf s r c factors =
+abbrev pub pulses_of : State → Request → Crosstalk → List Float → List Due
+pulses_of s r c factors =
     let parts = parts_of s r c factors in
-    allDues (mergedOf s.tables s.bins s.pulses parts) (binsBy s.tables s.bins parts)
+    all_dues (merged_of s.tables s.bins s.pulses parts) (bins_by s.tables s.bins parts)
 
 -- the state with the first k of them added onto the rows, one after another; the work rows and marks hold the lists, summed
-abbrev pub withPulses : State → Request → Crosstalk → List Float → ℕ → State
-withPulses s r c factors k =
-    let g = gatheredOf s.tables (parts_of s r c factors) s.pulses s.work s.marks in
-    withLent s (withAll (settingsOf r) r.rows (take k (pulsesOf s r c factors)) s.rows) g.rows g.marks
+abbrev pub with_pulses : State → Request → Crosstalk → List Float → ℕ → State
+with_pulses s r c factors k =
+    let g = gathered_of s.tables (parts_of s r c factors) s.pulses s.work s.marks in
+    with_lent s (with_all (settings_of r) r.rows (take k (pulses_of s r c factors)) s.rows) g.rows g.marks
 
 -- what is answered of pulses judged one after another, in a row of so many samples, where k are added already
 abbrev pub unless : Answer → ℕ → Answer → Answer
@@ -118,28 +118,28 @@ unless (Done count) k next = next
 
 unfoldable pub verdict : Settings → ℕ → List Due → ℕ → Answer
 verdict s len [] k = Done k
-verdict s len (d ∷ ds) k = unless (judgedAnswer (judged s d.bin d.numbers d.pulse len)) k (verdict s len ds (suc k))
+verdict s len (d ∷ ds) k = unless (judged_answer (judged s d.bin d.numbers d.pulse len)) k (verdict s len ds (suc k))
 
 -- no pulse is refused, and each is added and counted
 pub record AllAdded (s : State) (r : Request) (c : Crosstalk) (factors : List Float) (k : ℕ) (u : State) : Type 0 where
-  pub count : k ≡ length (pulsesOf s r c factors)
-  pub left : u ≡ withPulses s r c factors k
-  pub none : verdict (settingsOf r) (length s.rows.i) (pulsesOf s r c factors) 0 ≡ Done k
+  pub count : k ≡ length (pulses_of s r c factors)
+  pub left : u ≡ with_pulses s r c factors k
+  pub none : verdict (settings_of r) (length s.rows.i) (pulses_of s r c factors) 0 ≡ Done k
 
 -- refused with k pulses added: these remain, and the next is the first that is refused
 pub record PulsesRemain (s : State) (r : Request) (c : Crosstalk) (factors : List Float) (why : Refusal) (k : ℕ) (u : State) : Type 0 where
-  pub number : among pulseNumbers (number_of why) ≡ true
-  pub place : k < length (pulsesOf s r c factors)
-  pub remain : u ≡ withPulses s r c factors k
-  pub first : verdict (settingsOf r) (length s.rows.i) (pulsesOf s r c factors) 0 ≡ Refused why k
+  pub number : among pulse_numbers (number_of why) ≡ true
+  pub place : k < length (pulses_of s r c factors)
+  pub remain : u ≡ with_pulses s r c factors k
+  pub first : verdict (settings_of r) (length s.rows.i) (pulses_of s r c factors) 0 ≡ Refused why k
 
 -- 17 or 18 at position k: nothing judged before the names refuses, and of the names the one at k is the first at fault
 pub record AtName (s : State) (r : Request) (c : Crosstalk) (factors : List Float) (why : Refusal) (k : ℕ) : Type 0 where
-  pub fit : fittingOf r.rate r.delay r.level ≡ Fit (settingsOf r)
-  pub sizes : lent.sizesFit r.rows (length s.rows.i) (length s.rows.q) (length s.rows.scratch) (length s.bins) (length s.pulses) (length s.work) (length s.marks) ≡ true
-  pub each-factor : crossFits c.count (length factors) ≡ true
-  pub fine : crossFine r.channel c (take (c.count * c.count) factors) ≡ true
-  pub first : FirstAtFault s.tables (namesIn c) why k
+  pub fit : fitting_of r.rate r.delay r.level ≡ Fit (settings_of r)
+  pub sizes : lent.sizes_fit r.rows (length s.rows.i) (length s.rows.q) (length s.rows.scratch) (length s.bins) (length s.pulses) (length s.work) (length s.marks) ≡ true
+  pub each-factor : cross_fits c.count (length factors) ≡ true
+  pub fine : cross_fine r.channel c (take (c.count * c.count) factors) ≡ true
+  pub first : FirstAtFault s.tables (names_in c) why k
 
 -- "Its order: 1, 13, 2, 14, 7, then each pulse", and in place of 14, by document 02, 17 and 18 with the name's "position in its list, from 1"
 pub data SampleRefused (s : State) (r : Request) (c : Crosstalk) (factors : List Float) (why : Refusal) (k : ℕ) (u : State) : Type 0 where
@@ -154,9 +154,9 @@ SampleSaid s r c factors (Refused why k) u = SampleRefused s r c factors why k u
 -- ---- any call
 unfoldable pub AsSaid : State → Call → Outcome → Type 0
 AsSaid s (make amp time oversize) o = MakeSaid s o.answer o.after
-AsSaid s (add-channel n osc) o = AddSaid channelNumbers s o.answer o.after
-AsSaid s (add-shape n) o = AddSaid shapeNumbers s o.answer o.after
-AsSaid s (add-spline n p c t) o = AddSaid splineNumbers s o.answer o.after
+AsSaid s (add-channel n osc) o = AddSaid channel_numbers s o.answer o.after
+AsSaid s (add-shape n) o = AddSaid shape_numbers s o.answer o.after
+AsSaid s (add-spline n p c t) o = AddSaid spline_numbers s o.answer o.after
 AsSaid s (execute commands) o = CommandsSaid s commands o.answer o.after
 AsSaid s (sample r c factors) o = SampleSaid s r c factors o.answer o.after
 AsSaid s (mixer n m offsets) o = StepSaid s o.answer o.after
@@ -173,4 +173,4 @@ pub record Holds (s : State) (c : Call) : Type 0 where
 unfoldable pub EveryCall : State → List Event → Type 0
 EveryCall s [] = Unit {0}
 EveryCall s (calls c ∷ more) = let u = (outcome s c).after in Holds s c × Sound u.tables u.bins u.pulses × EveryCall u more
-EveryCall s (lends rows work marks ∷ more) = EveryCall (withLent s rows work marks) more
+EveryCall s (lends rows work marks ∷ more) = EveryCall (with_lent s rows work marks) more

@@ -12,7 +12,7 @@ use Rattle.naming.specs.Name.{same_name}
 use Rattle.tables.specs.declared.Channel.{Channel}
 use Rattle.tables.specs.declared.Found.TheVariants.{At, Nowhere}
 use Rattle.tables.specs.declared.Tables.{Tables}
-use Rattle.tables.specs.Tables.{channelsIn, shapesIn, found_from, found, shapeFrom, shapeFound}
+use Rattle.tables.specs.Tables.{channels_in, shapes_in, found_from, found, shape_from, shape_found}
 
 module _ {A : Type 0} (l : List A) (count : ℕ) where
   -- nothing is left
@@ -44,27 +44,27 @@ module _ (i : ℕ) (n : Name) (cs rest : List Channel) (c : Channel) (e : cs ≡
 
 -- ---- names
 
-pub shape-not : (i : ℕ) (n : Name) (ms : List Name) → ms ≡ [] → shapeFrom i n ms ≡ Nowhere
-unfolding shapeFrom
+pub shape-not : (i : ℕ) (n : Name) (ms : List Name) → ms ≡ [] → shape_from i n ms ≡ Nowhere
+unfolding shape_from
 shape-not i n ms e = rw e
 
 module _ (i : ℕ) (n : Name) (ms rest : List Name) (m : Name) (e : ms ≡ m ∷ rest) where
-  pub shape-here : same_name m n ≡ true → shapeFrom i n ms ≡ At i
-  unfolding shapeFrom
+  pub shape-here : same_name m n ≡ true → shape_from i n ms ≡ At i
+  unfolding shape_from
   shape-here t = rw (e, t)
 
-  pub shape-later : same_name m n ≡ false → shapeFrom (i + 1) n rest ≡ shapeFrom i n ms
-  unfolding shapeFrom
+  pub shape-later : same_name m n ≡ false → shape_from (i + 1) n rest ≡ shape_from i n ms
+  unfolding shape_from
   shape-later f = rw (e, f, add-one i)
 
 -- ---- a place that is found is one of those looked at
 
-pub shape-under : (k : ℕ) (n : Name) (ms : List Name) (i : ℕ) → shapeFrom k n ms ≡ At i → i < k + length ms
-unfolding shapeFrom
+pub shape-under : (k : ℕ) (n : Name) (ms : List Name) (i : ℕ) → shape_from k n ms ≡ At i → i < k + length ms
+unfolding shape_from
 shape-under k n [] i e = let z : ◌≡◌ {A = ℕ} 0 1 = cc in absurd (omega arith)
 shape-under k n (m ∷ ms) i e = go (same_name m n) e (shape-under (suc k) n ms i)
   where
-    go : (b : Bool) → cond b (At k) (shapeFrom (suc k) n ms) ≡ At i → (shapeFrom (suc k) n ms ≡ At i → i < suc k + length ms) → i < k + suc (length ms)
+    go : (b : Bool) → cond b (At k) (shape_from (suc k) n ms) ≡ At i → (shape_from (suc k) n ms ≡ At i → i < suc k + length ms) → i < k + suc (length ms)
     go true f later = let same : k ≡ i = cc in omega arith
     go false f later = let under = later f in omega arith
 
@@ -72,8 +72,8 @@ shape-under k n (m ∷ ms) i e = go (same_name m n) e (shape-under (suc k) n ms 
 abbrev name_of : Channel → Name
 name_of c = c.name
 
-by_names : (k : ℕ) (n : Name) (cs : List Channel) → found_from k n cs ≡ shapeFrom k n (map name_of cs)
-unfolding found_from shapeFrom
+by_names : (k : ℕ) (n : Name) (cs : List Channel) → found_from k n cs ≡ shape_from k n (map name_of cs)
+unfolding found_from shape_from
 by_names k n [] = refl
 by_names k n (c ∷ cs) = rw (by_names (suc k) n cs)
 
@@ -83,12 +83,12 @@ found-under k n cs i e = rw (length-map cs name_of) at (shape-under k n (map nam
 module _ (t : Tables) (n : Name) (i : ℕ) where
   pub found-eight : length t.channels ≡ 8 → found t n ≡ At i → i < 8
   found-eight whole e =
-      let under = found-under 0 n (channelsIn t) i e in
+      let under = found-under 0 n (channels_in t) i e in
       let most = rw (length-take t.count t.channels) at under in
       omega (arith, most, whole)
 
-  pub shape-eight : length t.shapes ≡ 8 → shapeFound t n ≡ At i → i < 8
+  pub shape-eight : length t.shapes ≡ 8 → shape_found t n ≡ At i → i < 8
   shape-eight whole e =
-      let under = shape-under 0 n (shapesIn t) i e in
+      let under = shape-under 0 n (shapes_in t) i e in
       let most = rw (length-take t.named t.shapes) at under in
       omega (arith, most, whole)

@@ -14,19 +14,19 @@ use Rattle.quant.specs.declared.refusal.Answer.{Answer}
 use Rattle.quant.specs.declared.refusal.Answer.TheVariants.{Done, Refused}
 use Rattle.quant.specs.declared.refusal.Refusal.{Refusal}
 use Rattle.quant.specs.declared.refusal.Refusal.TheVariants.{Malformed, Full, WrongSize, WrongSpline}
-use Rattle.naming.specs.Name.{isName}
+use Rattle.naming.specs.Name.{is_name}
 use Rattle.quant.specs.Refusal.{code_of}
-use Rattle.rows.specs.Rows.{allFinite}
-use Rattle.spline.specs.Spline.{isSpline}
+use Rattle.rows.specs.Rows.{all_finite}
+use Rattle.spline.specs.Spline.{is_spline}
 use Rattle.spline.specs.Row.{row_of}
-use Rattle.pulse.specs.Bin.{noNumbers}
+use Rattle.pulse.specs.Bin.{no_numbers}
 use Rattle.executor.specs.declared.osc.OscState.{OscState}
 use Rattle.tables.specs.declared.Channel.{Channel}
 use Rattle.tables.specs.declared.Tables.{Tables}
 use Rattle.tables.specs.declared.Tabled.{Tabled}
 use Rattle.tables.specs.declared.Found.{Found}
 use Rattle.tables.specs.declared.Found.TheVariants.{At, Nowhere}
-use Rattle.tables.specs.Tables.{found, shapeFound, done, refused, fresh, withChannels, withChannel, finiteOsc, settled, withAdded, Formed, formed, withShape, settledShape, withAddedShape, withAddedSpline}
+use Rattle.tables.specs.Tables.{found, shape_found, done, refused, fresh, with_channels, with_channel, finite_osc, settled, with_added, Formed, formed, with_shape, settled_shape, with_added_shape, with_added_spline}
 
 -- answers of other numbers
 other : (a b : Answer) (m n : ℕ) → code_of a ≡ m → code_of b ≡ n → (m ≡ n → ⊥) → a ≡ b → ⊥
@@ -36,29 +36,29 @@ other a b m n e f apart h = apart (sym e ∙ ap code_of h ∙ f)
 
 -- a good name that is new, and eight channels
 pub record ChannelFull (t : Tables) (n : Name) (o : OscState) : Type 0 where
-  pub good : (isName n && finiteOsc o) ≡ true
+  pub good : (is_name n && finite_osc o) ≡ true
   pub new : found t n ≡ Nowhere
   pub full : 8 ≤ t.count
 
 module _ (t : Tables) (n : Name) (o : OscState) where
-  pub channel-full : ChannelFull t n o → withAdded t n o ≡ refused Full t
+  pub channel-full : ChannelFull t n o → with_added t n o ≡ refused Full t
   unfolding settled
   channel-full h = rw (h.good, h.new, le-ltb t.count 8 h.full)
 
-  room-full : (isName n && finiteOsc o) ≡ true → found t n ≡ Nowhere → (b : Bool) → ltb t.count 8 ≡ b → (d : Tables)
+  room-full : (is_name n && finite_osc o) ≡ true → found t n ≡ Nowhere → (b : Bool) → ltb t.count 8 ≡ b → (d : Tables)
       → (cond b (done d) (refused Full t)).answer ≡ Refused Full 0 → ChannelFull t n o
   room-full g e true k d h = absurd (other (Done 0) (Refused Full 0) 0 3 refl refl (λ z. omega arith) h)
   room-full g e false k d h = record { good = g; new = e; full = ltb-false t.count 8 k }
 
-  found-full : (isName n && finiteOsc o) ≡ true → (f : Found) → found t n ≡ f → (settled t f (fresh n o)).answer ≡ Refused Full 0 → ChannelFull t n o
+  found-full : (is_name n && finite_osc o) ≡ true → (f : Found) → found t n ≡ f → (settled t f (fresh n o)).answer ≡ Refused Full 0 → ChannelFull t n o
   unfolding settled
   found-full g (At i) e h = absurd (other (Done 0) (Refused Full 0) 0 3 refl refl (λ z. omega arith) h)
   found-full g Nowhere e h = room-full g e (ltb t.count 8) refl _ h
 
-  pub only-channel-full : (withAdded t n o).answer ≡ Refused Full 0 → ChannelFull t n o
-  only-channel-full h = go (isName n && finiteOsc o) refl h
+  pub only-channel-full : (with_added t n o).answer ≡ Refused Full 0 → ChannelFull t n o
+  only-channel-full h = go (is_name n && finite_osc o) refl h
     where
-      go : (b : Bool) → (isName n && finiteOsc o) ≡ b → (cond b (settled t (found t n) (fresh n o)) (refused Malformed t)).answer ≡ Refused Full 0 → ChannelFull t n o
+      go : (b : Bool) → (is_name n && finite_osc o) ≡ b → (cond b (settled t (found t n) (fresh n o)) (refused Malformed t)).answer ≡ Refused Full 0 → ChannelFull t n o
       go true e k = found-full e (found t n) refl k
       go false e k = absurd (other (Refused Malformed 0) (Refused Full 0) 2 3 refl refl (λ z. omega arith) k)
 
@@ -66,38 +66,38 @@ module _ (t : Tables) (n : Name) (o : OscState) where
 
 -- a name that is new, and eight names
 pub record NamesFull (t : Tables) (n : Name) : Type 0 where
-  pub new : shapeFound t n ≡ Nowhere
+  pub new : shape_found t n ≡ Nowhere
   pub full : 8 ≤ t.named
 
 -- all that stands before refusal 3 is passed: of Hann's shape, and of a spline
 pub record ShapeFull (t : Tables) (n : Name) (rows : List (List Float)) : Type 0 where
   pub sized : eqb (length rows) 8 ≡ true
-  pub good : isName n ≡ true
+  pub good : is_name n ≡ true
   pub names : NamesFull t n
 
 pub record SplineFull (t : Tables) (n : Name) (degree : ℕ) (controls knots : List Float) (rows : List (List Float)) : Type 0 where
   pub sized : eqb (length rows) 8 ≡ true
-  pub good : (isName n && allFinite controls && allFinite knots) ≡ true
-  pub spline : isSpline degree (length controls) knots ≡ true
+  pub good : (is_name n && all_finite controls && all_finite knots) ≡ true
+  pub spline : is_spline degree (length controls) knots ≡ true
   pub names : NamesFull t n
 
 module _ (t : Tables) (n : Name) (rows : List (List Float)) where
-  settled-full : (row : List Float) → NamesFull t n → settledShape t (shapeFound t n) n row rows ≡ formed (refused Full t) rows
-  unfolding settledShape
+  settled-full : (row : List Float) → NamesFull t n → settled_shape t (shape_found t n) n row rows ≡ formed (refused Full t) rows
+  unfolding settled_shape
   settled-full row h = rw (h.new, le-ltb t.named 8 h.full)
 
-  room-full-of-names : shapeFound t n ≡ Nowhere → (b : Bool) → ltb t.named 8 ≡ b → (d : Tables) (x : List (List Float))
+  room-full-of-names : shape_found t n ≡ Nowhere → (b : Bool) → ltb t.named 8 ≡ b → (d : Tables) (x : List (List Float))
       → (cond b (formed (done d) x) (formed (refused Full t) rows)).tabled.answer ≡ Refused Full 0 → NamesFull t n
   room-full-of-names e true k d x h = absurd (other (Done 0) (Refused Full 0) 0 3 refl refl (λ z. omega arith) h)
   room-full-of-names e false k d x h = record { new = e; full = ltb-false t.named 8 k }
 
-  settled-at-full : (row : List Float) (f : Found) → shapeFound t n ≡ f → (settledShape t f n row rows).tabled.answer ≡ Refused Full 0 → NamesFull t n
-  unfolding settledShape
+  settled-at-full : (row : List Float) (f : Found) → shape_found t n ≡ f → (settled_shape t f n row rows).tabled.answer ≡ Refused Full 0 → NamesFull t n
+  unfolding settled_shape
   settled-at-full row (At i) e h = absurd (other (Done 0) (Refused Full 0) 0 3 refl refl (λ z. omega arith) h)
   settled-at-full row Nowhere e h = room-full-of-names e (ltb t.named 8) refl _ _ h
 
-  only-settled-full : (row : List Float) → (settledShape t (shapeFound t n) n row rows).tabled.answer ≡ Refused Full 0 → NamesFull t n
-  only-settled-full row h = settled-at-full row (shapeFound t n) refl h
+  only-settled-full : (row : List Float) → (settled_shape t (shape_found t n) n row rows).tabled.answer ≡ Refused Full 0 → NamesFull t n
+  only-settled-full row h = settled-at-full row (shape_found t n) refl h
 
   -- a test that refuses by another number is passed
   passes : (b : Bool) (x : Formed) (q : Refusal) (m : ℕ) → code_of (Refused q 0) ≡ m → (m ≡ 3 → ⊥)
@@ -105,24 +105,24 @@ module _ (t : Tables) (n : Name) (rows : List (List Float)) where
   passes true x q m e apart h = (refl, h)
   passes false x q m e apart h = absurd (other (Refused q 0) (Refused Full 0) m 3 e refl apart h)
 
-  pub shape-full : ShapeFull t n rows → withAddedShape t n rows ≡ formed (refused Full t) rows
-  shape-full h = rw (h.sized, h.good) (settled-full noNumbers h.names)
+  pub shape-full : ShapeFull t n rows → with_added_shape t n rows ≡ formed (refused Full t) rows
+  shape-full h = rw (h.sized, h.good) (settled-full no_numbers h.names)
 
-  pub only-shape-full : (withAddedShape t n rows).tabled.answer ≡ Refused Full 0 → ShapeFull t n rows
+  pub only-shape-full : (with_added_shape t n rows).tabled.answer ≡ Refused Full 0 → ShapeFull t n rows
   only-shape-full h =
       let a = passes (eqb (length rows) 8) _ WrongSize 13 refl (λ z. omega arith) h in
-      let b = passes (isName n) _ Malformed 2 refl (λ z. omega arith) a.1 in
-      record { sized = a.0; good = b.0; names = only-settled-full noNumbers b.1 }
+      let b = passes (is_name n) _ Malformed 2 refl (λ z. omega arith) a.1 in
+      record { sized = a.0; good = b.0; names = only-settled-full no_numbers b.1 }
 
   module _ (degree : ℕ) (controls knots : List Float) where
-    pub spline-full : SplineFull t n degree controls knots rows → withAddedSpline t n degree controls knots rows ≡ formed (refused Full t) rows
+    pub spline-full : SplineFull t n degree controls knots rows → with_added_spline t n degree controls knots rows ≡ formed (refused Full t) rows
     spline-full h = rw (h.sized, h.good, h.spline) (settled-full (row_of degree controls knots) h.names)
 
-    pub only-spline-full : (withAddedSpline t n degree controls knots rows).tabled.answer ≡ Refused Full 0 → SplineFull t n degree controls knots rows
+    pub only-spline-full : (with_added_spline t n degree controls knots rows).tabled.answer ≡ Refused Full 0 → SplineFull t n degree controls knots rows
     only-spline-full h =
         let a = passes (eqb (length rows) 8) _ WrongSize 13 refl (λ z. omega arith) h in
-        let b = passes (isName n && allFinite controls && allFinite knots) _ Malformed 2 refl (λ z. omega arith) a.1 in
-        let c = passes (isSpline degree (length controls) knots) _ WrongSpline 16 refl (λ z. omega arith) b.1 in
+        let b = passes (is_name n && all_finite controls && all_finite knots) _ Malformed 2 refl (λ z. omega arith) a.1 in
+        let c = passes (is_spline degree (length controls) knots) _ WrongSpline 16 refl (λ z. omega arith) b.1 in
         record { sized = a.0; good = b.0; spline = c.0; names = only-settled-full (row_of degree controls knots) c.1 }
 
 -- ---- a refused addition leaves the tables that came
@@ -141,20 +141,20 @@ one_of t false x y h k = k
 done-stays : (t d : Tables) → RefusedStays t (done d)
 done-stays t d r k e = absurd (done-not d r k e)
 
-refused-as-came : (t : Tables) (q : Refusal) → RefusedStays t (refused q t)
-refused-as-came t q r k e = refl
+refused_as_came : (t : Tables) (q : Refusal) → RefusedStays t (refused q t)
+refused_as_came t q r k e = refl
 
 settled-stays : (t : Tables) (f : Found) (c : Channel) → RefusedStays t (settled t f c)
 unfolding settled
-settled-stays t (At i) c = done-stays t (withChannel t i c)
+settled-stays t (At i) c = done-stays t (with_channel t i c)
 settled-stays t Nowhere c =
-    let d = withChannels t (set t.channels t.count c) (t.count + 1) in
-    one_of t (ltb t.count 8) (done d) (refused Full t) (done-stays t d) (refused-as-came t Full)
+    let d = with_channels t (set t.channels t.count c) (t.count + 1) in
+    one_of t (ltb t.count 8) (done d) (refused Full t) (done-stays t d) (refused_as_came t Full)
 
-pub channel-refused-stays : (t : Tables) (n : Name) (o : OscState) → RefusedStays t (withAdded t n o)
+pub channel-refused-stays : (t : Tables) (n : Name) (o : OscState) → RefusedStays t (with_added t n o)
 channel-refused-stays t n o =
     let s = settled t (found t n) (fresh n o) in
-    one_of t (isName n && finiteOsc o) s (refused Malformed t) (settled-stays t (found t n) (fresh n o)) (refused-as-came t Malformed)
+    one_of t (is_name n && finite_osc o) s (refused Malformed t) (settled-stays t (found t n) (fresh n o)) (refused_as_came t Malformed)
 
 -- and the shapes' rows too
 abbrev pub FormedStays : Tables → List (List Float) → Formed → Type 0
@@ -171,19 +171,19 @@ module _ (t : Tables) (rows : List (List Float)) where
   refused-formed : (q : Refusal) → FormedStays t rows (formed (refused q t) rows)
   refused-formed q r k e = (refl, refl)
 
-  settled-shape-stays : (f : Found) (n : Name) (row : List Float) → FormedStays t rows (settledShape t f n row rows)
-  unfolding settledShape
+  settled-shape-stays : (f : Found) (n : Name) (row : List Float) → FormedStays t rows (settled_shape t f n row rows)
+  unfolding settled_shape
   settled-shape-stays (At i) n row = done-formed t (set rows i row)
   settled-shape-stays Nowhere n row =
       let x = set rows t.named row in
-      one-formed (ltb t.named 8) (formed (done (withShape t n)) x) (formed (refused Full t) rows) (done-formed (withShape t n) x) (refused-formed Full)
+      one-formed (ltb t.named 8) (formed (done (with_shape t n)) x) (formed (refused Full t) rows) (done-formed (with_shape t n) x) (refused-formed Full)
 
-  pub shape-refused-stays : (n : Name) → FormedStays t rows (withAddedShape t n rows)
+  pub shape-refused-stays : (n : Name) → FormedStays t rows (with_added_shape t n rows)
   shape-refused-stays n =
-      one-formed (eqb (length rows) 8) _ _ (one-formed (isName n) _ _ (settled-shape-stays (shapeFound t n) n noNumbers) (refused-formed Malformed)) (refused-formed WrongSize)
+      one-formed (eqb (length rows) 8) _ _ (one-formed (is_name n) _ _ (settled-shape-stays (shape_found t n) n no_numbers) (refused-formed Malformed)) (refused-formed WrongSize)
 
-  pub spline-refused-stays : (n : Name) (degree : ℕ) (controls knots : List Float) → FormedStays t rows (withAddedSpline t n degree controls knots rows)
+  pub spline-refused-stays : (n : Name) (degree : ℕ) (controls knots : List Float) → FormedStays t rows (with_added_spline t n degree controls knots rows)
   spline-refused-stays n degree controls knots =
       let row = row_of degree controls knots in
-      let tested = one-formed (isSpline degree (length controls) knots) _ _ (settled-shape-stays (shapeFound t n) n row) (refused-formed WrongSpline) in
-      one-formed (eqb (length rows) 8) _ _ (one-formed (isName n && allFinite controls && allFinite knots) _ _ tested (refused-formed Malformed)) (refused-formed WrongSize)
+      let tested = one-formed (is_spline degree (length controls) knots) _ _ (settled-shape-stays (shape_found t n) n row) (refused-formed WrongSpline) in
+      one-formed (eqb (length rows) 8) _ _ (one-formed (is_name n && all_finite controls && all_finite knots) _ _ tested (refused-formed Malformed)) (refused-formed WrongSize)

@@ -11,8 +11,8 @@ use Rattle.tables.specs.contracts.Tables as T
 use Rattle.tables.proofs.Tables.TheLaws as T'
 
 module _ (t : Tables) (vs : List Val) (is : Is (row T.the_type) t vs) where
-  pub eight-channels : length t.channels ≡ 8
-  eight-channels = sym (length-map t.channels _) ∙ (LL.owed T.the_type T'.the_laws t vs is).1.1.1.0.1.0.1
+  pub eight_channels : length t.channels ≡ 8
+  eight_channels = sym (length-map t.channels _) ∙ (LL.owed T.the_type T'.the_laws t vs is).1.1.1.0.1.0.1
 
   pub eight-shapes : length t.shapes ≡ 8
   eight-shapes = sym (length-map t.shapes _) ∙ (LL.owed T.the_type T'.the_laws t vs is).1.1.1.1.1.0.1.0.1

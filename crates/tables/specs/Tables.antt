@@ -12,12 +12,12 @@ use Rattle.quant.specs.declared.refusal.Answer.{Answer}
 use Rattle.quant.specs.declared.refusal.Answer.TheVariants.{Done, Refused}
 use Rattle.quant.specs.declared.refusal.Refusal.{Refusal}
 use Rattle.quant.specs.declared.refusal.Refusal.TheVariants.{Unfit, Malformed, Full, UnknownChannel, WrongSize, WrongSpline}
-use Rattle.naming.specs.Name.{isName, same_name}
-use Rattle.quant.specs.Settings.{isTolerance}
-use Rattle.rows.specs.Rows.{allFinite}
-use Rattle.spline.specs.Spline.{isSpline}
+use Rattle.naming.specs.Name.{is_name, same_name}
+use Rattle.quant.specs.Settings.{is_tolerance}
+use Rattle.rows.specs.Rows.{all_finite}
+use Rattle.spline.specs.Spline.{is_spline}
 use Rattle.spline.specs.Row.{row_of}
-use Rattle.pulse.specs.Bin.{noNumbers}
+use Rattle.pulse.specs.Bin.{no_numbers}
 use Rattle.executor.specs.declared.osc.OscState.{OscState}
 use Rattle.tables.specs.declared.Channel.{Channel}
 use Rattle.tables.specs.declared.Tables.{Tables}
@@ -30,11 +30,11 @@ use Rattle.tables.specs.declared.Told.TheVariants as told
 -- ---- what stands in the tables
 
 -- the channels in order of first adding; a count over 8 has the 8 that are there
-abbrev pub channelsIn : Tables → List Channel
-channelsIn t = take t.count t.channels
+abbrev pub channels_in : Tables → List Channel
+channels_in t = take t.count t.channels
 
-abbrev pub shapesIn : Tables → List Name
-shapesIn t = take t.named t.shapes
+abbrev pub shapes_in : Tables → List Name
+shapes_in t = take t.named t.shapes
 
 -- where a channel of that name stands, counted from k
 unfoldable pub found_from : ℕ → Name → List Channel → Found
@@ -42,23 +42,23 @@ found_from k n [] = Nowhere
 found_from k n (c ∷ cs) = cond (same_name c.name n) (At k) (found_from (suc k) n cs)
 
 abbrev pub found : Tables → Name → Found
-found t n = found_from 0 n (channelsIn t)
+found t n = found_from 0 n (channels_in t)
 
 -- where a shape's name stands, counted from k
-unfoldable pub shapeFrom : ℕ → Name → List Name → Found
-shapeFrom k n [] = Nowhere
-shapeFrom k n (m ∷ ms) = cond (same_name m n) (At k) (shapeFrom (suc k) n ms)
+unfoldable pub shape_from : ℕ → Name → List Name → Found
+shape_from k n [] = Nowhere
+shape_from k n (m ∷ ms) = cond (same_name m n) (At k) (shape_from (suc k) n ms)
 
-abbrev pub shapeFound : Tables → Name → Found
-shapeFound t n = shapeFrom 0 n (shapesIn t)
+abbrev pub shape_found : Tables → Name → Found
+shape_found t n = shape_from 0 n (shapes_in t)
 
 -- ---- tables made
 
-abbrev pub noName : Name
-noName = record { first = 0; second = 0; len = 0 }
+abbrev pub no_name : Name
+no_name = record { first = 0; second = 0; len = 0 }
 
-abbrev pub atRest : OscState
-atRest = record { base = record { 0 = nought }; delta = record { 0 = nought }; phase = record { 0 = nought } }
+abbrev pub at_rest : OscState
+at_rest = record { base = record { 0 = nought }; delta = record { 0 = nought }; phase = record { 0 = nought } }
 
 -- a channel that starts fresh: no bin, no pulse
 abbrev pub fresh : Name → OscState → Channel
@@ -70,9 +70,9 @@ empty a t o =
       amp = record { 0 = a };
       time = record { 0 = t };
       oversize = o;
-      channels = replicate 8 (fresh noName atRest);
+      channels = replicate 8 (fresh no_name at_rest);
       count = 0;
-      shapes = replicate 8 noName;
+      shapes = replicate 8 no_name;
       named = 0;
     }
 
@@ -84,13 +84,13 @@ refused r t = record { answer = Refused r 0; tables = t }
 
 -- 1 where a tolerance is unfit: then empty tables that tolerate nothing
 abbrev pub made : Float → Float → Bool → Tabled
-made a t o = cond (isTolerance a && isTolerance t) (done (empty a t o)) (refused Unfit (empty nought nought false))
+made a t o = cond (is_tolerance a && is_tolerance t) (done (empty a t o)) (refused Unfit (empty nought nought false))
 
 -- ---- channels and shapes added
 
 -- the same tables, with the channel at a place or the count of channels another
-abbrev pub withChannels : Tables → List Channel → ℕ → Tables
-withChannels t cs count =
+abbrev pub with_channels : Tables → List Channel → ℕ → Tables
+with_channels t cs count =
     record {
       amp = t.amp;
       time = t.time;
@@ -101,21 +101,21 @@ withChannels t cs count =
       named = t.named;
     }
 
-abbrev pub withChannel : Tables → ℕ → Channel → Tables
-withChannel t i c = withChannels t (set t.channels i c) t.count
+abbrev pub with_channel : Tables → ℕ → Channel → Tables
+with_channel t i c = with_channels t (set t.channels i c) t.count
 
-abbrev pub finiteOsc : OscState → Bool
-finiteOsc o = finite o.base.0 && finite o.delta.0 && finite o.phase.0
+abbrev pub finite_osc : OscState → Bool
+finite_osc o = finite o.base.0 && finite o.delta.0 && finite o.phase.0
 
 -- a known name is replaced, a new one meets the ninth place: 3
 unfoldable pub settled : Tables → Found → Channel → Tabled
-settled t (At i) c = done (withChannel t i c)
+settled t (At i) c = done (with_channel t i c)
 settled t Nowhere c =
-    cond (ltb t.count 8) (done (withChannels t (set t.channels t.count c) (t.count + 1))) (refused Full t)
+    cond (ltb t.count 8) (done (with_channels t (set t.channels t.count c) (t.count + 1))) (refused Full t)
 
 -- 2, then 3
-abbrev pub withAdded : Tables → Name → OscState → Tabled
-withAdded t n o = cond (isName n && finiteOsc o) (settled t (found t n) (fresh n o)) (refused Malformed t)
+abbrev pub with_added : Tables → Name → OscState → Tabled
+with_added t n o = cond (is_name n && finite_osc o) (settled t (found t n) (fresh n o)) (refused Malformed t)
 
 -- ---- shapes: for each name a lent row of 72 numbers, those of its spline; zeros are Hann's
 
@@ -127,8 +127,8 @@ pub record Formed : Type 0 where
 abbrev pub formed : Tabled → List (List Float) → Formed
 formed r rows = record { tabled = r; rows = rows }
 
-abbrev pub withShape : Tables → Name → Tables
-withShape t n =
+abbrev pub with_shape : Tables → Name → Tables
+with_shape t n =
     record {
       amp = t.amp;
       time = t.time;
@@ -140,25 +140,25 @@ withShape t n =
     }
 
 -- a known name is replaced, a new one meets the ninth place: 3
-unfoldable pub settledShape : Tables → Found → Name → List Float → List (List Float) → Formed
-settledShape t (At i) n row rows = formed (done t) (set rows i row)
-settledShape t Nowhere n row rows =
-    cond (ltb t.named 8) (formed (done (withShape t n)) (set rows t.named row)) (formed (refused Full t) rows)
+unfoldable pub settled_shape : Tables → Found → Name → List Float → List (List Float) → Formed
+settled_shape t (At i) n row rows = formed (done t) (set rows i row)
+settled_shape t Nowhere n row rows =
+    cond (ltb t.named 8) (formed (done (with_shape t n)) (set rows t.named row)) (formed (refused Full t) rows)
 
 -- 13 for other than eight rows, then 2, 3
-abbrev pub withAddedShape : Tables → Name → List (List Float) → Formed
-withAddedShape t n rows =
+abbrev pub with_added_shape : Tables → Name → List (List Float) → Formed
+with_added_shape t n rows =
     cond (eqb (length rows) 8)
-    (cond (isName n) (settledShape t (shapeFound t n) n noNumbers rows) (formed (refused Malformed t) rows))
+    (cond (is_name n) (settled_shape t (shape_found t n) n no_numbers rows) (formed (refused Malformed t) rows))
     (formed (refused WrongSize t) rows)
 
 -- 13, then 2 for the name or any number, 16, 3
-abbrev pub withAddedSpline : Tables → Name → ℕ → List Float → List Float → List (List Float) → Formed
-withAddedSpline t n degree controls knots rows =
+abbrev pub with_added_spline : Tables → Name → ℕ → List Float → List Float → List (List Float) → Formed
+with_added_spline t n degree controls knots rows =
     cond (eqb (length rows) 8)
-    (cond (isName n && allFinite controls && allFinite knots)
-    (cond (isSpline degree (length controls) knots)
-    (settledShape t (shapeFound t n) n (row_of degree controls knots) rows)
+    (cond (is_name n && all_finite controls && all_finite knots)
+    (cond (is_spline degree (length controls) knots)
+    (settled_shape t (shape_found t n) n (row_of degree controls knots) rows)
     (formed (refused WrongSpline t) rows))
     (formed (refused Malformed t) rows))
     (formed (refused WrongSize t) rows)
@@ -166,27 +166,27 @@ withAddedSpline t n degree controls knots rows =
 -- ---- a channel's state read
 
 -- the channel at a place; past the eighth, where no call reads, there is no number
-abbrev pub noChannel : Channel
-noChannel = fresh noName (record { base = record { 0 = nan }; delta = record { 0 = nan }; phase = record { 0 = nan } })
+abbrev pub no_channel : Channel
+no_channel = fresh no_name (record { base = record { 0 = nan }; delta = record { 0 = nan }; phase = record { 0 = nan } })
 
-abbrev pub channelAt : Tables → ℕ → Channel
-channelAt t i = get_or t.channels i noChannel
+abbrev pub channel_at : Tables → ℕ → Channel
+channel_at t i = get_or t.channels i no_channel
 
-unfoldable pub toldAt : Tables → Found → Told
-toldAt t (At i) = told.Of (channelAt t i).osc
-toldAt t Nowhere = told.Unknown
+unfoldable pub told_at : Tables → Found → Told
+told_at t (At i) = told.Of (channel_at t i).osc
+told_at t Nowhere = told.Unknown
 
 -- 2, then 7
 abbrev pub state_of : Tables → Name → Told
-state_of t n = cond (isName n) (toldAt t (found t n)) told.Malformed
+state_of t n = cond (is_name n) (told_at t (found t n)) told.Malformed
 
 -- ---- what the cases answer
-abbrev pub toldAnswer : Told → Answer
-toldAnswer (told.Of o) = Done 0
-toldAnswer told.Malformed = Refused Malformed 0
-toldAnswer told.Unknown = Refused UnknownChannel 0
+abbrev pub told_answer : Told → Answer
+told_answer (told.Of o) = Done 0
+told_answer told.Malformed = Refused Malformed 0
+told_answer told.Unknown = Refused UnknownChannel 0
 
 -- of a text taken for a name, in `naming`, which knows no refusal
-abbrev pub namingAnswer : Naming → Answer
-namingAnswer (Named n) = Done 0
-namingAnswer Bad = Refused Malformed 0
+abbrev pub naming_answer : Naming → Answer
+naming_answer (Named n) = Done 0
+naming_answer Bad = Refused Malformed 0

@@ -1,7 +1,7 @@
 // The tables of a bench: tolerances, channels and shapes, by value. The Rust's `Executor`, but for its pulse lists: of these a channel
 // keeps only how many bins and pulses it has.
 ghost use Rattle.std.specs.Prelude.{◌≡◌, length};
-ghost use Rattle.tables.specs.Tables.{noName, atRest, empty, done, refused, made, fresh, found, shapeFound, withChannel, settled, finiteOsc, withAdded, formed, settledShape, withAddedShape, withAddedSpline, state_of};
+ghost use Rattle.tables.specs.Tables.{no_name, at_rest, empty, done, refused, made, fresh, found, shape_found, with_channel, settled, finite_osc, with_added, formed, settled_shape, with_added_shape, with_added_spline, state_of};
 
 use executor::osc::OscState;
 use ieee::finite::is_finite;
@@ -48,7 +48,7 @@ pub enum Found {
     Nowhere,
 }
 
-// `toldAnswer` says which case is which refusal.
+// `told_answer` says which case is which refusal.
 #[derive(Drop)]
 pub enum Told {
     Of(OscState),
@@ -70,7 +70,7 @@ pub fn make(amp: Amplitude, time: Time, oversize: bool) -> Tabled
 
 // A known name again is replaced by a channel that starts fresh.
 pub fn add_channel(t: Tables, name: Name, osc: OscState) -> Tabled
-    ensures { result ≡ withAdded t name osc }
+    ensures { result ≡ with_added t name osc }
 {
     if both(is_name(name), is_finite_osc(osc)) {
         return settle(t, find(t, name), fresh(name, osc));
@@ -80,7 +80,7 @@ pub fn add_channel(t: Tables, name: Name, osc: OscState) -> Tabled
 
 // A name for Hann's shape. For each of eight names a row of 72 numbers is lent: refusal 13 where there are others, then 2, 3.
 pub fn add_shape(t: Tables, name: Name, splines: &mut [[f64; 72]]) -> Tabled
-    ensures { formed result splines.new ≡ withAddedShape t name splines.old }
+    ensures { formed result splines.new ≡ with_added_shape t name splines.old }
 {
     if splines.len() != 8 {
         return refused(Refusal::WrongSize, t);
@@ -100,7 +100,7 @@ pub fn add_spline(
     knots: &[f64],
     splines: &mut [[f64; 72]],
 ) -> Tabled
-    ensures { formed result splines.new ≡ withAddedSpline t name degree controls.now knots.now splines.old }
+    ensures { formed result splines.new ≡ with_added_spline t name degree controls.now knots.now splines.old }
 {
     if splines.len() != 8 {
         return refused(Refusal::WrongSize, t);
@@ -158,7 +158,7 @@ pub fn find(t: Tables, name: Name) -> Found
 
 // Where a shape's name stands.
 pub fn find_shape(t: Tables, name: Name) -> Found
-    ensures { result ≡ shapeFound t name }
+    ensures { result ≡ shape_found t name }
 {
     let mut i: usize = 0;
     while i < 8 {
@@ -193,7 +193,7 @@ fn settle(t: Tables, at: Found, c: Channel) -> Tabled
 
 // The tables with another channel at a place; past the eighth, the tables as they are.
 pub fn with_channel(t: Tables, i: usize, c: Channel) -> Tables
-    ensures { result ≡ withChannel t i c }
+    ensures { result ≡ with_channel t i c }
 {
     if 8 <= i {
         return t;
@@ -210,8 +210,8 @@ fn settle_shape(
     row: [f64; 72],
     splines: &mut [[f64; 72]],
 ) -> Tabled
-    requires { (at ≡ shapeFound t name) × (length splines.old ≡ 8) }
-    ensures { formed result splines.new ≡ settledShape t at name row splines.old }
+    requires { (at ≡ shape_found t name) × (length splines.old ≡ 8) }
+    ensures { formed result splines.new ≡ settled_shape t at name row splines.old }
 {
     match at {
         Found::At(i) => {
@@ -278,7 +278,7 @@ fn fresh(name: Name, osc: OscState) -> Channel
 }
 
 fn no_name() -> Name
-    ensures { result ≡ noName }
+    ensures { result ≡ no_name }
 {
     Name {
         first: 0,
@@ -288,7 +288,7 @@ fn no_name() -> Name
 }
 
 fn at_rest() -> OscState
-    ensures { result ≡ atRest }
+    ensures { result ≡ at_rest }
 {
     OscState {
         base: Frequency(0.0),
@@ -298,7 +298,7 @@ fn at_rest() -> OscState
 }
 
 fn is_finite_osc(o: OscState) -> bool
-    ensures { result ≡ finiteOsc o }
+    ensures { result ≡ finite_osc o }
 {
     both(
         both(is_finite(o.base.0), is_finite(o.delta.0)),

@@ -11,9 +11,9 @@ use lib.Dec.{T, ltb, lit≤}
 use lib.Pow.{pow_pos}
 use lib.Ieee.{Float, binary64, of_bits, unlike, mul}
 use Rattle.exact.specs.Doubles.{one}
-use Rattle.exact.specs.Value.{Units, unitsOf}
+use Rattle.exact.specs.Value.{Units, units_of}
 use Rattle.exact.specs.Near.{Off}
-use Rattle.exact.specs.Signed.{Signed, Same, Apart, signed, times, lessS}
+use Rattle.exact.specs.Signed.{Signed, Same, Apart, signed, times, less_s}
 use Rattle.exact.proofs.Signed.{apart-via, apart-times, apart-cancel, apart_more}
 use Rattle.exact.proofs.Bounded.{mul-off, sub-apart}
 use Rattle.trig.specs.Reduce.{PI}
@@ -21,16 +21,16 @@ use Rattle.trig.specs.Trig.{horner}
 use Rattle.trig.proofs.Series.{ratio, ratios, folded, tail, tail-first}
 use Rattle.trig.proofs.Partial.{fact, fact-next, facing}
 use Rattle.trig.proofs.Step.{product}
-use Rattle.trig.proofs.Chain.{Q, most, halfTimes, fromY, fromY-enough, fromP, fromP-enough, error, fine, fine-first}
+use Rattle.trig.proofs.Chain.{Q, most, half_times, from_y, from_y_enough, from_p, from_p-enough, error, fine, fine-first}
 use Rattle.trig.proofs.Chain.{Square, x-falls, rounded-below, times-y, count, chain}
 
 -- ---- y, for a reduced angle r of x units
-pi-below : 10000 * unitsOf PI ≤ 31416 * Q
+pi-below : 10000 * units_of PI ≤ 31416 * Q
 unfolding of_bits
 pi-below = lit≤ tt
 
-angle-below : (x : ℕ) → x ≤ unitsOf PI → 10000 * x ≤ 31416 * Q
-angle-below x h = le_trans (mul-le-mul_left 10000 h) pi-below
+angle_below : (x : ℕ) → x ≤ units_of PI → 10000 * x ≤ 31416 * Q
+angle_below x h = le_trans (mul-le-mul_left 10000 h) pi-below
 
 square-below : (q x : ℕ) → 10000 * x ≤ 31416 * q → 10000 * (x * x) ≤ 98697 * (q * q)
 square-below q x h = last (mul-le-mul h h)
@@ -38,9 +38,9 @@ square-below q x h = last (mul-le-mul h h)
     last : 10000 * x * (10000 * x) ≤ 31416 * q * (31416 * q) → 10000 * (x * x) ≤ 98697 * (q * q)
     last h = omega arith
 
-pub squared : (r : Float) (s : Bool) (x : ℕ) → Units r s x → x ≤ unitsOf PI → Square x (mul binary64 r r)
+pub squared : (r : Float) (s : Bool) (x : ℕ) → Units r s x → x ≤ units_of PI → Square x (mul binary64 r r)
 squared r s x v h =
-    let small : 10000 * (x * x) ≤ 98697 * (Q * Q) = square-below Q x (angle-below x h) in
+    let small : 10000 * (x * x) ≤ 98697 * (Q * Q) = square-below Q x (angle_below x h) in
     let m = mul-off r r s s x x 1024 v v (sixteen Q x small) (lit≤ tt) in
     record {
       size = m.size;
@@ -74,8 +74,8 @@ pub record Inner (o x d e b : ℕ) (v : Float) : Type 0 where
 
 -- the error of y p
 unfoldable pub loss : ℕ → Float → List Float → ℕ
-unfolding halfTimes fromY fromP error
-loss o c cs = 2 ^ halfTimes c + fromY c + fromP (error o 1 c cs)
+unfolding half_times from_y from_p error
+loss o c cs = 2 ^ half_times c + from_y c + from_p (error o 1 c cs)
 
 one_value : Units one false Q
 unfolding of_bits
@@ -83,18 +83,18 @@ one_value = (refl, refl)
 
 -- where t is within e of q z / w, q - t is within e of q n / w, n being w - z
 less-near : (q t z w e : ℕ) (n : Signed) → Off t (q * z) w e → n.plus + z ≡ n.less + w
-    → Apart (times w (lessS (signed false q) (signed false t))) (times q n) (w * e)
+    → Apart (times w (less_s (signed false q) (signed false t))) (times q n) (w * e)
 less-near q t z w e n h s =
     let a : q * (n.plus + z) ≡ q * (n.less + w) = ap (λ (m : ℕ). q * m) s in
     record { over = omega (arith, h.under); under = omega (arith, h.over) }
 
-less-size : (z : Bool) (v q t n e : ℕ) → q ≤ t + n → t ≤ q + n → Apart (signed z v) (lessS (signed false q) (signed false t)) e → v ≤ n + e
+less-size : (z : Bool) (v q t n e : ℕ) → q ≤ t + n → t ≤ q + n → Apart (signed z v) (less_s (signed false q) (signed false t)) e → v ≤ n + e
 less-size true v q t n e h k a = omega (arith, a.under)
 less-size false v q t n e h k a = omega (arith, a.over)
 
 -- v's rounding is off by 2 ^ j, where y p is at most 1 + 2 ^ (54 + j) units
 module _ (o x : ℕ) (y : Float) (S : Square x y) (c : Float) (cs : List Float) (j : ℕ) (first : fact o 0 ≡ 1) (ok : T (fine c cs))
-    (q-le : Q ≤ 2 ^ (54 + j)) (t-le : 987 * most c + 100 * 2 ^ halfTimes c ≤ 100 * (Q + 2 ^ (54 + j)))
+    (q-le : Q ≤ 2 ^ (54 + j)) (t-le : 987 * most c + 100 * 2 ^ half_times c ≤ 100 * (Q + 2 ^ (54 + j)))
     (room : 2 ^ (54 + j) + 2 ^ (1 + j) ≤ 2 ^ 2098) where
   pub inner : (n : ℕ) → Inner o x (suc (count cs n)) (2 ^ j + loss o c cs) (2 ^ (54 + j) + 2 ^ j) (horner y one (c ∷ cs))
   unfolding horner loss ratios ratio
@@ -108,20 +108,20 @@ module _ (o x : ℕ) (y : Float) (S : Square x y) (c : Float) (cs : List Float) 
       let w = ratios Q o d 1 in
       let b = (2 * 0 + 1 + o) * (2 * 0 + 2 + o) in
       let a = error o 1 c cs in
-      let e = 2 ^ halfTimes c + fromY c + fromP a in
+      let e = 2 ^ half_times c + from_y c + from_p a in
       let W = Q * Q * b * w in
       let R : Off t (Q * (x * x * l)) W e =
       rw (mul_left_comm (x * x) Q l, fact-next o 0, first, one-mul b, ← mul_assoc (Q * Q) b w)
-      at (product Q x S.size I.size l (fact o 1 * w) t (2 ^ 1024) a (most c) (2 ^ halfTimes c) (fromY c) (fromP a)
-      S.off I.near P.off I.small (fromY-enough c) (fromP-enough Q x a S.x-small)) in
+      at (product Q x S.size I.size l (fact o 1 * w) t (2 ^ 1024) a (most c) (2 ^ half_times c) (from_y c) (from_p a)
+      S.off I.near P.off I.small (from_y_enough c) (from_p-enough Q x a S.x-small)) in
       let above : Q ≤ t + 2 ^ (54 + j) = le_trans q-le (le-add_left (2 ^ (54 + j)) t) in
       let below : t ≤ Q + 2 ^ (54 + j) =
       le_of_mul-le-mul_left
-      (le_trans (rounded-below t S.size I.size Q (most c) (2 ^ halfTimes c) (pow_pos 1074) S.y-small I.small P.off.over) t-le)
+      (le_trans (rounded-below t S.size I.size Q (most c) (2 ^ half_times c) (pow_pos 1074) S.y-small I.small P.off.over) t-le)
       (zero-lt-suc 99) in
       let D = sub-apart one (mul binary64 y f) Q t j one_value P.value above below room in
       let v = signed (ltb Q t) D.size in
-      let exact = lessS (signed false Q) (signed false t) in
+      let exact = less_s (signed false Q) (signed false t) in
       let N = folded Q o x (suc d) 0 in
       record {
         sign = ltb Q t;
@@ -170,12 +170,12 @@ times-sign false true w m e a h = record { over = omega (arith, h.over); under =
 times-sign false false w m e a h = record { over = omega (arith, h.over); under = omega (arith, h.under) }
 
 -- what an error e of v makes of the product's
-unfoldable pub fromV : ℕ → ℕ
-fromV e = 31416 * e / 10000 + 1
+unfoldable pub from_v : ℕ → ℕ
+from_v e = 31416 * e / 10000 + 1
 
-fromV-enough : (q x e : ℕ) → 10000 * x ≤ 31416 * q → x * e ≤ q * fromV e
-unfolding fromV
-fromV-enough q x e h =
+from_v_enough : (q x e : ℕ) → 10000 * x ≤ 31416 * q → x * e ≤ q * from_v e
+unfolding from_v
+from_v_enough q x e h =
     let a : 10000 * x * e ≤ 31416 * q * e = mul-le-mul_right e h in
     let b : 31416 * e * q ≤ (31416 * e / 10000 + 1) * 10000 * q = mul-le-mul_right q (omega arith) in
     omega arith
@@ -187,21 +187,21 @@ pub record Outer (s : Bool) (x d e : ℕ) (v : Float) : Type 0 where
   pub value : Units v sign size
   pub near : Apart (times (ratios Q 1 d 0) (signed sign size)) (facing s (times x (folded Q 1 x d 0))) (ratios Q 1 d 0 * e)
 
-pub outer : (r v : Float) (s : Bool) (x d e b : ℕ) → Units r s x → x ≤ unitsOf PI → Inner 1 x d e b v → 10 * b ≤ 11 * Q
-    → Outer s x d (2 ^ 1022 + fromV e) (mul binary64 r v)
+pub outer : (r v : Float) (s : Bool) (x d e b : ℕ) → Units r s x → x ≤ units_of PI → Inner 1 x d e b v → 10 * b ≤ 11 * Q
+    → Outer s x d (2 ^ 1022 + from_v e) (mul binary64 r v)
 outer r v s x d e b u h I l =
     let w = ratios Q 1 d 0 in
     let N = folded Q 1 x d 0 in
     let n = I.size in
-    let p = angle-below x h in
+    let p = angle_below x h in
     let M = mul-off r v s I.sign x n 1022 u I.value (four Q x n p (le_trans (mul-le-mul_left 10 I.small) l)) (lit≤ tt) in
     record {
       sign = unlike s I.sign;
       size = M.size;
       value = M.value;
       near =
-          times-sign s I.sign w M.size (w * (2 ^ 1022 + fromV e)) (times x N)
-          (times-near I.sign Q w x n M.size (2 ^ 1022) e (fromV e) N (pow_pos 1074) M.off I.near (fromV-enough Q x e p));
+          times-sign s I.sign w M.size (w * (2 ^ 1022 + from_v e)) (times x N)
+          (times-near I.sign Q w x n M.size (2 ^ 1022) e (from_v e) N (pow_pos 1074) M.off I.near (from_v_enough Q x e p));
     }
   where
     four : (q x n : ℕ) → 10000 * x ≤ 31416 * q → 10 * n ≤ 11 * q → x * n ≤ 4 * q * q

@@ -11,17 +11,17 @@ use lib.Pow.{pow_pos}
 use lib.Ieee.{Float, binary64, of_bits, neg, ne, fits}
 use lib.Ieee.Scale.{finite}
 use Rattle.exact.specs.Doubles.{nought}
-use Rattle.exact.specs.Value.{sign_of, unitsOf, value_of}
-use Rattle.exact.specs.Signed.{Signed, Same, signed, times, plusS}
+use Rattle.exact.specs.Value.{sign_of, units_of, value_of}
+use Rattle.exact.specs.Signed.{Signed, Same, signed, times, plus_s}
 use Rattle.exact.proofs.Value.{own, unique}
 use Rattle.exact.proofs.Signed.{alike}
 use Rattle.exact.proofs.Compare.{between, inside, some}
 use Rattle.trig.specs.Reduce.{TAU, PI, reduced, Inside}
-use Rattle.trig.proofs.Reducing.{pi-value, tau-doubles}
+use Rattle.trig.proofs.Reducing.{pi-value, tau_doubles}
 use Rattle.trig.proofs.Multiple.{reduces}
 
 -- ---- in signed whole numbers: r and p, each x less a multiple of t, and less than t apart, are one
-only : (t : ℕ) (x r p q k : Signed) → Same (plusS r (times t q)) x → Same (plusS p (times t k)) x → r.plus + p.less < t
+only : (t : ℕ) (x r p q k : Signed) → Same (plus_s r (times t q)) x → Same (plus_s p (times t k)) x → r.plus + p.less < t
     → p.plus + r.less < t → Same r p
 only t x r p q k e g l m =
     sym (digits_mod (q.plus + k.less) l)
@@ -47,10 +47,10 @@ module _ (r : Float) (f : T (fits binary64 r)) (i : Inside r) where
   unfolding of_bits neg
   inside-finite = between (neg PI) r PI tt tt i.above i.below
 
-  pub inside-small : unitsOf r < unitsOf PI
-  inside-small = inside r PI (unitsOf PI) f inside-finite pi-value i.below i.above
+  pub inside-small : units_of r < units_of PI
+  inside-small = inside r PI (units_of PI) f inside-finite pi-value i.below i.above
 
-  inside-some : 0 < unitsOf r
+  inside-some : 0 < units_of r
   unfolding ne
   inside-some = some r f inside-finite (not-true _ i.some)
 
@@ -60,12 +60,12 @@ zero-outside i = false≢true i.some
 
 -- ---- the law
 pub settled : (x r : Float) (q : Signed) → T (fits binary64 x) → T (finite x) → T (fits binary64 r) → Inside r
-    → Same (plusS (value_of r) (times (unitsOf TAU) q)) (value_of x) → r ≡ reduced x
+    → Same (plus_s (value_of r) (times (units_of TAU) q)) (value_of x) → r ≡ reduced x
 settled x r q f t g i e =
     let p = reduced x in
     let R = reduces x f t in
-    let l = close (sign_of r) (sign_of p) (unitsOf r) (unitsOf p) (unitsOf PI) (unitsOf TAU) tau-doubles (inside-small r g i) R.small in
-    let a = alike (sign_of r) (sign_of p) (unitsOf r) (unitsOf p) (inside-some r g i)
-    (only (unitsOf TAU) (value_of x) (value_of r) (value_of p) q R.k e R.exact l.0 l.1) in
-    unique r p (sign_of p) (unitsOf p) (2 ^ 1074) (pow_pos 1074) g R.fit (rw (a.0, a.1) at (own r g (inside-finite r g i)))
+    let l = close (sign_of r) (sign_of p) (units_of r) (units_of p) (units_of PI) (units_of TAU) tau_doubles (inside-small r g i) R.small in
+    let a = alike (sign_of r) (sign_of p) (units_of r) (units_of p) (inside-some r g i)
+    (only (units_of TAU) (value_of x) (value_of r) (value_of p) q R.k e R.exact l.0 l.1) in
+    unique r p (sign_of p) (units_of p) (2 ^ 1074) (pow_pos 1074) g R.fit (rw (a.0, a.1) at (own r g (inside-finite r g i)))
     (own p R.fit R.known)

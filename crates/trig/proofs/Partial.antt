@@ -7,7 +7,7 @@ use native.Mathlib.Nat.{add-zero, zero-add, add-suc, suc-add, zero-lt-suc}
 use native.Mathlib.Nat.{mul_comm, mul_assoc, mul_left_comm, mul-one, mul-mul-mul_comm, mul-pos, pow-suc, one-le-pow}
 use native.Mathlib.Omega.{arith}
 use lib.Ieee.{unlike}
-use Rattle.exact.specs.Signed.{Signed, Same, signed, times, plusS}
+use Rattle.exact.specs.Signed.{Signed, Same, signed, times, plus_s}
 use Rattle.trig.specs.Series.{factorial, odd, term, partial}
 use Rattle.trig.proofs.Series.{ratio, ratios, folded}
 
@@ -50,12 +50,12 @@ bottom-next q o k =
     (λ i. power-next q o k i * fact-next o k i)
     ∙ mul-mul-mul_comm (q ^ (2 * k + o)) (q * q) (fact o k) ((2 * k + 1 + o) * (2 * k + 2 + o))
 
-bottom-ratios : (q o d k : ℕ) → bottom q o (k + d) ≡ bottom q o k * ratios q o d k
+bottom_ratios : (q o d k : ℕ) → bottom q o (k + d) ≡ bottom q o k * ratios q o d k
 unfolding ratios
-bottom-ratios q o zero k = ap (bottom q o) (add-zero k) ∙ sym (mul-one (bottom q o k))
-bottom-ratios q o (suc d) k =
+bottom_ratios q o zero k = ap (bottom q o) (add-zero k) ∙ sym (mul-one (bottom q o k))
+bottom_ratios q o (suc d) k =
     ap (bottom q o) (add-suc k d ∙ sym (suc-add k d))
-    ∙ bottom-ratios q o d (suc k)
+    ∙ bottom_ratios q o d (suc k)
     ∙ ap (λ (n : ℕ). n * ratios q o d (suc k)) (bottom-next q o k)
     ∙ mul_assoc (bottom q o k) (ratio q o k) (ratios q o d (suc k))
 
@@ -81,11 +81,11 @@ none = record { plus = 0; less = 0 }
 
 unfoldable over : Bool → ℕ → ℕ → ℕ → ℕ → Signed
 over s q o x zero = none
-over s q o x (suc n) = times (ratio q o n) (plusS (over s q o x n) (signed (unlike (odd n) s) (x ^ (2 * n + o))))
+over s q o x (suc n) = times (ratio q o n) (plus_s (over s q o x n) (signed (unlike (odd n) s) (x ^ (2 * n + o))))
 
 -- one more term z / d for t / b and for a / d, which are one fraction
 add_term : (d g b : ℕ) (t a z : Signed) → Same (times d t) (times b a)
-    → Same (times (d * g) (plusS (times d t) (times b z))) (times (b * d) (times g (plusS a z)))
+    → Same (times (d * g) (plus_s (times d t) (times b z))) (times (b * d) (times g (plus_s a z)))
 add_term d g b t a z e =
     let m : d * g * (d * t.plus + b * a.less) ≡ d * g * (b * a.plus + d * t.less) = ap (λ (n : ℕ). d * g * n) e in
     omega arith
@@ -112,19 +112,19 @@ facing s r = record { plus = cond s r.less r.plus; less = cond s r.plus r.less }
 
 -- the first of the terms that are left, y g w, goes over to the sum a
 move-term : (b : Bool) (w g y z : ℕ) (a r t : Signed)
-    → Same (plusS (times w (times g (plusS a (signed b y)))) (facing (not b) (times (y * z) r))) t
-    → Same (plusS (times (g * w) a) (facing b (times y (record { plus = g * w + z * r.less; less = z * r.plus })))) t
+    → Same (plus_s (times w (times g (plus_s a (signed b y)))) (facing (not b) (times (y * z) r))) t
+    → Same (plus_s (times (g * w) a) (facing b (times y (record { plus = g * w + z * r.less; less = z * r.plus })))) t
 move-term true w g y z a r t e = omega arith
 move-term false w g y z a r t e = omega arith
 
 -- n terms, and d more from term n on
 folded-over : (s : Bool) (q o x d n : ℕ)
-    → Same (plusS (times (ratios q o d n) (over s q o x n)) (facing (unlike (odd n) s) (times (x ^ (2 * n + o)) (folded q o x d n))))
+    → Same (plus_s (times (ratios q o d n) (over s q o x n)) (facing (unlike (odd n) s) (times (x ^ (2 * n + o)) (folded q o x d n))))
     (over s q o x (n + d))
 unfolding over ratios folded odd
 folded-over s q o x zero n = rw add-zero (nothing (unlike (odd n) s) (x ^ (2 * n + o)) (over s q o x n))
   where
-    nothing : (b : Bool) (y : ℕ) (a : Signed) → Same (plusS (times 1 a) (facing b (times y none))) a
+    nothing : (b : Bool) (y : ℕ) (a : Signed) → Same (plus_s (times 1 a) (facing b (times y none))) a
     nothing true y a = omega arith
     nothing false y a = omega arith
 folded-over s q o x (suc d) n =
@@ -143,14 +143,14 @@ partial-is s q o x n =
     let b = s && odd o in
     let r = times (x ^ (2 * 0 + o)) (folded q o x n 0) in
     via w f.bottom (times (bottom q o 0 * w) f.top) (over b q o x n) (facing b r)
-    (rw (← bottom-ratios q o n 0, zero-add n) (partial-over s q o x n))
+    (rw (← bottom_ratios q o n 0, zero-add n) (partial-over s q o x n))
     (rw (plain b, zero-add n) at (folded-over b q o x n 0))
   where
     plain : (b : Bool) → unlike false b ≡ b
     plain true = refl
     plain false = refl
 
-    via : (w m : ℕ) (t a r : Signed) → Same t (times m a) → Same (plusS (times w none) r) a → Same t (times m r)
+    via : (w m : ℕ) (t a r : Signed) → Same t (times m a) → Same (plus_s (times w none) r) a → Same t (times m r)
     via w m t a r e g =
         let k : m * (w * 0 + r.plus + a.less) ≡ m * (a.plus + (w * 0 + r.less)) = ap (λ (n : ℕ). m * n) g in
         omega arith

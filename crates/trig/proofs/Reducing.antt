@@ -11,7 +11,7 @@ use lib.Ieee.{Float, binary64, of_bits, rem, sub, add, neg, below, lt, fits, rou
 use lib.Ieee.Fits.{rem-fits}
 use lib.Ieee.Bits.{of_bits-fits}
 use lib.Ieee.Scale.{finite}
-use Rattle.exact.specs.Value.{Units, sign_of, unitsOf}
+use Rattle.exact.specs.Value.{Units, sign_of, units_of}
 use Rattle.exact.proofs.Order.{ltb_yes, ltb_no}
 use Rattle.exact.proofs.Value.{neg_value, own, unique}
 use Rattle.exact.proofs.Sum.{sum-second}
@@ -22,44 +22,44 @@ use Rattle.exact.proofs.Remainder.{rem-exact}
 use Rattle.trig.specs.Reduce.{TAU, PI, wrapped, reduced}
 
 -- ---- the two constants
-pub tau-fits : T (fits binary64 TAU)
-tau-fits = of_bits-fits binary64 _
+pub tau_fits : T (fits binary64 TAU)
+tau_fits = of_bits-fits binary64 _
 
-pub tau-finite : T (finite TAU)
-tau-finite = unfold of_bits in tt
+pub tau_finite : T (finite TAU)
+tau_finite = unfold of_bits in tt
 
-pub tau-value : Units TAU false (unitsOf TAU)
+pub tau_value : Units TAU false (units_of TAU)
 unfolding of_bits
-tau-value = own TAU tau-fits tau-finite
+tau_value = own TAU tau_fits tau_finite
 
 pi-fits : T (fits binary64 PI)
 pi-fits = of_bits-fits binary64 _
 
-pub pi-value : Units PI false (unitsOf PI)
+pub pi-value : Units PI false (units_of PI)
 unfolding of_bits
 pi-value = own PI pi-fits tt
 
-pub tau-some : 0 < unitsOf TAU
+pub tau_some : 0 < units_of TAU
 unfolding of_bits
-tau-some = lit< tt
+tau_some = lit< tt
 
 -- TAU is PI doubled
-pub tau-doubles : unitsOf TAU ≡ unitsOf PI * 2
+pub tau_doubles : units_of TAU ≡ units_of PI * 2
 unfolding of_bits
-tau-doubles = refl
+tau_doubles = refl
 
 -- ---- the remainder
-pub rem_value : (x : Float) → T (fits binary64 x) → T (finite x) → Units (rem binary64 x TAU) (sign_of x) (unitsOf x % unitsOf TAU)
-rem_value x f t = rem-exact x TAU f t tau-fits tau-finite tau-some
+pub rem_value : (x : Float) → T (fits binary64 x) → T (finite x) → Units (rem binary64 x TAU) (sign_of x) (units_of x % units_of TAU)
+rem_value x f t = rem-exact x TAU f t tau_fits tau_finite tau_some
 
 -- below TAU it is x
-rem-own : (x : Float) → T (fits binary64 x) → T (finite x) → unitsOf x < unitsOf TAU → x ≡ rem binary64 x TAU
+rem-own : (x : Float) → T (fits binary64 x) → T (finite x) → units_of x < units_of TAU → x ≡ rem binary64 x TAU
 rem-own x f t h =
-    unique x (rem binary64 x TAU) (sign_of x) (unitsOf x) (2 ^ 1074) (pow_pos 1074) f (rem-fits binary64 x TAU f) (own x f t)
+    unique x (rem binary64 x TAU) (sign_of x) (units_of x) (2 ^ 1074) (pow_pos 1074) f (rem-fits binary64 x TAU f) (own x f t)
     (rw (mod-eq_of_lt h) at (rem_value x f t))
 
 -- and the reduction is the wrap alone
-pub reduced-near : (x : Float) → T (fits binary64 x) → T (finite x) → unitsOf x < unitsOf TAU → reduced x ≡ wrapped x
+pub reduced-near : (x : Float) → T (fits binary64 x) → T (finite x) → units_of x < units_of TAU → reduced x ≡ wrapped x
 unfolding reduced
 reduced-near x f t h = ap wrapped (sym (rem-own x f t h))
 
@@ -68,7 +68,7 @@ pub reduced-tested : (x : Float) → T (fits binary64 x) → lt x TAU ≡ true �
 unfolding of_bits neg
 reduced-tested x f p q =
     let t = between (neg TAU) x TAU tt tt q p in
-    reduced-near x f t (inside x TAU (unitsOf TAU) f t tau-value p q)
+    reduced-near x f t (inside x TAU (units_of TAU) f t tau_value p q)
 
 -- ---- which way the wrap goes
 module _ (r : Float) where
@@ -88,31 +88,31 @@ module _ (r : Float) where
 
 -- its two tests, of r = ± n units
 module _ (r : Float) (s : Bool) (n : ℕ) (v : Units r s n) where
-  first-test : lt PI r ≡ below false (unitsOf PI) s n
-  first-test = lt-is PI r false s (unitsOf PI) n (2 ^ 1074) (pow_pos 1074) pi-value v
+  first-test : lt PI r ≡ below false (units_of PI) s n
+  first-test = lt-is PI r false s (units_of PI) n (2 ^ 1074) (pow_pos 1074) pi-value v
 
-  second-test : lt r (neg PI) ≡ below s n true (unitsOf PI)
-  second-test = lt-is r (neg PI) s true n (unitsOf PI) (2 ^ 1074) (pow_pos 1074) v (neg_value PI false (unitsOf PI) (2 ^ 1074) pi-value)
+  second-test : lt r (neg PI) ≡ below s n true (units_of PI)
+  second-test = lt-is r (neg PI) s true n (units_of PI) (2 ^ 1074) (pow_pos 1074) v (neg_value PI false (units_of PI) (2 ^ 1074) pi-value)
 
 -- ---- up to PI nothing changes
-pub wrapped-near : (r : Float) (s : Bool) (n : ℕ) → Units r s n → n ≤ unitsOf PI → wrapped r ≡ r
-wrapped-near r false n v h = stays r (first-test r false n v ∙ ltb_no (unitsOf PI) n h) (second-test r false n v)
-wrapped-near r true n v h = stays r (first-test r true n v) (second-test r true n v ∙ ltb_no (unitsOf PI) n h)
+pub wrapped-near : (r : Float) (s : Bool) (n : ℕ) → Units r s n → n ≤ units_of PI → wrapped r ≡ r
+wrapped-near r false n v h = stays r (first-test r false n v ∙ ltb_no (units_of PI) n h) (second-test r false n v)
+wrapped-near r true n v h = stays r (first-test r true n v) (second-test r true n v ∙ ltb_no (units_of PI) n h)
 
 -- ---- above PI what is missing to TAU is left, with the other sign
-module _ (r : Float) (n : ℕ) (w : Few n) (h : unitsOf PI < n) (l : n < unitsOf TAU) where
-  missing : (s : Bool) → Units (round binary64 s (unitsOf TAU - n) (2 ^ 1074)) s (unitsOf TAU - n)
+module _ (r : Float) (n : ℕ) (w : Few n) (h : units_of PI < n) (l : n < units_of TAU) where
+  missing : (s : Bool) → Units (round binary64 s (units_of TAU - n) (2 ^ 1074)) s (units_of TAU - n)
   missing s =
-      few-value s (unitsOf TAU - n)
-      (few-sub n (unitsOf TAU) w (few-of TAU tau-fits tau-finite) (le_trans (le_of_eq tau-doubles) (mul-le-mul_right 2 (le_of_lt h))))
-      (lt_of_le_of_lt (sub-le (unitsOf TAU) n) (units-below TAU tau-fits tau-finite))
+      few-value s (units_of TAU - n)
+      (few-sub n (units_of TAU) w (few-of TAU tau_fits tau_finite) (le_trans (le_of_eq tau_doubles) (mul-le-mul_right 2 (le_of_lt h))))
+      (lt_of_le_of_lt (sub-le (units_of TAU) n) (units-below TAU tau_fits tau_finite))
 
-  pub wrapped-far : (s : Bool) → Units r s n → Units (wrapped r) (not s) (unitsOf TAU - n)
+  pub wrapped-far : (s : Bool) → Units r s n → Units (wrapped r) (not s) (units_of TAU - n)
   wrapped-far false v =
-      rw (goes-off r (first-test r false n v ∙ ltb_yes (unitsOf PI) n h))
-      (rw (sub-rounds binary64 r TAU false false n (unitsOf TAU) (2 ^ 1074) (pow_pos 1074) v tau-value)
-      (rw (sum-second binary64 false true n (unitsOf TAU) (2 ^ 1074) refl l) (missing true)))
+      rw (goes-off r (first-test r false n v ∙ ltb_yes (units_of PI) n h))
+      (rw (sub-rounds binary64 r TAU false false n (units_of TAU) (2 ^ 1074) (pow_pos 1074) v tau_value)
+      (rw (sum-second binary64 false true n (units_of TAU) (2 ^ 1074) refl l) (missing true)))
   wrapped-far true v =
-      rw (goes_on r (first-test r true n v) (second-test r true n v ∙ ltb_yes (unitsOf PI) n h))
-      (rw (add_rounds binary64 r TAU true false n (unitsOf TAU) (2 ^ 1074) (pow_pos 1074) v tau-value)
-      (rw (sum-second binary64 true false n (unitsOf TAU) (2 ^ 1074) refl l) (missing false)))
+      rw (goes_on r (first-test r true n v) (second-test r true n v ∙ ltb_yes (units_of PI) n h))
+      (rw (add_rounds binary64 r TAU true false n (units_of TAU) (2 ^ 1074) (pow_pos 1074) v tau_value)
+      (rw (sum-second binary64 true false n (units_of TAU) (2 ^ 1074) refl l) (missing false)))

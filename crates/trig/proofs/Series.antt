@@ -17,10 +17,10 @@ unfolding ratio
 ratios q o zero k = 1
 ratios q o (suc d) k = ratio q o k * ratios q o d (suc k)
 
-pub ratios-some : (q o d k : ℕ) → 0 < q → 0 < ratios q o d k
+pub ratios_some : (q o d k : ℕ) → 0 < q → 0 < ratios q o d k
 unfolding ratios ratio
-ratios-some q o zero k h = zero-lt-suc 0
-ratios-some q o (suc d) k h = mul-pos (mul-pos (mul-pos h h) (mul-pos (some (2 * k) o 0) (some (2 * k) o 1))) (ratios-some q o d (suc k) h)
+ratios_some q o zero k h = zero-lt-suc 0
+ratios_some q o (suc d) k h = mul-pos (mul-pos (mul-pos h h) (mul-pos (some (2 * k) o 0) (some (2 * k) o 1))) (ratios_some q o d (suc k) h)
   where
     some : (a o i : ℕ) → 0 < a + suc i + o
     some a o i = omega arith

@@ -13,15 +13,15 @@ use lib.Pow.{pow_pos}
 use lib.Ieee.{Float, binary64, of_bits, sub, mul, neg, below, lt, fits}
 use lib.Ieee.Fits.{sub-fits}
 use lib.Ieee.Scale.{finite}
-use Rattle.exact.specs.Value.{Units, sign_of, unitsOf, value_of}
-use Rattle.exact.specs.Signed.{Signed, Same, signed, times, plusS, lessS}
+use Rattle.exact.specs.Value.{Units, sign_of, units_of, value_of}
+use Rattle.exact.specs.Signed.{Signed, Same, signed, times, plus_s, less_s}
 use Rattle.exact.proofs.Value.{neg_value, own, units-are, sign-is}
 use Rattle.exact.proofs.Compare.{lt-is, between}
 use Rattle.exact.proofs.Valued.{sub-finite}
 use Rattle.exact.proofs.Grid.{On, sub-on, sub-seen, sub-size}
 use Rattle.exact.proofs.Steps.{mul-on, finer, far-on}
 use Rattle.trig.specs.Reduce.{TAU, PI, reduced, Far, Inside}
-use Rattle.trig.proofs.Reducing.{tau-value, tau-some}
+use Rattle.trig.proofs.Reducing.{tau_value, tau_some}
 use Rattle.trig.proofs.Only.{inside-finite, inside-small, settled}
 
 -- ---- the constants of the code
@@ -60,13 +60,13 @@ top-value : Units TOP false ((3 * 2 ^ 51 + 2 ^ 21) * 2 ^ 1074)
 unfolding of_bits
 top-value = (refl, refl)
 
-pi-steps : unitsOf PI ≡ 3537118876014220 * 2 ^ 1024
+pi-steps : units_of PI ≡ 3537118876014220 * 2 ^ 1024
 unfolding of_bits
 pi-steps = refl
 
-tau-steps : unitsOf TAU ≡ 7074237752028440 * 2 ^ 1024
+tau_steps : units_of TAU ≡ 7074237752028440 * 2 ^ 1024
 unfolding of_bits
-tau-steps = refl
+tau_steps = refl
 
 -- ---- q = t - MIDDLE is a whole number of at most 21 digits
 pub record Whole (q : Float) : Type 0 where
@@ -81,8 +81,8 @@ whole t f h l =
     let b = (3 * 2 ^ 51 - 2 ^ 21) * w in
     let p = (3 * 2 ^ 51 + 2 ^ 21) * w in
     let v = own t f known in
-    let e = by (sign_of t) (unitsOf t) b p (sym (lt-is t TOP (sign_of t) false (unitsOf t) p w (pow_pos 1074) v top-value) ∙ h)
-    (sym (lt-is BOTTOM t false (sign_of t) b (unitsOf t) w (pow_pos 1074) bottom-value v) ∙ l) in
+    let e = by (sign_of t) (units_of t) b p (sym (lt-is t TOP (sign_of t) false (units_of t) p w (pow_pos 1074) v top-value) ∙ h)
+    (sym (lt-is BOTTOM t false (sign_of t) b (units_of t) w (pow_pos 1074) bottom-value v) ∙ l) in
     let m = far-on 1074 t f known (le_trans (lit≤ tt) (le_of_lt e.1)) in
     let n = m.0 in
     let o : 3 * 2 ^ 51 - 2 ^ 21 < n = lt_of_mul-lt-mul_right w (rw m.1 at e.1) in
@@ -101,22 +101,22 @@ whole t f h l =
     by false n b p h l = (refl, ltb-true b n l, ltb-true n p h)
 
     small : (s : Bool) (a n : ℕ) → 3 * 2 ^ 51 - 2 ^ 21 < n → n < 3 * 2 ^ 51 + 2 ^ 21
-        → Same (signed s a) (lessS (signed false n) (signed false (3 * 2 ^ 51))) → a < 2 ^ 21
+        → Same (signed s a) (less_s (signed false n) (signed false (3 * 2 ^ 51))) → a < 2 ^ 21
     small true a n o u e = omega arith
     small false a n o u e = omega arith
 
 -- ---- what is Far is TAU or more in size
-far-size : (x : Float) → T (fits binary64 x) → T (finite x) → Far x → unitsOf TAU ≤ unitsOf x
+far-size : (x : Float) → T (fits binary64 x) → T (finite x) → Far x → units_of TAU ≤ units_of x
 far-size x f t far =
     let s = sign_of x in
-    let a = unitsOf x in
-    let b = unitsOf TAU in
+    let a = units_of x in
+    let b = units_of TAU in
     let v = own x f t in
     elim far [
-      | inl h ↦ under s a b tau-some (sym (lt-is x TAU s false a b (2 ^ 1074) (pow_pos 1074) v tau-value) ∙ h)
+      | inl h ↦ under s a b tau_some (sym (lt-is x TAU s false a b (2 ^ 1074) (pow_pos 1074) v tau_value) ∙ h)
       | inr h ↦
-          over s a b tau-some
-          (sym (lt-is (neg TAU) x true s b a (2 ^ 1074) (pow_pos 1074) (neg_value TAU false b (2 ^ 1074) tau-value) v) ∙ h)
+          over s a b tau_some
+          (sym (lt-is (neg TAU) x true s b a (2 ^ 1074) (pow_pos 1074) (neg_value TAU false b (2 ^ 1074) tau_value) v) ∙ h)
     ]
   where
     under : (s : Bool) (n b : ℕ) → 0 < b → below s n false b ≡ false → b ≤ n
@@ -140,13 +140,13 @@ d-size d r l g h p k = let m : l * g ≤ 2 ^ 40 * g = mul-le-mul_right g (le_of_
 r-size : (r g : ℕ) → r < 3537118876014220 * g → r * 8 ≤ 7 * 2 ^ 53 * g
 r-size r g h = omega arith
 
-left_over : (x r q : Signed) → Same r (lessS (lessS x (times (2 ^ 22) (times 1686629713 q))) (times (2 ^ 3) (times 34211 q)))
-    → Same (plusS r (times 7074237752028440 q)) x
+left_over : (x r q : Signed) → Same r (less_s (less_s x (times (2 ^ 22) (times 1686629713 q))) (times (2 ^ 3) (times 34211 q)))
+    → Same (plus_s r (times 7074237752028440 q)) x
 left_over x r q e = omega arith
 
-in-units : (s u : Bool) (n m g c : ℕ) (q : Signed) → Same (plusS (signed s n) (times c q)) (signed u m)
-    → Same (plusS (signed s (n * g)) (times (c * g) q)) (signed u (m * g))
-in-units s u n m g c q e = by s u q.plus q.less e
+in_units : (s u : Bool) (n m g c : ℕ) (q : Signed) → Same (plus_s (signed s n) (times c q)) (signed u m)
+    → Same (plus_s (signed s (n * g)) (times (c * g) q)) (signed u (m * g))
+in_units s u n m g c q e = by s u q.plus q.less e
   where
     by : (s u : Bool) (k l : ℕ) → (signed s n).plus + c * k + (signed u m).less ≡ (signed u m).plus + ((signed s n).less + c * l)
         → (signed s (n * g)).plus + c * g * k + (signed u (m * g)).less ≡ (signed u (m * g)).plus + ((signed s (n * g)).less + c * g * l)
@@ -187,7 +187,7 @@ module _ (x q : Float) (f : T (fits binary64 x)) (far : Far x) (w : Whole q) whe
     r-known : T (finite r)
     r-known = inside-finite r r-fits i
 
-    r_small : unitsOf r < 3537118876014220 * 2 ^ 1024
+    r_small : units_of r < 3537118876014220 * 2 ^ 1024
     r_small = lt_of_lt_of_le (inside-small r r-fits i) (le_of_eq pi-steps)
 
     d-known : T (finite d)
@@ -196,9 +196,9 @@ module _ (x q : Float) (f : T (fits binary64 x)) (far : Far x) (w : Whole q) whe
     x-known : T (finite x)
     x-known = (sub-finite binary64 x (mul binary64 q HIGH) d-known).0
 
-    x-steps : (n : ℕ) × (unitsOf x ≡ n * 2 ^ 1024)
+    x-steps : (n : ℕ) × (units_of x ≡ n * 2 ^ 1024)
     x-steps =
-        far-on 1024 x f x-known (le_trans (le_trans (lit≤ tt) (le_of_eq (sym tau-steps))) (far-size x f x-known far))
+        far-on 1024 x f x-known (le_trans (le_trans (lit≤ tt) (le_of_eq (sym tau_steps))) (far-size x f x-known far))
 
     abbrev a : Signed
     a = signed (sign_of x) x-steps.0
@@ -206,26 +206,26 @@ module _ (x q : Float) (f : T (fits binary64 x)) (far : Far x) (w : Whole q) whe
     x-on : On 1024 x a
     x-on = record { sign = sign_of x; steps = x-steps.0; value = subst (Units x (sign_of x)) x-steps.1 (own x f x-known); same = refl }
 
-    d-on : On 1024 d (lessS a (times (2 ^ 22) (times 1686629713 k)))
+    d-on : On 1024 d (less_s a (times (2 ^ 22) (times 1686629713 k)))
     d-on =
         sub-seen 1024 (lit≤ tt) x (mul binary64 q HIGH) a (times (2 ^ 22) (times 1686629713 k)) x-on high-on d-known
-        (d-size (unitsOf d) (unitsOf r) low-on.steps (2 ^ 1024)
-        (sub-size d (mul binary64 q LOW) (sign_of d) low-on.sign (unitsOf d) (low-on.steps * 2 ^ 1024)
+        (d-size (units_of d) (units_of r) low-on.steps (2 ^ 1024)
+        (sub-size d (mul binary64 q LOW) (sign_of d) low-on.sign (units_of d) (low-on.steps * 2 ^ 1024)
         (own d (sub-fits binary64 x (mul binary64 q HIGH)) d-known) low-on.value r-known)
         r_small
         (low-few low-on.sign w.sign low-on.steps w.size w.few low-on.same))
 
-    r-on : On 1024 r (lessS (lessS a (times (2 ^ 22) (times 1686629713 k))) (times (2 ^ 3) (times 34211 k)))
+    r-on : On 1024 r (less_s (less_s a (times (2 ^ 22) (times 1686629713 k))) (times (2 ^ 3) (times 34211 k)))
     r-on =
-        sub-seen 1024 (lit≤ tt) d (mul binary64 q LOW) (lessS a (times (2 ^ 22) (times 1686629713 k))) (times (2 ^ 3) (times 34211 k))
-        d-on low-on r-known (r-size (unitsOf r) (2 ^ 1024) r_small)
+        sub-seen 1024 (lit≤ tt) d (mul binary64 q LOW) (less_s a (times (2 ^ 22) (times 1686629713 k))) (times (2 ^ 3) (times 34211 k))
+        d-on low-on r-known (r-size (units_of r) (2 ^ 1024) r_small)
 
-    exact : Same (plusS (value_of r) (times (unitsOf TAU) k)) (value_of x)
+    exact : Same (plus_s (value_of r) (times (units_of TAU) k)) (value_of x)
     exact =
         let v = r-on.value in
         let n = r-on.steps * 2 ^ 1024 in
-        rw (sign-is r r-on.sign n v, units-are r r-on.sign n v, x-steps.1, tau-steps)
-        (in-units r-on.sign (sign_of x) r-on.steps x-steps.0 (2 ^ 1024) 7074237752028440 k
+        rw (sign-is r r-on.sign n v, units-are r r-on.sign n v, x-steps.1, tau_steps)
+        (in_units r-on.sign (sign_of x) r-on.steps x-steps.0 (2 ^ 1024) 7074237752028440 k
         (left_over a (signed r-on.sign r-on.steps) k r-on.same))
 
     pub turned-reduced : r ≡ reduced x

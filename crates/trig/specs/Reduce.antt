@@ -4,8 +4,8 @@ use Rattle.std.specs.Float.{binary64}
 use Rattle.std.specs.Float.Ieee.{of_bits, rem, sub, add, neg, lt, ne, fits}
 use Rattle.std.specs.Float.Ieee.Scale.{finite}
 use Rattle.exact.specs.Doubles.{nought}
-use Rattle.exact.specs.Value.{unitsOf, value_of}
-use Rattle.exact.specs.Signed.{Signed, Same, times, plusS}
+use Rattle.exact.specs.Value.{units_of, value_of}
+use Rattle.exact.specs.Signed.{Signed, Same, times, plus_s}
 
 -- 6.283185307179586
 abbrev pub TAU : Float
@@ -25,9 +25,9 @@ reduced x = wrapped (rem binary64 x TAU)
 pub record Reduction (x r : Float) : Type 0 where
   pub fit : T (fits binary64 r)
   pub known : T (finite r)
-  pub small : unitsOf r ≤ unitsOf PI
+  pub small : units_of r ≤ units_of PI
   pub k : Signed
-  pub exact : Same (plusS (value_of r) (times (unitsOf TAU) k)) (value_of x)
+  pub exact : Same (plus_s (value_of r) (times (units_of TAU) k)) (value_of x)
 
 -- x is not between -TAU and TAU: TAU or more in size, or a NaN
 abbrev pub Far : Float → Type 0

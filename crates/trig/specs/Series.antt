@@ -3,8 +3,8 @@
 use Rattle.std.specs.Prelude.{Bool, false, not, ◌&&◌, ℕ, zero, suc, ◌+◌, ◌*◌, ◌^◌, T, Float}
 use Rattle.std.specs.Float.Ieee.{unlike}
 use Rattle.std.specs.Float.Ieee.Scale.{finite}
-use Rattle.exact.specs.Value.{sign_of, unitsOf, value_of}
-use Rattle.exact.specs.Signed.{Signed, Apart, signed, times, plusS}
+use Rattle.exact.specs.Value.{sign_of, units_of, value_of}
+use Rattle.exact.specs.Signed.{Signed, Apart, signed, times, plus_s}
 
 -- p!
 unfoldable pub factorial : ℕ → ℕ
@@ -22,10 +22,10 @@ pub record Fraction : Type 0 where
   pub bottom : ℕ
 
 -- a / b + c / d = (d a + b c) / (b d)
-abbrev pub plusF : Fraction → Fraction → Fraction
-plusF f g =
+abbrev pub plus_f : Fraction → Fraction → Fraction
+plus_f f g =
     record {
-      top = plusS (times g.bottom f.top) (times f.bottom g.top);
+      top = plus_s (times g.bottom f.top) (times f.bottom g.top);
       bottom = f.bottom * g.bottom;
     }
 
@@ -39,14 +39,14 @@ term s x q o k =
 -- the sum of n terms, 0 to n - 1
 unfoldable pub partial : Bool → ℕ → ℕ → ℕ → ℕ → Fraction
 partial s x q o zero = record { top = signed false 0; bottom = 1 }
-partial s x q o (suc n) = plusF (partial s x q o n) (term s x q o n)
+partial s x q o (suc n) = plus_f (partial s x q o n) (term s x q o n)
 
 -- n terms at a finite double r, which is a whole number over 2 ^ 1074
-unfoldable pub cosineSum : Float → ℕ → Fraction
-cosineSum r n = partial (sign_of r) (unitsOf r) (2 ^ 1074) 0 n
+unfoldable pub cosine_sum : Float → ℕ → Fraction
+cosine_sum r n = partial (sign_of r) (units_of r) (2 ^ 1074) 0 n
 
-unfoldable pub sineSum : Float → ℕ → Fraction
-sineSum r n = partial (sign_of r) (unitsOf r) (2 ^ 1074) 1 n
+unfoldable pub sine_sum : Float → ℕ → Fraction
+sine_sum r n = partial (sign_of r) (units_of r) (2 ^ 1074) 1 n
 
 -- v is finite, and within 2 ^ -48 of a / b. v is n / 2 ^ 1074, so 2 ^ 48 b n and 2 ^ 48 2 ^ 1074 a are at most 2 ^ 1074 b apart
 pub record within (v : Float) (f : Fraction) : Type 0 where

@@ -47,20 +47,20 @@ odds =
     ∷ []
 
 -- of a reduced angle r, where y is r r rounded: 1 - y (1/2! - y (1/4! - ..)), and r (1 - y (1/3! - y (1/5! - ..)))
-unfoldable pub cosineAt : Float → Float
-cosineAt r = horner (mul binary64 r r) one evens
+unfoldable pub cosine_at : Float → Float
+cosine_at r = horner (mul binary64 r r) one evens
 
-unfoldable pub sineAt : Float → Float
-sineAt r = mul binary64 r (horner (mul binary64 r r) one odds)
+unfoldable pub sine_at : Float → Float
+sine_at r = mul binary64 r (horner (mul binary64 r r) one odds)
 
 -- of any double
-unfoldable pub cosineOf : Float → Float
-cosineOf x = cosineAt (reduced x)
+unfoldable pub cosine_of : Float → Float
+cosine_of x = cosine_at (reduced x)
 
-unfoldable pub sineOf : Float → Float
-sineOf x = sineAt (reduced x)
+unfoldable pub sine_of : Float → Float
+sine_of x = sine_at (reduced x)
 
 -- c is x's cosine and s its sine
 pub record Both (x c s : Float) : Type 0 where
-  pub cos : c ≡ cosineOf x
-  pub sin : s ≡ sineOf x
+  pub cos : c ≡ cosine_of x
+  pub sin : s ≡ sine_of x

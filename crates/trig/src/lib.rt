@@ -1,7 +1,7 @@
 // Cosine and sine of any double: the angle is reduced by TAU, every step of it exact, and Horner's rule runs in one fixed order of operations.
 ghost use Rattle.std.specs.Prelude.{◌≡◌};
 ghost use Rattle.trig.specs.Reduce.{wrapped, reduced, Far, Inside};
-ghost use Rattle.trig.specs.Trig.{cosineAt, sineAt, cosineOf, sineOf, Both};
+ghost use Rattle.trig.specs.Trig.{cosine_at, sine_at, cosine_of, sine_of, Both};
 
 // 0x401921FB54442D18
 const TAU: f64 = 6.283185307179586;
@@ -55,20 +55,20 @@ pub fn reduce(x: f64) -> f64
 }
 
 pub fn cosine(x: f64) -> f64
-    ensures { result ≡ cosineOf x }
+    ensures { result ≡ cosine_of x }
 {
     cos_at(reduce(x))
 }
 
 // The cosine of an angle below TAU in size: at most one TAU is taken off or put on, and nothing is divided.
 pub fn cosine_wrapped(x: f64) -> f64
-    ensures { result ≡ cosineAt (wrapped x) }
+    ensures { result ≡ cosine_at (wrapped x) }
 {
     cos_at(wrap(x))
 }
 
 pub fn sine(x: f64) -> f64
-    ensures { result ≡ sineOf x }
+    ensures { result ≡ sine_of x }
 {
     sin_at(reduce(x))
 }
@@ -113,7 +113,7 @@ fn wrap(r: f64) -> f64
 
 // The numbers are the doubles nearest to 1 / (2 k)!.
 fn cos_at(r: f64) -> f64
-    ensures { result ≡ cosineAt r }
+    ensures { result ≡ cosine_at r }
 {
     let y = r * r;
     let p13: f64 = 2.4795962632247976e-27;
@@ -134,7 +134,7 @@ fn cos_at(r: f64) -> f64
 
 // The numbers are the doubles nearest to 1 / (2 k + 1)!.
 fn sin_at(r: f64) -> f64
-    ensures { result ≡ sineAt r }
+    ensures { result ≡ sine_at r }
 {
     let y = r * r;
     let p13: f64 = 9.183689863795546e-29;

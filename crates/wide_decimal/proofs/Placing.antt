@@ -15,10 +15,10 @@ use Rattle.exact.proofs.Naturals.{below_or}
 use Rattle.wide_decimal.specs.Figures.{worth}
 use Rattle.wide_decimal.specs.Limbs.{weight}
 use Rattle.wide_decimal.specs.Near.{Near}
-use Rattle.wide_decimal.specs.Placed.{before, parts, nearestOf}
+use Rattle.wide_decimal.specs.Placed.{before, parts, nearest_of}
 use Rattle.wide_decimal.proofs.Edges.{round-over}
 use Rattle.wide_decimal.proofs.Nears.{near-via}
-use Rattle.wide_decimal.proofs.Powers.{ten-pos, ten-even, even-times}
+use Rattle.wide_decimal.proofs.Powers.{ten_pos, ten_even, even-times}
 use Rattle.wide_decimal.proofs.Zeros.{near_add}
 
 -- ---- as many figures before the point as there are
@@ -46,17 +46,17 @@ module _ (fs : List ℕ) (whole first : ℕ) (m : first ≡ min whole (length fs
   same_more = omega arith
 
 -- ---- too large
-pub too_large : (minus : Bool) (fs : List ℕ) (whole zeros : ℕ) → weight 33 ≤ before fs whole → inf minus ≡ nearestOf minus fs whole zeros
-unfolding nearestOf
+pub too_large : (minus : Bool) (fs : List ℕ) (whole zeros : ℕ) → weight 33 ≤ before fs whole → inf minus ≡ nearest_of minus fs whole zeros
+unfolding nearest_of
 too_large minus fs whole zeros h =
-    sym (round-over minus (before fs whole * parts fs whole zeros + worth (drop whole fs)) (parts fs whole zeros) (ten-pos (length fs - whole + zeros))
+    sym (round-over minus (before fs whole * parts fs whole zeros + worth (drop whole fs)) (parts fs whole zeros) (ten_pos (length fs - whole + zeros))
     (le_trans (mul-le-mul_right (parts fs whole zeros) (le_trans (lit≤ tt) h)) (more (before fs whole * parts fs whole zeros) (worth (drop whole fs)))))
   where
     more : (a b : ℕ) → a ≤ a + b
     more a b = omega arith
 
 pub grown : (v k w : ℕ) → w ≤ v → w ≤ v * 10 ^ k
-grown v k w h = le_trans h (le_trans (le_of_eq (one v)) (le_trans (mul-le-mul_right v (ten-pos k)) (le_of_eq (mul_comm (10 ^ k) v))))
+grown v k w h = le_trans h (le_trans (le_of_eq (one v)) (le_trans (mul-le-mul_right v (ten_pos k)) (le_of_eq (mul_comm (10 ^ k) v))))
   where
     one : (v : ℕ) → v ≡ 1 * v
     one v = omega arith
@@ -69,12 +69,12 @@ once v w (inr e) = omega arith
 -- a second division by a power of ten, which may be 1
 twice : (v w s j b : ℕ) → 0 < b → Near v (10 ^ j) w → Near w b s → Near v (10 ^ j * b) s
 twice v w s zero b B x y = subst (λ (z : ℕ). Near z (1 * b) s) (sym (once v w x)) (subst (λ (z : ℕ). Near w z s) (sym (one-mul b)) y)
-twice v w s (suc j) b B x y = near-via v w s (10 ^ suc j) b (ten-even (suc j) (omega arith)) B x y
+twice v w s (suc j) b B x y = near-via v w s (10 ^ suc j) b (ten_even (suc j) (omega arith)) B x y
 
 pub together : (h low cut d k zeros w : ℕ) → w % 2 ≡ 0 → Near cut (10 ^ k) (d * w) → Near low (10 ^ zeros) cut → Near (h * w + low) (10 ^ (k + zeros)) ((h * 10 ^ (k + zeros) + d) * w)
 together h low cut d k zeros w even x y =
     let all : 10 ^ zeros * 10 ^ k ≡ 10 ^ (k + zeros) = mul_comm (10 ^ zeros) (10 ^ k) ∙ sym (pow-add 10 k zeros) in
-    let both : Near low (10 ^ (k + zeros)) (d * w) = subst (λ (z : ℕ). Near low z (d * w)) all (twice low cut (d * w) zeros (10 ^ k) (ten-pos k) y x) in
+    let both : Near low (10 ^ (k + zeros)) (d * w) = subst (λ (z : ℕ). Near low z (d * w)) all (twice low cut (d * w) zeros (10 ^ k) (ten_pos k) y x) in
     subst (λ (z : ℕ). Near (h * w + low) (10 ^ (k + zeros)) z) (regroup h w (10 ^ (k + zeros)) d) (near_add (h * w) low (10 ^ (k + zeros)) (d * w) (even-times h w even) both)
   where
     regroup : (h w b d : ℕ) → h * w * b + d * w ≡ (h * b + d) * w

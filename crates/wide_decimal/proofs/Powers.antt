@@ -6,15 +6,15 @@ use native.Mathlib.Omega.{arith}
 use lib.Dec.{lit<}
 use Rattle.wide_decimal.specs.Limbs.{weight}
 
-pub ten-pos : (n : ℕ) → 0 < 10 ^ n
-ten-pos n = one-le-pow n 10 (lit< tt)
+pub ten_pos : (n : ℕ) → 0 < 10 ^ n
+ten_pos n = one-le-pow n 10 (lit< tt)
 
-pub ten-more : (i j : ℕ) → i ≤ j → 10 ^ i ≤ 10 ^ j
-ten-more i j h = pow-le-pow_right (lit< tt) {j = j} h
+pub ten_more : (i j : ℕ) → i ≤ j → 10 ^ i ≤ 10 ^ j
+ten_more i j h = pow-le-pow_right (lit< tt) {j = j} h
 
 -- nine figures fit one digit
-pub ten-small : (n : ℕ) → n ≤ 9 → 10 ^ n < 2 ^ 32
-ten-small n h = omega (arith, ten-more n 9 h)
+pub ten_small : (n : ℕ) → n ≤ 9 → 10 ^ n < 2 ^ 32
+ten_small n h = omega (arith, ten_more n 9 h)
 
 pub weight-more : (i j : ℕ) → i ≤ j → weight i ≤ weight j
 weight-more i j h = pow-le-pow_right (lit< tt) {j = j} h
@@ -24,9 +24,9 @@ even-times a b e =
     let half : b ≡ b / 2 * 2 = omega arith in
     ap (λ (x : ℕ). a * x % 2) half ∙ ap (λ (x : ℕ). x % 2) (sym (mul_assoc a (b / 2) 2)) ∙ mul-mod_left (a * (b / 2)) 2
 
-pub ten-even : (n : ℕ) → 0 < n → 10 ^ n % 2 ≡ 0
-ten-even zero h = absurd (omega (arith, h))
-ten-even (suc n) h = rw (pow-suc 10 n) (even-times (10 ^ n) 10 (lit-even))
+pub ten_even : (n : ℕ) → 0 < n → 10 ^ n % 2 ≡ 0
+ten_even zero h = absurd (omega (arith, h))
+ten_even (suc n) h = rw (pow-suc 10 n) (even-times (10 ^ n) 10 (lit-even))
   where
     lit-even : 10 % 2 ≡ 0
     lit-even = omega arith

@@ -9,30 +9,30 @@ use borrow.Author.Tests.{leb-true}
 use lib.Dec.{leb}
 use lib.ListN.{length, get_or, take, drop, take-append-drop, length-drop}
 use lib.Seq.{take-suc, take-append-add, drop-drop, length-take-le}
-use Rattle.wide_decimal.specs.Figures.{figureOf, worthFrom, worth}
+use Rattle.wide_decimal.specs.Figures.{figure_of, worth_from, worth}
 
-pub figure-most : (b : ℕ) → figureOf b ≤ 9
-unfolding figureOf
-figure-most b = by (leb 48 b) (leb b 57) (leb-true b 57)
+pub figure_most : (b : ℕ) → figure_of b ≤ 9
+unfolding figure_of
+figure_most b = by (leb 48 b) (leb b 57) (leb-true b 57)
   where
     by : (s t : Bool) → (t ≡ true → b ≤ 57) → cond (s && t) (b - 48) 0 ≤ 9
     by true true h = omega (arith, h refl)
     by true false h = omega arith
     by false t h = omega arith
 
-worth-append : (n : ℕ) (a b : List ℕ) → worthFrom n (a ++ b) ≡ worthFrom (worthFrom n a) b
-unfolding worthFrom
+worth-append : (n : ℕ) (a b : List ℕ) → worth_from n (a ++ b) ≡ worth_from (worth_from n a) b
+unfolding worth_from
 worth-append n [] b = refl
-worth-append n (x ∷ a) b = worth-append (n * 10 + figureOf x) a b
+worth-append n (x ∷ a) b = worth-append (n * 10 + figure_of x) a b
 
-worth-behind : (n : ℕ) (a : List ℕ) → worthFrom n a ≡ n * 10 ^ length a + worth a
-unfolding worthFrom
+worth-behind : (n : ℕ) (a : List ℕ) → worth_from n a ≡ n * 10 ^ length a + worth a
+unfolding worth_from
 worth-behind n [] = omega arith
 worth-behind n (x ∷ a) =
-    worth-behind (n * 10 + figureOf x) a
-    ∙ one n (figureOf x) (10 ^ length a) (worth a)
-    ∙ ap (λ (z : ℕ). n * z + ((0 * 10 + figureOf x) * 10 ^ length a + worth a)) (sym (pow-suc 10 (length a)))
-    ∙ ap (λ (z : ℕ). n * 10 ^ suc (length a) + z) (sym (worth-behind (0 * 10 + figureOf x) a))
+    worth-behind (n * 10 + figure_of x) a
+    ∙ one n (figure_of x) (10 ^ length a) (worth a)
+    ∙ ap (λ (z : ℕ). n * z + ((0 * 10 + figure_of x) * 10 ^ length a + worth a)) (sym (pow-suc 10 (length a)))
+    ∙ ap (λ (z : ℕ). n * 10 ^ suc (length a) + z) (sym (worth-behind (0 * 10 + figure_of x) a))
   where
     one : (n f p w : ℕ) → (n * 10 + f) * p + w ≡ n * (p * 10) + ((0 * 10 + f) * p + w)
     one n f p w = omega arith
@@ -41,15 +41,15 @@ pub worth-both : (a b : List ℕ) → worth (a ++ b) ≡ worth a * 10 ^ length b
 worth-both a b = worth-append 0 a b ∙ worth-behind (worth a) b
 
 pub worth-most : (a : List ℕ) → worth a < 10 ^ length a
-unfolding worthFrom
+unfolding worth_from
 worth-most [] = omega arith
-worth-most (x ∷ a) = rw (pow-suc 10 (length a), worth-behind (0 * 10 + figureOf x) a) (by (figureOf x) (10 ^ length a) (worth a) (figure-most x) (worth-most a))
+worth-most (x ∷ a) = rw (pow-suc 10 (length a), worth-behind (0 * 10 + figure_of x) a) (by (figure_of x) (10 ^ length a) (worth a) (figure_most x) (worth-most a))
   where
     by : (f p w : ℕ) → f ≤ 9 → w < p → (0 * 10 + f) * p + w < p * 10
     by f p w h k = let most : f * p ≤ 9 * p = mul-le-mul_right p h in omega arith
 
-pub worth-next : (a : List ℕ) (i : ℕ) → i < length a → worth (take (suc i) a) ≡ worth (take i a) * 10 + figureOf (get_or a i 0)
-unfolding worthFrom
+pub worth-next : (a : List ℕ) (i : ℕ) → i < length a → worth (take (suc i) a) ≡ worth (take i a) * 10 + figure_of (get_or a i 0)
+unfolding worth_from
 worth-next a i h = ap worth (take-suc a i 0 h) ∙ worth-append 0 (take i a) (get_or a i 0 ∷ [])
 
 -- ---- the n figures from the i-th on

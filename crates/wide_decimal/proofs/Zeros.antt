@@ -10,11 +10,11 @@ use lib.Dec.{lit≤}
 use lib.ListN.{length, take, drop, drop_of_length-le}
 use lib.Pow.{pow-add}
 use Rattle.exact.proofs.Naturals.{below_or}
-use Rattle.wide_decimal.specs.Figures.{worthFrom, worth}
+use Rattle.wide_decimal.specs.Figures.{worth_from, worth}
 use Rattle.wide_decimal.specs.Limbs.{weight, Held}
 use Rattle.wide_decimal.specs.Near.{Near}
 use Rattle.wide_decimal.proofs.Nears.{near-via}
-use Rattle.wide_decimal.proofs.Powers.{ten-pos, ten-more, ten-even, even-times, weight-more}
+use Rattle.wide_decimal.proofs.Powers.{ten_pos, ten_more, ten_even, even-times, weight-more}
 use Rattle.wide_decimal.proofs.Worth.{worth-upto, worth-from}
 
 -- ---- before the point
@@ -22,7 +22,7 @@ pub worth-grows : (a : List ℕ) (i j : ℕ) → i ≤ j → j ≤ length a → 
 worth-grows a i j h l =
     let e : i + (j - i) ≡ j = omega arith in
     let u = rw e at (worth-upto a i (j - i) (omega arith)) in
-    let more : worth (take i a) * 1 ≤ worth (take i a) * 10 ^ (j - i) = mul-le-mul_left (worth (take i a)) (ten-pos (j - i)) in
+    let more : worth (take i a) * 1 ≤ worth (take i a) * 10 ^ (j - i) = mul-le-mul_left (worth (take i a)) (ten_pos (j - i)) in
     omega arith
 
 -- what does not fit
@@ -37,11 +37,11 @@ pub spilling : (v x w : ℕ) → w ≤ x → Held false v x w
 spilling v x w l = record { is = λ t. cc; over = λ t. l }
 
 -- ---- zeros behind a whole number; beyond 400 only nothing fits
-pub ten-behind : (v i n : ℕ) → v * 10 ^ i * 10 ^ n ≡ v * 10 ^ (i + n)
-ten-behind v i n = mul_assoc v (10 ^ i) (10 ^ n) ∙ ap (λ (x : ℕ). v * x) (sym (pow-add 10 i n))
+pub ten_behind : (v i n : ℕ) → v * 10 ^ i * 10 ^ n ≡ v * 10 ^ (i + n)
+ten_behind v i n = mul_assoc v (10 ^ i) (10 ^ n) ∙ ap (λ (x : ℕ). v * x) (sym (pow-add 10 i n))
 
 pub zeros-more : (v i j w : ℕ) → i ≤ j → w ≤ v * 10 ^ i → w ≤ v * 10 ^ j
-zeros-more v i j w h l = le_trans l (mul-le-mul_left v (ten-more i j h))
+zeros-more v i j w h l = le_trans l (mul-le-mul_left v (ten_more i j h))
 
 pub all-zeros : (v x k zeros n : ℕ) → n ≤ 33 → x ≡ v * 10 ^ k → k ≡ min zeros 400 → (0 < k → x < weight n) → x ≡ v * 10 ^ zeros
 all-zeros v x k zeros n w e m small = elim (below_or 400 zeros) [
@@ -77,7 +77,7 @@ behind-next a i n w v v' some fit even x y =
     let b = 10 ^ (length a - (i + n)) in
     let all : 10 ^ n * b ≡ 10 ^ (length a - i) = sym (pow-add 10 n (length a - (i + n))) ∙ ap (λ (z : ℕ). 10 ^ z) (rest (length a) i n fit) in
     let sum : c * w * b + worth (drop (i + n) a) * w ≡ worth (drop i a) * w = regroup c w b (worth (drop (i + n) a)) ∙ ap (λ (z : ℕ). z * w) (sym (worth-from a i n fit)) in
-    rw (← all, ← sum) (near_step v' v (10 ^ n) b (worth (drop (i + n) a) * w) (c * w) (ten-even n some) (ten-pos (length a - (i + n))) (even-times c w even) x y)
+    rw (← all, ← sum) (near_step v' v (10 ^ n) b (worth (drop (i + n) a) * w) (c * w) (ten_even n some) (ten_pos (length a - (i + n))) (even-times c w even) x y)
   where
     rest : (l i n : ℕ) → i + n ≤ l → n + (l - (i + n)) ≡ l - i
     rest l i n h = omega arith
@@ -86,7 +86,7 @@ behind-next a i n w v v' some fit even x y =
     regroup c w b d = omega arith
 
 pub behind-none : (a : List ℕ) (i w v : ℕ) → i ≡ length a → v ≡ 0 → Near v (10 ^ (length a - i)) (worth (drop i a) * w)
-unfolding worthFrom
+unfolding worth_from
 behind-none a i w v e z =
     let past : length a ≤ i = omega arith in
     inl (rw (z, drop_of_length-le a past) (zero-mul (10 ^ (length a - i)) ∙ sym (zero-mul w)))
@@ -96,7 +96,7 @@ pub lower-next : (v' v s i n w : ℕ) → 0 < n → Near v' (10 ^ n) (0 * w + v)
 lower-next v' v s i n w some x y =
     let sum : 10 ^ n * 10 ^ i ≡ 10 ^ (i + n) = sym (pow-add 10 n i) ∙ ap (λ (z : ℕ). 10 ^ z) (swap n i) in
     let none : 0 * w + v ≡ v = omega arith in
-    rw (← sum) (near-via v' v s (10 ^ n) (10 ^ i) (ten-even n some) (ten-pos i) (rw none at x) y)
+    rw (← sum) (near-via v' v s (10 ^ n) (10 ^ i) (ten_even n some) (ten_pos i) (rw none at x) y)
   where
     swap : (n i : ℕ) → n + i ≡ i + n
     swap n i = omega arith
@@ -113,6 +113,6 @@ lower-all w v k zeros l h s m n = elim (below_or 400 zeros) [
   | inr o ↦ (let same : k ≡ zeros = omega arith in rw same at n)
   | inl o ↦ (
       let most : k ≡ 400 = omega arith in
-      near-far w (10 ^ 400) (10 ^ zeros) v (lt_of_lt_of_le s (le_trans (weight-more l 34 h) (lit≤ tt))) (ten-more 400 zeros (omega arith)) (rw most at n)
+      near-far w (10 ^ 400) (10 ^ zeros) v (lt_of_lt_of_le s (le_trans (weight-more l 34 h) (lit≤ tt))) (ten_more 400 zeros (omega arith)) (rw most at n)
       )
 ]

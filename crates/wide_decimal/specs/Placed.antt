@@ -13,6 +13,6 @@ abbrev pub parts : List ℕ → ℕ → ℕ → ℕ
 parts figures whole zeros = 10 ^ (length figures - whole + zeros)
 
 -- both, in such parts, rounded once
-unfoldable pub nearestOf : Bool → List ℕ → ℕ → ℕ → Float
-nearestOf minus figures whole zeros =
+unfoldable pub nearest_of : Bool → List ℕ → ℕ → ℕ → Float
+nearest_of minus figures whole zeros =
     round binary64 minus (before figures whole * parts figures whole zeros + worth (drop whole figures)) (parts figures whole zeros)

@@ -4,7 +4,7 @@ use Rattle.std.specs.Float.{binary64}
 use Rattle.std.specs.Float.Ieee.{round}
 use Rattle.wide_decimal.specs.Limbs.{value, weight}
 use Rattle.wide_decimal.specs.Near.{Near}
-use Rattle.wide_decimal.specs.Placed.{before, nearestOf}
+use Rattle.wide_decimal.specs.Placed.{before, nearest_of}
 use Rattle.wide_decimal.specs.declared.round.Rounded.{Rounded}
 use Rattle.wide_decimal.specs.declared.round.Rounded.TheVariants as rounded
 use Rattle.wide_decimal.specs.declared.Tried.{Tried}
@@ -25,6 +25,6 @@ pub record Room (high low : List ℕ) : Type 0 where
 
 -- the double; or what stands before the point does not fit; or the digits behind it are fewer than 34
 abbrev pub Outcome : Bool → List ℕ → ℕ → ℕ → ℕ → ℕ → Tried → Type 0
-Outcome minus figures whole zeros above below (result.Sure r) = r ≡ nearestOf minus figures whole zeros
+Outcome minus figures whole zeros above below (result.Sure r) = r ≡ nearest_of minus figures whole zeros
 Outcome minus figures whole zeros above below result.Spilled = weight above ≤ before figures whole
 Outcome minus figures whole zeros above below result.Thin = below < 34

@@ -1,6 +1,6 @@
 // The figures of a text but for the byte at its point.
 ghost use Rattle.std.specs.Prelude.{◌≡◌, ◌+◌, ◌^◌, ◌≤◌, ◌<◌, min, length, get_or, take, drop};
-ghost use Rattle.wide_decimal.specs.Figures.{figureOf, worth, without};
+ghost use Rattle.wide_decimal.specs.Figures.{figure_of, worth, without};
 
 pub(crate) fn least(a: usize, b: usize) -> usize
     ensures { result ≡ min a b }
@@ -21,7 +21,7 @@ pub(crate) fn count(text: &[u8], point: usize) -> usize
 // The k-th, from 0.
 fn figure(text: &[u8], point: usize, k: usize) -> u64
     requires { k < length (without point text.now) }
-    ensures { result ≡ figureOf (get_or (without point text.now) k 0) }
+    ensures { result ≡ figure_of (get_or (without point text.now) k 0) }
 {
     if k < point {
         return worth_of(text[k]);
@@ -30,7 +30,7 @@ fn figure(text: &[u8], point: usize, k: usize) -> u64
 }
 
 fn worth_of(b: u8) -> u64
-    ensures { result ≡ figureOf b }
+    ensures { result ≡ figure_of b }
 {
     if b < b'0' {
         return 0;

@@ -3,7 +3,7 @@
 // divisors are even, so that it survives the next division, and it decides every tie.
 ghost use Rattle.std.specs.Prelude.{◌≡◌, length};
 ghost use Rattle.wide_decimal.specs.Figures.{without};
-ghost use Rattle.wide_decimal.specs.Placed.{nearestOf};
+ghost use Rattle.wide_decimal.specs.Placed.{nearest_of};
 ghost use Rattle.wide_decimal.specs.Told.{Room, Outcome};
 
 use figures::{count, least};
@@ -18,7 +18,7 @@ mod round;
 // The figures of a text but for the byte at `point`: the first `whole` of them stand before the decimal point, with zeros behind them where there are
 // fewer; behind it stand `zeros` zeros and the other figures. A byte that is no figure counts as 0. A few digits tell nearly always.
 pub fn nearest(minus: bool, text: &[u8], point: usize, whole: usize, zeros: usize) -> f64
-    ensures { result ≡ nearestOf minus (without point text.now) whole zeros }
+    ensures { result ≡ nearest_of minus (without point text.now) whole zeros }
 {
     let mut some = [0u32; 4];
     let mut few = [0u32; 8];
@@ -31,7 +31,7 @@ pub fn nearest(minus: bool, text: &[u8], point: usize, whole: usize, zeros: usiz
 
 // With room for every double.
 fn at_length(minus: bool, text: &[u8], point: usize, whole: usize, zeros: usize) -> f64
-    ensures { result ≡ nearestOf minus (without point text.now) whole zeros }
+    ensures { result ≡ nearest_of minus (without point text.now) whole zeros }
 {
     let mut high = [0u32; 33];
     let mut low = [0u32; 34];

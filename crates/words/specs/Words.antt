@@ -2,10 +2,10 @@
 use Rattle.std.specs.Prelude.{ℕ, zero, suc, ◌+◌, ◌*◌, min, Bool, true, false, ◌&&◌, not, cond, List, eqb, leb, Float, ℤ, pos, ◌-ℤ◌, length, drop}
 use Rattle.std.specs.Float.{binary64}
 use Rattle.std.specs.Float.Ieee.{of_bits}
-use Rattle.hex.specs.declared.Word.{Word}
-use Rattle.hex.specs.declared.Word.TheVariants.{Bits, Bad}
+use Rattle.hexadecimal.specs.declared.Word.{Word}
+use Rattle.hexadecimal.specs.declared.Word.TheVariants.{Bits, Bad}
 use Rattle.lines.specs.Field.{number_at}
-use Rattle.lines.specs.Text.{lineLength}
+use Rattle.lines.specs.Text.{line_length}
 use Rattle.naming.specs.declared.Name.{Name}
 
 abbrev pub bits_of : Word → ℕ
@@ -19,29 +19,29 @@ word_in line k = bits_of (number_at line (1 + 17 * k))
 abbrev pub float_in : List ℕ → ℕ → Float
 float_in line k = of_bits binary64 (word_in line k)
 
-abbrev pub choiceIn : List ℕ → ℕ → Bool
-choiceIn line k = not (eqb (word_in line k) 0)
+abbrev pub choice_in : List ℕ → ℕ → Bool
+choice_in line k = not (eqb (word_in line k) 0)
 
 -- the level that a word stands for, where `mid` stands for level 0; those above twice that stand for none, and are taken for level 0
-abbrev pub levelOf : ℕ → ℕ → ℤ
-levelOf mid w = cond (leb w (2 * mid)) (pos w -ℤ pos mid) (pos 0)
+abbrev pub level_of : ℕ → ℕ → ℤ
+level_of mid w = cond (leb w (2 * mid)) (pos w -ℤ pos mid) (pos 0)
 
-abbrev pub nameIn : List ℕ → ℕ → Name
-nameIn line k = record { first = word_in line k; second = word_in line (k + 1); len = word_in line (k + 2) }
+abbrev pub name_in : List ℕ → ℕ → Name
+name_in line k = record { first = word_in line k; second = word_in line (k + 1); len = word_in line (k + 2) }
 
-abbrev pub isWord : Word → Bool
-isWord (Bits w) = true
-isWord Bad = false
+abbrev pub is_word : Word → Bool
+is_word (Bits w) = true
+is_word Bad = false
 
 -- whether each of the first so many words stands there
-unfoldable pub wordsStand : List ℕ → ℕ → Bool
-wordsStand line zero = true
-wordsStand line (suc k) = isWord (number_at line (1 + 17 * k)) && wordsStand line k
+unfoldable pub words_stand : List ℕ → ℕ → Bool
+words_stand line zero = true
+words_stand line (suc k) = is_word (number_at line (1 + 17 * k)) && words_stand line k
 
 -- whether a line is a letter and so many words
-unfoldable pub readableAs : List ℕ → ℕ → Bool
-readableAs line count = eqb (length line) (1 + 17 * count) && wordsStand line count
+unfoldable pub readable_as : List ℕ → ℕ → Bool
+readable_as line count = eqb (length line) (1 + 17 * count) && words_stand line count
 
 -- where the line at a place of a text ends; a place past the text is taken for its end
 abbrev pub end_in : List ℕ → ℕ → ℕ
-end_in text at = min (at + lineLength (drop at text)) (length text)
+end_in text at = min (at + line_length (drop at text)) (length text)

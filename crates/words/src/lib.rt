@@ -2,9 +2,9 @@
 // For the programs that run outside vectors.
 ghost use Rattle.std.specs.Prelude.{◌≡◌, ◌≤◌};
 ghost use Rattle.lines.specs.Field.{number_at};
-ghost use Rattle.words.specs.Words.{word_in, float_in, choiceIn, nameIn, levelOf, isWord, readableAs, end_in};
+ghost use Rattle.words.specs.Words.{word_in, float_in, choice_in, name_in, level_of, is_word, readable_as, end_in};
 
-use hex::Word;
+use hexadecimal::Word;
 use lines::field::{float_of, number_at};
 use lines::text::line_end;
 use naming::Name;
@@ -35,7 +35,7 @@ pub fn float(line: &[u8], k: u8) -> f64
 
 // Whether word k is another than 0.
 pub fn choice(line: &[u8], k: u8) -> bool
-    ensures { result ≡ choiceIn line.now k }
+    ensures { result ≡ choice_in line.now k }
 {
     if word(line, k) == 0 {
         return false;
@@ -45,13 +45,13 @@ pub fn choice(line: &[u8], k: u8) -> bool
 
 // The level that word k stands for, where `mid` stands for level 0; a word above twice `mid` stands for none, and is taken for level 0.
 pub fn level(line: &[u8], k: u8, mid: u8) -> i32
-    ensures { result ≡ levelOf mid (word_in line.now k) }
+    ensures { result ≡ level_of mid (word_in line.now k) }
 {
     level_of(word(line, k), mid)
 }
 
 fn level_of(w: u64, mid: u8) -> i32
-    ensures { result ≡ levelOf mid w }
+    ensures { result ≡ level_of mid w }
 {
     if 2 * (mid as u64) < w {
         return 0;
@@ -61,7 +61,7 @@ fn level_of(w: u64, mid: u8) -> i32
 
 // The name whose three numbers start at word k.
 pub fn name(line: &[u8], k: u8) -> Name
-    ensures { result ≡ nameIn line.now k }
+    ensures { result ≡ name_in line.now k }
 {
     let at = k as usize;
     let first = word_at(line, at);
@@ -72,7 +72,7 @@ pub fn name(line: &[u8], k: u8) -> Name
 
 // Whether a line is a letter and so many words.
 pub fn readable(line: &[u8], count: u8) -> bool
-    ensures { result ≡ readableAs line.now count }
+    ensures { result ≡ readable_as line.now count }
 {
     let words = count as usize;
     if line.len() != 1 + 17 * words {
@@ -89,7 +89,7 @@ pub fn readable(line: &[u8], count: u8) -> bool
 }
 
 fn is_word(line: &[u8], at: usize) -> bool
-    ensures { result ≡ isWord (number_at line.now at) }
+    ensures { result ≡ is_word (number_at line.now at) }
 {
     match number_at(line, at) {
         Word::Bits(_) => true,

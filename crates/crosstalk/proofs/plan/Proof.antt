@@ -8,7 +8,7 @@ use mathlib.Core.List.{[]}
 use lib.ListN.{length, take, length-take}
 use Rattle.quant.specs.declared.refusal.Answer.TheVariants.{Done}
 use Rattle.quant.proofs.Judging.{taken, passed}
-use Rattle.crosstalk.specs.Crosstalk.{namesIn, crossFits, crossFine, isKnown, namesJudged, planned}
+use Rattle.crosstalk.specs.Crosstalk.{names_in, cross_fits, cross_fine, is_known, names_judged, planned}
 use Rattle.crosstalk.proofs.Fitting.{Fits, fitting}
 use Rattle.crosstalk.proofs.plan.Statement.{statement}
 use Rattle.crosstalk.proofs.plan.Tie as tie
@@ -25,7 +25,7 @@ returns c = rw (c.refused.ensures, taken _ _ c.before.before.fits2.ensures c.bef
 
 -- ---- what is known past each test
 
-fits-so : (c : tie.Else1) → crossFits c.before.before.before.args.c.count (length c.before.before.before.args.factors.now) ≡ true
+fits-so : (c : tie.Else1) → cross_fits c.before.before.before.args.c.count (length c.before.before.before.args.factors.now) ≡ true
 fits-so c = passed _ _ c.before.fits2.ensures c.if1.false
 
 fit : (c : tie.Else1) → Fits c.before.before.before.args.c.count (length c.before.before.before.args.factors.now)
@@ -33,11 +33,11 @@ fit c = fitting _ _ (fits-so c)
 
 fine-so : (c : tie.Else2)
     → let a = c.before.before.before.before.before.before.args in
-    crossFine a.channel a.c (take (a.c.count * a.c.count) a.factors.now) ≡ true
+    cross_fine a.channel a.c (take (a.c.count * a.c.count) a.factors.now) ≡ true
 fine-so c = passed _ _ c.before.is-fine.ensures c.if2.false
 
 clear-so : (c : tie.After-enum-told) → let a = c.before.before.before.before.before.before.before.before.before.args in
-    namesJudged a.t [] (namesIn a.c) ≡ Done c.enum_told.given.0.0
+    names_judged a.t [] (names_in a.c) ≡ Done c.enum_told.given.0.0
 clear-so c = sym c.before.before.names-judged.ensures ∙ c.enum_told.given.1
 
 -- ---- the needs
@@ -93,7 +93,7 @@ unfolding planned
 returns-4 c =
     let clear = c.before.before.before.before in
     let two = clear.before.before.before in
-    let unknown = ap isKnown (sym c.before.before.before.find.ensures) ∙ taken _ _ c.before.before.is_Known.ensures c.before.if3.true in
+    let unknown = ap is_known (sym c.before.before.before.find.ensures) ∙ taken _ _ c.before.before.is_Known.ensures c.before.if3.true in
     rw (c.refused4.ensures, fits-so two.before.before.before, fine-so two, clear-so clear, unknown)
 
 parts-for-requires : tie.Need-parts-for-requires
@@ -107,7 +107,7 @@ unfolding planned
 returns-5 c =
     let clear = c.before.before.before.before.before in
     let two = clear.before.before.before in
-    let known = ap isKnown (sym c.before.before.before.before.find.ensures) ∙ passed _ _ c.before.before.before.is_Known.ensures c.before.before.if3.false in
+    let known = ap is_known (sym c.before.before.before.before.find.ensures) ∙ passed _ _ c.before.before.before.is_Known.ensures c.before.before.if3.false in
     rw (c.accepted.ensures, c.before.parts-for.ensures, fits-so two.before.before.before, fine-so two, clear-so clear, known)
 
 pub plan-spec : {M : Type 1} → statement M

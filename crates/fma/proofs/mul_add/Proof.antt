@@ -1,7 +1,7 @@
 -- `fma::mul_add` meets its contract: where something is not finite, nothing is rounded. Assumes nothing.
 use Rattle.std.proofs.Common.{◌≡◌, Bool, true, false, T, sym, ◌∙◌, subst, rules}
 use lib.Ieee.Scale.{finite}
-use Rattle.fma.proofs.Fusing.{first-wild, second-wild, third-wild}
+use Rattle.fma.proofs.Fusing.{first_wild, second_wild, third_wild}
 use Rattle.fma.proofs.mul_add.Statement.{statement}
 use Rattle.fma.proofs.mul_add.Tie as tie
 
@@ -41,20 +41,20 @@ returns-2 c =
     let two = c.before.before in
     let a = two.before.before.before.before.args in
     let f = c.before.is-finite3 in
-    third-wild a.a a.b a.c (a-finite two.before.before) (b-finite two) (is-not f.result (finite a.c) f.ensures c.if3.false)
+    third_wild a.a a.b a.c (a-finite two.before.before) (b-finite two) (is-not f.result (finite a.c) f.ensures c.if3.false)
 
 returns-3 : tie.Need-returns-3
 returns-3 c =
     let one = c.before.before in
     let a = one.before.before.args in
     let f = c.before.is-finite2 in
-    second-wild a.a a.b a.c (a-finite one) (is-not f.result (finite a.b) f.ensures c.if2.false)
+    second_wild a.a a.b a.c (a-finite one) (is-not f.result (finite a.b) f.ensures c.if2.false)
 
 returns-4 : tie.Need-returns-4
 returns-4 c =
     let a = c.before.before.args in
     let f = c.before.is_finite in
-    first-wild a.a a.b a.c (is-not f.result (finite a.a) f.ensures c.if1.false)
+    first_wild a.a a.b a.c (is-not f.result (finite a.a) f.ensures c.if1.false)
 
 pub mul-add-spec : {M : Type 1} → statement M
 mul-add-spec =

@@ -6,7 +6,7 @@ use lib.Ieee.{binary64, of_bits}
 use lib.IntN.{ℤ}
 use mir.Syntax.{w32}
 use mir.ValLaws.{to_z-of_z}
-use Rattle.quant.specs.Aligned.{alignedOf}
+use Rattle.quant.specs.Aligned.{aligned_of}
 use Rattle.host.specs.Places.{index_of}
 use Rattle.host.proofs.skierralu_align.Statement.{statement}
 use Rattle.host.proofs.skierralu_align.Tie as tie
@@ -24,10 +24,10 @@ number-requires : tie.Need-number-requires
 number-requires c κs = search rules
 
 -- what `align` answered, with the level as it came
-aligned-is : (d : tie.After-align) → d.align.result ≡ alignedOf d.before.args.time.0 d.before.args.rate.0 d.before.args.level
+aligned-is : (d : tie.After-align) → d.align.result ≡ aligned_of d.before.args.time.0 d.before.args.rate.0 d.before.args.level
 aligned-is d =
     let s = d.before in
-    d.align.ensures ∙ ap (λ (z : ℤ). alignedOf s.args.time.0 s.args.rate.0 z) (to_z-of_z w32 s.args.level s.ranges.level)
+    d.align.ensures ∙ ap (λ (z : ℤ). aligned_of s.args.time.0 s.args.rate.0 z) (to_z-of_z w32 s.args.level s.ranges.level)
 
 returns : tie.Need-returns
 returns c = let k = c.before in ap index_of (sym k.a.given.1 ∙ aligned-is k.before.before)

@@ -4,7 +4,7 @@ use mathlib.Core.Path.{◌≡◌, sym, ap, ◌∙◌}
 use lib.IntN.{ℤ}
 use mir.Syntax.{w32}
 use mir.ValLaws.{to_z-of_z}
-use Rattle.quant.specs.Aligned.{alignedOf, placed_of}
+use Rattle.quant.specs.Aligned.{aligned_of, placed_of}
 use Rattle.host.specs.Places.{place_of}
 use Rattle.host.proofs.skierralu_place.Statement.{statement}
 use Rattle.host.proofs.skierralu_place.Tie as tie
@@ -34,10 +34,10 @@ nowhere-requires-3 : tie.Need-nowhere-requires-3
 nowhere-requires-3 c κs = search rules
 
 -- what `place` answered, with the level as it came
-placed-is : (d : tie.After-place) → d.place.result ≡ placed_of (alignedOf d.before.args.time.0 d.before.args.rate.0 d.before.args.level)
+placed-is : (d : tie.After-place) → d.place.result ≡ placed_of (aligned_of d.before.args.time.0 d.before.args.rate.0 d.before.args.level)
 placed-is d =
     let s = d.before in
-    d.place.ensures ∙ ap (λ (z : ℤ). placed_of (alignedOf s.args.time.0 s.args.rate.0 z)) (to_z-of_z w32 s.args.level s.ranges.level)
+    d.place.ensures ∙ ap (λ (z : ℤ). placed_of (aligned_of s.args.time.0 s.args.rate.0 z)) (to_z-of_z w32 s.args.level s.ranges.level)
 
 returns : tie.Need-returns
 returns c = let k = c.before in ap place_of (sym k.start.given.1 ∙ placed-is k.before.before)

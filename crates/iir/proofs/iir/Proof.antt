@@ -8,20 +8,20 @@ use lib.Ieee.{Float}
 use Rattle.quant.specs.declared.refusal.Answer.{Answer}
 use Rattle.rows.specs.Rows.{after}
 use Rattle.rows.proofs.After.{by_answer}
-use Rattle.iir.specs.Section.{sectionsOf}
+use Rattle.iir.specs.Section.{sections_of}
 use Rattle.iir.specs.Filter.{filtered}
-use Rattle.iir.specs.Iir.{iirAnswer, Iir}
+use Rattle.iir.specs.Iir.{iir_answer, Iir}
 use Rattle.iir.proofs.iir.Statement.{statement}
 use Rattle.iir.proofs.iir.Tie as tie
 
 -- rows as the case of the answer has them are as the answer has them
-settled : (rows : ℕ) (i q l : List Float) (verdict a : Answer) (i' q' : List Float) → verdict ≡ iirAnswer rows (length i) (length q) l → verdict ≡ a
-    → i' ≡ after a (filtered (sectionsOf l) i) i → q' ≡ after a (filtered (sectionsOf l) q) q → Iir rows i q l verdict i' q'
+settled : (rows : ℕ) (i q l : List Float) (verdict a : Answer) (i' q' : List Float) → verdict ≡ iir_answer rows (length i) (length q) l → verdict ≡ a
+    → i' ≡ after a (filtered (sections_of l) i) i → q' ≡ after a (filtered (sections_of l) q) q → Iir rows i q l verdict i' q'
 settled rows i q l verdict a i' q' e is first second =
     record {
       answer = e;
-      i-row = by_answer (filtered (sectionsOf l) i) i (sym e ∙ is) first;
-      q-row = by_answer (filtered (sectionsOf l) q) q (sym e ∙ is) second;
+      i-row = by_answer (filtered (sections_of l) i) i (sym e ∙ is) first;
+      q-row = by_answer (filtered (sections_of l) q) q (sym e ∙ is) second;
     }
 
 judged-requires : tie.Need-judged-requires

@@ -2,7 +2,7 @@
 use mathlib.Core.Path.{sym, ◌∙◌}
 use lib.Seq.{length-take-le}
 use borrow.Author.Rules.{rules}
-use Rattle.job_sheet.specs.Inset.{taken_of, factorsAfter}
+use Rattle.job_sheet.specs.Inset.{taken_of, factors_after}
 use Rattle.job_sheet.proofs.Firsts.{first-within}
 use Rattle.job_sheet.proofs.take_sheet.Statement.{statement}
 use Rattle.job_sheet.proofs.take_sheet.Tie as tie
@@ -35,7 +35,7 @@ same_length : tie.Need-same-length
 same_length c = search rules
 
 returns : tie.Need-returns
-unfolding taken_of factorsAfter
+unfolding taken_of factors_after
 returns c =
     let done = c.before.before.before.read.ensures in
     let found = c.before.before.before.before.before.before.before in
@@ -43,7 +43,7 @@ returns c =
     record { taken = rw (first, c.sheeted.ensures, done.answered, done.named); left = rw first done.left }
 
 returns-2 : tie.Need-returns-2
-unfolding taken_of factorsAfter
+unfolding taken_of factors_after
 returns-2 c =
     let first = sym c.before.before.before.first-lines.ensures ∙ c.before.enum_told.given.1 in
     record { taken = rw (first, c.fewer.ensures); left = rw first }

@@ -1,7 +1,7 @@
 -- `mixdown::ends_fit` meets its contract. Assumes nothing.
 use Rattle.mixdown.proofs.Ending.{end-over, end-within, ends-passed}
 use Rattle.mixdown.proofs.Sizes.{eight-ends}
-use Rattle.mixdown.specs.Sampled.{endsFit}
+use Rattle.mixdown.specs.Sampled.{ends_fit}
 use borrow.Author.Rules.{rules}
 use lib.ListN.{drop}
 use Prim.Native.Nat.{◌-◌, ◌≤◌}
@@ -11,7 +11,7 @@ use Rattle.mixdown.proofs.ends_fit.Statement.{statement}
 use Rattle.mixdown.proofs.ends_fit.Tie as tie
 
 abbrev invariant-loop : tie.invariant-loop
-invariant-loop e k₀ k = (k ≤ 8) × (endsFit (drop k e.ends) ≡ endsFit e.ends)
+invariant-loop e k₀ k = (k ≤ 8) × (ends_fit (drop k e.ends) ≡ ends_fit e.ends)
 
 abbrev decreases-loop : tie.decreases-loop
 decreases-loop e k₀ k = 8 - k

@@ -1,6 +1,6 @@
 -- `mixdown::mix_lists` meets its contract. Assumes nothing.
 use Rattle.mixdown.proofs.Ending.{Fits, fits}
-use Rattle.mixdown.specs.Sampled.{mixFits, mixedDown}
+use Rattle.mixdown.specs.Sampled.{mix_fits, mixed_down}
 use lib.Dec.{leb, eqb}
 use lib.ListN.{length}
 use mathlib.Core.Bool.{Bool, true, ◌&&◌}
@@ -15,7 +15,7 @@ module _ (d : tie.After-both6) where
   s₀ = d.before.before.before.before.before.before.before.before.before.before.before.before.before
 
   abbrev asked : Bool
-  asked = mixFits s₀.args.taking s₀.args.ends (length s₀.args.bins.now) (length s₀.args.work.now) (length s₀.args.marks.now) s₀.args.rows (length s₀.args.i.now) (length s₀.args.q.now) (length s₀.args.scratch.now)
+  asked = mix_fits s₀.args.taking s₀.args.ends (length s₀.args.bins.now) (length s₀.args.work.now) (length s₀.args.marks.now) s₀.args.rows (length s₀.args.i.now) (length s₀.args.q.now) (length s₀.args.scratch.now)
 
   flag : d.both6.result ≡ asked
   flag =
@@ -73,11 +73,11 @@ same-length-5 : tie.Need-same-length-5
 same-length-5 c = search rules
 
 returns : tie.Need-returns
-unfolding mixedDown
+unfolding mixed_down
 returns c = (rw (sym (flag c.before.before.before.before.before.before.before.before.before.before.before.before.before) ∙ c.before.before.before.before.before.before.before.before.before.before.before.before.if1.true) c.before.before.before.before.before.before.sample-lists.ensures, (refl, refl))
 
 returns-2 : tie.Need-returns-2
-unfolding mixedDown
+unfolding mixed_down
 returns-2 c = (rw (sym (flag c.before) ∙ c.if1.false) refl, (refl, refl))
 
 pub mix-lists-spec : {M : Type 1} → statement M

@@ -26,26 +26,26 @@ upper-requires-2 c κs = search rules
 
 loop-holds : tie.Need-loop-init invariant-loop decreases-loop
 unfolding upto
-loop-holds c = record { equal = search rules; within = search rules; sameI = refl; same_q = refl; doneI = refl; doneQ = refl }
+loop-holds c = record { equal = search rules; within = search rules; same_i = refl; same_q = refl; done_i = refl; done_q = refl }
 
 sub-loop : tie.Need-overflow-sub-loop invariant-loop decreases-loop
-sub-loop c = omega (arith, c.loop.invariant.within, c.loop.invariant.sameI)
+sub-loop c = omega (arith, c.loop.invariant.within, c.loop.invariant.same_i)
 
 two-requires : tie.Need-two-requires invariant-loop decreases-loop
 two-requires c κs =
     let at = c.before.before.before.loop in
     let g = c.before.before.before.before in
     let h = g.before in (
-      at.invariant.sameI ∙ at.invariant.equal ∙ sym at.invariant.same_q,
-      omega (arith, at.invariant.within, at.invariant.sameI),
+      at.invariant.same_i ∙ at.invariant.equal ∙ sym at.invariant.same_q,
+      omega (arith, at.invariant.within, at.invariant.same_i),
       record { room = h.before.both-roomy.ensures; first = record { upper = h.upper.ensures; lower = refl }; second = record { upper = g.upper2.ensures; lower = refl } },
     )
 
 add-k : tie.Need-overflow-add-k invariant-loop decreases-loop
-add-k c = let at = c.before.before.before.before.before.before.before.before.loop in omega (arith, at.invariant.within, at.invariant.sameI)
+add-k c = let at = c.before.before.before.before.before.before.before.before.loop in omega (arith, at.invariant.within, at.invariant.same_i)
 
 loop-less : tie.Need-loop-smaller invariant-loop decreases-loop
-loop-less c = let at = c.before.before.before.before.before.before.before.before.loop in omega (arith, at.invariant.within, at.invariant.sameI)
+loop-less c = let at = c.before.before.before.before.before.before.before.before.loop in omega (arith, at.invariant.within, at.invariant.same_i)
 
 loop-again : tie.Need-loop-preserved invariant-loop decreases-loop
 loop-again c =
@@ -53,12 +53,12 @@ loop-again c =
     let l = n.before.before.before.before in
     let at = l.loop in
     let a = l.before.before.before.before.before.before.args in
-    two-turns a.i.now a.q.now a.m00 a.m01 a.o0 a.m10 a.m11 a.o1 at.i at.q at.k at.invariant (omega (arith, at.invariant.within, at.invariant.sameI)) n.two.new.0 n.two.new.1.0 n.two.ensures.0 n.two.ensures.1
+    two-turns a.i.now a.q.now a.m00 a.m01 a.o0 a.m10 a.m11 a.o1 at.i at.q at.k at.invariant (omega (arith, at.invariant.within, at.invariant.same_i)) n.two.new.0 n.two.new.1.0 n.two.ensures.0 n.two.ensures.1
 
 one-requires : tie.Need-one-requires invariant-loop decreases-loop
 one-requires c κs =
     let at = c.before.before.before.before.loop in
-    (at.invariant.sameI ∙ at.invariant.equal ∙ sym at.invariant.same_q, omega (arith, at.invariant.within, at.invariant.sameI))
+    (at.invariant.same_i ∙ at.invariant.equal ∙ sym at.invariant.same_q, omega (arith, at.invariant.within, at.invariant.same_i))
 
 -- a last sample, where their number is odd
 last_turn : (c : tie.After-slice-known6 invariant-loop decreases-loop) → let n = c.before.before.before.before in
@@ -70,10 +70,10 @@ last_turn c =
     let l = n.before.before.before.before.before in
     let at = l.loop in
     let a = l.before.before.before.before.before.before.args in
-    one-turn a.i.now a.q.now a.m00 a.m01 a.o0 a.m10 a.m11 a.o1 at.i at.q at.k at.invariant (omega (arith, at.invariant.within, at.invariant.sameI)) n.one.new.0 n.one.new.1.0 n.one.ensures.0 n.one.ensures.1
+    one-turn a.i.now a.q.now a.m00 a.m01 a.o0 a.m10 a.m11 a.o1 at.i at.q at.k at.invariant (omega (arith, at.invariant.within, at.invariant.same_i)) n.one.new.0 n.one.new.1.0 n.one.ensures.0 n.one.ensures.1
 
 same_length : tie.Need-same-length invariant-loop decreases-loop
-same_length c = (last_turn c).sameI
+same_length c = (last_turn c).same_i
 
 same-length-2 : tie.Need-same-length-2 invariant-loop decreases-loop
 same-length-2 c = (last_turn c).same_q
@@ -84,10 +84,10 @@ returns c =
     let l = n.before.before.before.before.before in
     let at = l.loop in
     let a = l.before.before.before.before.before.before.args in
-    all_done a.i.now a.q.now a.m00 a.m01 a.o0 a.m10 a.m11 a.o1 n.one.new.0 n.one.new.1.0 (at.k + 1) (last_turn c) (omega (arith, at.invariant.within, at.invariant.sameI))
+    all_done a.i.now a.q.now a.m00 a.m01 a.o0 a.m10 a.m11 a.o1 n.one.new.0 n.one.new.1.0 (at.k + 1) (last_turn c) (omega (arith, at.invariant.within, at.invariant.same_i))
 
 same-length-3 : tie.Need-same-length-3 invariant-loop decreases-loop
-same-length-3 c = c.before.before.loop.invariant.sameI
+same-length-3 c = c.before.before.loop.invariant.same_i
 
 same-length-4 : tie.Need-same-length-4 invariant-loop decreases-loop
 same-length-4 c = c.before.before.loop.invariant.same_q
@@ -96,7 +96,7 @@ returns-2 : tie.Need-returns-2 invariant-loop decreases-loop
 returns-2 c =
     let at = c.before.before.loop in
     let a = c.before.before.before.before.before.before.before.before.args in
-    all_done a.i.now a.q.now a.m00 a.m01 a.o0 a.m10 a.m11 a.o1 at.i at.q at.k at.invariant (omega (arith, at.invariant.within, at.invariant.sameI))
+    all_done a.i.now a.q.now a.m00 a.m01 a.o0 a.m10 a.m11 a.o1 at.i at.q at.k at.invariant (omega (arith, at.invariant.within, at.invariant.same_i))
 
 pub correct-spec : {M : Type 1} → statement M
 correct-spec =

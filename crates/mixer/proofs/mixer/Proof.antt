@@ -12,8 +12,8 @@ use lib.Ieee.{Float, nan}
 use Rattle.exact.proofs.Truth.{both}
 use Rattle.quant.specs.declared.refusal.Answer.{Answer}
 use Rattle.quant.proofs.Judging.{taken, passed}
-use Rattle.rows.specs.Rows.{rowsFit, allFinite, answer_of, after}
-use Rattle.mixer.specs.Mixer.{correctedRow, mixerFits, Mixer}
+use Rattle.rows.specs.Rows.{rows_fit, all_finite, answer_of, after}
+use Rattle.mixer.specs.Mixer.{corrected_row, mixer_fits, Mixer}
 use Rattle.mixer.proofs.Lone.{equal-rows}
 use Rattle.mixer.proofs.mixer.Statement.{statement}
 use Rattle.mixer.proofs.mixer.Tie as tie
@@ -24,12 +24,12 @@ record Sizes (i q matrix offsets : ℕ) : Type 0 where
   four : matrix ≡ 4
   two : offsets ≡ 2
 
-sizes : (rows i q matrix offsets : ℕ) → mixerFits rows i q matrix offsets ≡ true → Sizes i q matrix offsets
-unfolding mixerFits
+sizes : (rows i q matrix offsets : ℕ) → mixer_fits rows i q matrix offsets ≡ true → Sizes i q matrix offsets
+unfolding mixer_fits
 sizes rows i q matrix offsets e =
-    let last = both (rowsFit rows i q && eqb rows 2 && eqb matrix 4) (eqb offsets 2) e in
-    let third = both (rowsFit rows i q && eqb rows 2) (eqb matrix 4) last.0 in
-    let second = both (rowsFit rows i q) (eqb rows 2) third.0 in
+    let last = both (rows_fit rows i q && eqb rows 2 && eqb matrix 4) (eqb offsets 2) e in
+    let third = both (rows_fit rows i q && eqb rows 2) (eqb matrix 4) last.0 in
+    let second = both (rows_fit rows i q) (eqb rows 2) third.0 in
     record {
       equal = equal-rows rows i q second.0 (eqb-true rows 2 second.1);
       four = eqb-true matrix 4 third.1;
@@ -37,15 +37,15 @@ sizes rows i q matrix offsets e =
     }
 
 -- with what the tests say
-judged : {rows : ℕ} {i q m o : List Float} {r : Answer} {i' q' : List Float} {fits fine : Bool} → mixerFits rows (length i) (length q) (length m) (length o) ≡ fits → (allFinite m && allFinite o) ≡ fine → r ≡ answer_of fits fine
-    → i' ≡ after (answer_of fits fine) (correctedRow (get_or m 0 nan) (get_or m 1 nan) (get_or o 0 nan) i q) i
-    → q' ≡ after (answer_of fits fine) (correctedRow (get_or m 2 nan) (get_or m 3 nan) (get_or o 1 nan) i q) q
+judged : {rows : ℕ} {i q m o : List Float} {r : Answer} {i' q' : List Float} {fits fine : Bool} → mixer_fits rows (length i) (length q) (length m) (length o) ≡ fits → (all_finite m && all_finite o) ≡ fine → r ≡ answer_of fits fine
+    → i' ≡ after (answer_of fits fine) (corrected_row (get_or m 0 nan) (get_or m 1 nan) (get_or o 0 nan) i q) i
+    → q' ≡ after (answer_of fits fine) (corrected_row (get_or m 2 nan) (get_or m 3 nan) (get_or o 1 nan) i q) q
     → Mixer rows i q m o r i' q'
 judged {i = i} {q = q} {m = m} {o = o} f g e a b =
     record {
       answer = e ∙ sym (λ z. answer_of (f z) (g z));
-      first = a ∙ sym (λ z. after (answer_of (f z) (g z)) (correctedRow (get_or m 0 nan) (get_or m 1 nan) (get_or o 0 nan) i q) i);
-      second = b ∙ sym (λ z. after (answer_of (f z) (g z)) (correctedRow (get_or m 2 nan) (get_or m 3 nan) (get_or o 1 nan) i q) q);
+      first = a ∙ sym (λ z. after (answer_of (f z) (g z)) (corrected_row (get_or m 0 nan) (get_or m 1 nan) (get_or o 0 nan) i q) i);
+      second = b ∙ sym (λ z. after (answer_of (f z) (g z)) (corrected_row (get_or m 2 nan) (get_or m 3 nan) (get_or o 1 nan) i q) q);
     }
 
 fits-requires : tie.Need-fits-requires

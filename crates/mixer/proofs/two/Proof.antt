@@ -2,7 +2,7 @@
 use mathlib.Core.Path.{ap, ◌∙◌}
 use mathlib.Core.Bool.{Bool, cond}
 use borrow.Author.Rules.{rules}
-use Rattle.mixer.specs.Turns.{twoOn}
+use Rattle.mixer.specs.Turns.{two_on}
 use Rattle.mixer.proofs.Turning.{one-and-one}
 use Rattle.mixer.proofs.two.Statement.{statement}
 use Rattle.mixer.proofs.two.Tie as tie
@@ -22,8 +22,8 @@ returns c =
     let a = d.before.before.before.before.before.args in
     let i = a.i.now in
     let q = a.q.now in (
-      d.two-by-doubles.ensures.0 ∙ ap (λ (b : Bool). cond b (twoOn a.k a.m00 a.m01 a.o0 i q i) i) c.if1.true,
-      d.two-by-doubles.ensures.1 ∙ ap (λ (b : Bool). cond b (twoOn a.k a.m10 a.m11 a.o1 i q q) q) c.if1.true,
+      d.two-by-doubles.ensures.0 ∙ ap (λ (b : Bool). cond b (two_on a.k a.m00 a.m01 a.o0 i q i) i) c.if1.true,
+      d.two-by-doubles.ensures.1 ∙ ap (λ (b : Bool). cond b (two_on a.k a.m10 a.m11 a.o1 i q q) q) c.if1.true,
     )
 
 one-requires : tie.Need-one-requires
@@ -51,8 +51,8 @@ returns-2 c =
     let i = a.i.now in
     let q = a.q.now in
     one-and-one a.k a.m00 a.m01 a.o0 a.m10 a.m11 a.o1 i q d.two-by-doubles.new.0 d.two-by-doubles.new.1.0 o.one.new.0 o.one.new.1.0 n.one2.new.0 n.one2.new.1.0
-    (d.two-by-doubles.ensures.0 ∙ ap (λ (b : Bool). cond b (twoOn a.k a.m00 a.m01 a.o0 i q i) i) e.if1.false)
-    (d.two-by-doubles.ensures.1 ∙ ap (λ (b : Bool). cond b (twoOn a.k a.m10 a.m11 a.o1 i q q) q) e.if1.false)
+    (d.two-by-doubles.ensures.0 ∙ ap (λ (b : Bool). cond b (two_on a.k a.m00 a.m01 a.o0 i q i) i) e.if1.false)
+    (d.two-by-doubles.ensures.1 ∙ ap (λ (b : Bool). cond b (two_on a.k a.m10 a.m11 a.o1 i q q) q) e.if1.false)
     o.one.ensures.0 o.one.ensures.1 n.one2.ensures.0 n.one2.ensures.1
 
 pub two-spec : {M : Type 1} → statement M

@@ -7,7 +7,7 @@ use lib.ListN.{get_or, set, length-set}
 use lib.Ieee.{nan, binary64, fits, add}
 use Rattle.exact.proofs.Truth.{both}
 use Rattle.quant.proofs.Judging.{passed}
-use Rattle.quick_fma.specs.Quick.{roomyOf}
+use Rattle.quick_fma.specs.Quick.{roomy_of}
 use Rattle.mixer.proofs.Turning.{first-is, second_is}
 use borrow.Author.Rules.{rules}
 use Rattle.mixer.proofs.two_by_doubles.Statement.{statement}
@@ -153,7 +153,7 @@ returns-6 c =
     let z = get_or i (k + 1) nan in
     let w = get_or q (k + 1) nan in
     let f = s.pre.2 in
-    let m = both (roomyOf p.m00) (roomyOf p.m10) (sym f.room ∙ passed _ _ refl e1.if1.left) in
+    let m = both (roomy_of p.m00) (roomy_of p.m10) (sym f.room ∙ passed _ _ refl e1.if1.left) in
     let xr = passed _ _ r1.roomy.ensures e2.if2.left in
     let zr = passed _ _ r2.roomy2.ensures e3.if3.left in
     let xf = known.slice-known.given k in

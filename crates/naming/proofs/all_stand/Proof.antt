@@ -7,13 +7,13 @@ use borrow.Author.Count.{below_none, below_more}
 use borrow.Author.Rules.{rules}
 use borrow.Author.Tests.{not-true, not-false}
 use lib.ListN.{length, get_or}
-use Rattle.naming.specs.Name.{nameByte}
+use Rattle.naming.specs.Name.{name_byte}
 use Rattle.naming.proofs.Places.{every-all, every-not}
 use Rattle.naming.proofs.all_stand.Statement.{statement}
 use Rattle.naming.proofs.all_stand.Tie as tie
 
 abbrev invariant-loop : tie.invariant-loop
-invariant-loop text i₀ i = (i ≤ length text) × ((k : ℕ) → k < i → nameByte (get_or text k 0) ≡ true)
+invariant-loop text i₀ i = (i ≤ length text) × ((k : ℕ) → k < i → name_byte (get_or text k 0) ≡ true)
 
 abbrev decreases-loop : tie.decreases-loop
 decreases-loop text i₀ i = length text - i
@@ -33,7 +33,7 @@ returns c =
     let text = at-loop.before.before.args.text.now in
     let call = c.before.stands in
     let bad = sym call.ensures ∙ not-true call.result c.if1.true in
-    sym (every-not nameByte text at-loop.loop.i (omega arith) bad)
+    sym (every-not name_byte text at-loop.loop.i (omega arith) bad)
 
 add-i : tie.Need-overflow-add-i invariant-loop decreases-loop
 add-i c = search rules
@@ -51,7 +51,7 @@ loop-again c =
 returns-2 : tie.Need-returns-2 invariant-loop decreases-loop
 returns-2 c =
     let text = c.before.before.before.args.text.now in
-    sym (every-all nameByte text (λ k h. c.before.loop.invariant.1 k (omega arith)))
+    sym (every-all name_byte text (λ k h. c.before.loop.invariant.1 k (omega arith)))
 
 pub all-stand-spec : {M : Type 1} → statement M
 all-stand-spec =

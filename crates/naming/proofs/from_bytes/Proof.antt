@@ -11,39 +11,39 @@ use borrow.Author.Tests.{not-true, not-false}
 use lib.ListN.{length, take, drop, length-take, length-drop, drop_of_length-le}
 use lib.Seq.{length-take-le, take_all}
 use Rattle.naming.specs.declared.Naming.TheVariants.{Named, Bad}
-use Rattle.naming.specs.Name.{nameByte, every, wordOf, named, namingOf}
+use Rattle.naming.specs.Name.{name_byte, every, word_of, named, naming_of}
 use Rattle.naming.proofs.Named.{accepts, refuses}
 use Rattle.naming.proofs.Places.{every-all, every-at}
 use Rattle.naming.proofs.from_bytes.Statement.{statement}
 use Rattle.naming.proofs.from_bytes.Tie as tie
 
 module _ (text : List ℕ) where
-  empty : length text < 1 → namingOf text ≡ Bad
+  empty : length text < 1 → naming_of text ≡ Bad
   empty h = refuses text (λ f. omega (arith, f.some))
 
-  long : 16 < length text → namingOf text ≡ Bad
+  long : 16 < length text → naming_of text ≡ Bad
   long h = refuses text (λ f. omega (arith, f.most))
 
-  stray : every nameByte text ≡ false → namingOf text ≡ Bad
-  stray e = refuses text (λ f. true≢false (sym (every-all nameByte text f.each) ∙ e))
+  stray : every name_byte text ≡ false → naming_of text ≡ Bad
+  stray e = refuses text (λ f. true≢false (sym (every-all name_byte text f.each) ∙ e))
 
-  module _ (some : 1 ≤ length text) (most : length text ≤ 16) (stand : every nameByte text ≡ true) where
-    reads : namingOf text ≡ Named (named text)
-    reads = (accepts text).1 (record { some = some; most = most; each = every-at nameByte text stand })
+  module _ (some : 1 ≤ length text) (most : length text ≤ 16) (stand : every name_byte text ≡ true) where
+    reads : naming_of text ≡ Named (named text)
+    reads = (accepts text).1 (record { some = some; most = most; each = every-at name_byte text stand })
 
-    reads-one : length text ≤ 8 → (w : ℕ) → w ≡ wordOf text → namingOf text ≡ Named (record { first = w; second = 0; len = length text })
-    unfolding named wordOf
+    reads-one : length text ≤ 8 → (w : ℕ) → w ≡ word_of text → naming_of text ≡ Named (record { first = w; second = 0; len = length text })
+    unfolding named word_of
     reads-one h w e =
-        let whole : wordOf (take 8 text) ≡ w = ap wordOf (take_all 8 text h) ∙ sym e in
-        let none : wordOf (drop 8 text) ≡ 0 = ap wordOf (drop_of_length-le text {i = 8} h) in
+        let whole : word_of (take 8 text) ≡ w = ap word_of (take_all 8 text h) ∙ sym e in
+        let none : word_of (drop 8 text) ≡ 0 = ap word_of (drop_of_length-le text {i = 8} h) in
         reads ∙ ap Named (λ i. record { first = whole i; second = none i; len = length text })
 
-    reads_two : (w v : ℕ) → w ≡ wordOf (take 8 text) → v ≡ wordOf (take (length text - 8) (drop 8 text))
-        → namingOf text ≡ Named (record { first = w; second = v; len = length text })
+    reads_two : (w v : ℕ) → w ≡ word_of (take 8 text) → v ≡ word_of (take (length text - 8) (drop 8 text))
+        → naming_of text ≡ Named (record { first = w; second = v; len = length text })
     unfolding named
     reads_two w v e f =
         let all = take_all (length text - 8) (drop 8 text) (simp length-drop (omega arith)) in
-        let rest : v ≡ wordOf (drop 8 text) = f ∙ ap wordOf all in
+        let rest : v ≡ word_of (drop 8 text) = f ∙ ap word_of all in
         reads ∙ ap Named (λ i. record { first = sym e i; second = sym rest i; len = length text })
 
 returns : tie.Need-returns
@@ -60,7 +60,7 @@ returns-3 c =
     let call = c.before.all-stand in
     sym (stray _ (sym call.ensures ∙ not-true call.result c.if3.true))
 
-passed : (c : tie.Else3) → every nameByte c.before.before.before.before.before.args.text.now ≡ true
+passed : (c : tie.Else3) → every name_byte c.before.before.before.before.before.args.text.now ≡ true
 passed c = sym c.before.all-stand.ensures ∙ not-false c.before.all-stand.result c.if3.false
 
 word-of-requires : tie.Need-word-of-requires

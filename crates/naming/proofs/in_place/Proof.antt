@@ -1,7 +1,7 @@
--- `naming::in_place` meets its contract: within the length, or past it. Assumes nothing.
+-- `naming::in_place_lem` meets its contract: within the length, or past it. Assumes nothing.
 use borrow.Author.Rules.{rules}
 use borrow.Author.Tests.{lt-ltb, le-ltb}
-use Rattle.naming.specs.Name.{inPlace}
+use Rattle.naming.specs.Name.{in_place}
 use Rattle.naming.proofs.in_place.Statement.{statement}
 use Rattle.naming.proofs.in_place.Tie as tie
 
@@ -9,11 +9,11 @@ stands-requires : tie.Need-stands-requires
 stands-requires c κs = search rules
 
 returns : tie.Need-returns
-unfolding inPlace
+unfolding in_place
 returns c = simp (lt-ltb _ _ c.before.if1.true) c.stands.ensures
 
 returns-2 : tie.Need-returns-2
-unfolding inPlace
+unfolding in_place
 returns-2 c = simp (le-ltb _ _ c.if1.false)
 
 pub in-place-spec : {M : Type 1} → statement M

@@ -12,7 +12,7 @@ use lib.ListN.{length, get_or}
 use lib.Seq.{get_or-drop, get_or-take}
 use Rattle.exact.proofs.Naturals.{below_or}
 use Rattle.naming.specs.declared.Name.{Name}
-use Rattle.naming.specs.Name.{nameByte, is_zero, every, sixteen, bytes_of, pastEnd, isName, inPlace}
+use Rattle.naming.specs.Name.{name_byte, is_zero, every, sixteen, bytes_of, past_end, is_name, in_place}
 use Rattle.naming.proofs.Named.{well-formed, length-bytes, length-past}
 use Rattle.naming.proofs.Places.{every-all, every-not}
 use Rattle.naming.proofs.is_name.Statement.{statement}
@@ -24,50 +24,50 @@ module _ (n : Name) where
 
   -- ---- each test that fails
 
-  empty : n.len < 1 → isName n ≡ false
-  unfolding isName
+  empty : n.len < 1 → is_name n ≡ false
+  unfolding is_name
   empty h = simp (lt-leb 1 n.len h, and-false)
 
-  long : 16 < n.len → isName n ≡ false
-  unfolding isName
+  long : 16 < n.len → is_name n ≡ false
+  unfolding is_name
   long h = simp (lt-leb n.len 16 h, and-false)
 
-  stray : every nameByte (bytes_of n) ≡ false → isName n ≡ false
-  unfolding isName
+  stray : every name_byte (bytes_of n) ≡ false → is_name n ≡ false
+  unfolding is_name
   stray e = simp (e, and-false)
 
-  left_over : every is_zero (pastEnd n) ≡ false → isName n ≡ false
-  unfolding isName
+  left_over : every is_zero (past_end n) ≡ false → is_name n ≡ false
+  unfolding is_name
   left_over e = simp (e, and-false)
 
   -- ---- byte i in its place
 
-  within : (i : ℕ) → i < n.len → inPlace n.len i (get_or both_words i 0) ≡ nameByte (get_or (bytes_of n) i 0)
-  unfolding inPlace bytes_of
+  within : (i : ℕ) → i < n.len → in_place n.len i (get_or both_words i 0) ≡ name_byte (get_or (bytes_of n) i 0)
+  unfolding in_place bytes_of
   within i h = simp (lt-ltb i n.len h, get_or-take n.len both_words i 0 h)
 
-  past : (i : ℕ) → inPlace n.len (n.len + i) (get_or both_words (n.len + i) 0) ≡ is_zero (get_or (pastEnd n) i 0)
-  unfolding inPlace pastEnd
+  past : (i : ℕ) → in_place n.len (n.len + i) (get_or both_words (n.len + i) 0) ≡ is_zero (get_or (past_end n) i 0)
+  unfolding in_place past_end
   past i = simp (le-ltb (n.len + i) n.len (omega arith), get_or-drop)
 
   module _ (most : n.len ≤ 16) where
-    out-of-place : (i : ℕ) → i < 16 → inPlace n.len i (get_or both_words i 0) ≡ false → isName n ≡ false
+    out-of-place : (i : ℕ) → i < 16 → in_place n.len i (get_or both_words i 0) ≡ false → is_name n ≡ false
     out-of-place i h e = ⊎_elim inside outside (below_or i n.len)
       where
-        inside : i < n.len → isName n ≡ false
-        inside m = stray (every-not nameByte (bytes_of n) i (rw (length-bytes n most) m) (sym (within i m) ∙ e))
+        inside : i < n.len → is_name n ≡ false
+        inside m = stray (every-not name_byte (bytes_of n) i (rw (length-bytes n most) m) (sym (within i m) ∙ e))
 
-        outside : n.len ≤ i → isName n ≡ false
+        outside : n.len ≤ i → is_name n ≡ false
         outside m =
             let k = i - n.len in
             let up : n.len + k ≡ i = omega arith in
-            let there : k < length (pastEnd n) = rw length-past (omega arith) in
-            let strange = ap (λ (j : ℕ). inPlace n.len j (get_or both_words j 0)) up ∙ e in
-            left_over (every-not is_zero (pastEnd n) k there (sym (past k) ∙ strange))
+            let there : k < length (past_end n) = rw length-past (omega arith) in
+            let strange = ap (λ (j : ℕ). in_place n.len j (get_or both_words j 0)) up ∙ e in
+            left_over (every-not is_zero (past_end n) k there (sym (past k) ∙ strange))
 
-    in_place : n.first < 2 ^ 64 → n.second < 2 ^ 64 → 1 ≤ n.len → ((i : ℕ) → i < 16 → inPlace n.len i (get_or both_words i 0) ≡ true)
-        → isName n ≡ true
-    in_place first second some all =
+    in_place_lem : n.first < 2 ^ 64 → n.second < 2 ^ 64 → 1 ≤ n.len → ((i : ℕ) → i < 16 → in_place n.len i (get_or both_words i 0) ≡ true)
+        → is_name n ≡ true
+    in_place_lem first second some all =
         (well-formed n).1
         (record {
           first_word = first;
@@ -75,15 +75,15 @@ module _ (n : Name) where
           some = some;
           most = most;
           stand =
-              every-all nameByte (bytes_of n)
+              every-all name_byte (bytes_of n)
               (λ i h. let m : i < n.len = rw (length-bytes n most) at h in sym (within i m) ∙ all i (omega arith));
           zeros =
-              every-all is_zero (pastEnd n)
+              every-all is_zero (past_end n)
               (λ i h. let m : i < 16 - n.len = rw length-past at h in sym (past i) ∙ all (n.len + i) (omega arith));
         })
 
 abbrev invariant-loop : tie.invariant-loop
-invariant-loop first second len i₀ i = (i ≤ 16) × ((k : ℕ) → k < i → inPlace len k (get_or (sixteen first second) k 0) ≡ true)
+invariant-loop first second len i₀ i = (i ≤ 16) × ((k : ℕ) → k < i → in_place len k (get_or (sixteen first second) k 0) ≡ true)
 
 abbrev decreases-loop : tie.decreases-loop
 decreases-loop first second len i₀ i = 16 - i
@@ -111,8 +111,8 @@ module _ (c : tie.After-in-place invariant-loop decreases-loop) where
   abbrev place : ℕ
   place = c.before.before.before.loop.i
 
-  judged : inPlace name.len place (get_or (both_words name) place 0) ≡ c.in_place.result
-  judged = ap (inPlace name.len place) (sym c.before.byte_at.ensures) ∙ sym c.in_place.ensures
+  judged : in_place name.len place (get_or (both_words name) place 0) ≡ c.in_place.result
+  judged = ap (in_place name.len place) (sym c.before.byte_at.ensures) ∙ sym c.in_place.ensures
 
 returns-3 : tie.Need-returns-3 invariant-loop decreases-loop
 returns-3 c =
@@ -135,7 +135,7 @@ loop-again c =
 returns-4 : tie.Need-returns-4 invariant-loop decreases-loop
 returns-4 c =
     let n = c.before.before.before.before.args.n in
-    sym (in_place n (omega arith) (omega arith) (omega arith) (omega arith) (λ i h. c.before.loop.invariant.1 i (omega arith)))
+    sym (in_place_lem n (omega arith) (omega arith) (omega arith) (omega arith) (λ i h. c.before.loop.invariant.1 i (omega arith)))
 
 pub is-name-spec : {M : Type 1} → statement M
 is-name-spec =

@@ -5,21 +5,21 @@ use mathlib.Core.Bool.{false, not, and-false}
 use native.Mathlib.Omega.{arith}
 use borrow.Author.Tests.{le-leb, lt-leb}
 use lib.Dec.{eqb}
-use Rattle.naming.specs.Name.{nameByte}
+use Rattle.naming.specs.Name.{name_byte}
 use Rattle.naming.proofs.stands.Statement.{statement}
 use Rattle.naming.proofs.stands.Tie as tie
 
 module _ (b : ℕ) where
-  below : b < 0x21 → nameByte b ≡ false
-  unfolding nameByte
+  below : b < 0x21 → name_byte b ≡ false
+  unfolding name_byte
   below h = simp (lt-leb 0x21 b h)
 
-  above : 0x7E < b → nameByte b ≡ false
-  unfolding nameByte
+  above : 0x7E < b → name_byte b ≡ false
+  unfolding name_byte
   above h = simp (lt-leb b 0x7E h, and-false)
 
-  within : 0x21 ≤ b → b ≤ 0x7E → nameByte b ≡ not (eqb b 0x3D)
-  unfolding nameByte
+  within : 0x21 ≤ b → b ≤ 0x7E → name_byte b ≡ not (eqb b 0x3D)
+  unfolding name_byte
   within h k = simp (le-leb 0x21 b h, le-leb b 0x7E k)
 
 returns : tie.Need-returns

@@ -10,23 +10,23 @@ use lib.Dec.{lit<}
 use lib.ListN.{length, get_or, drop}
 use lib.Seq.{drop-cons, drop-length}
 use mir.Facts.{Fits-8_64, Fits-cat, Fits-shl}
-use Rattle.naming.specs.Name.{wordOf}
+use Rattle.naming.specs.Name.{word_of}
 use Rattle.naming.proofs.word_of.Statement.{statement}
 use Rattle.naming.proofs.word_of.Tie as tie
 
 -- what is known while `left` bytes are left to gather
 record Gathered (part : List ℕ) (word left : ℕ) : Type 0 where
   within : left ≤ length part
-  is : word ≡ wordOf (drop left part)
+  is : word ≡ word_of (drop left part)
   few : word < 256 ^ (length part - left)
 
 none : (part : List ℕ) → Gathered part 0 (length part)
-unfolding wordOf
+unfolding word_of
 none part =
     let end : length part - length part ≡ 0 = omega arith in
     record { within = omega arith; is = rw drop-length; few = rw end (lit< tt) }
 
-whole : (part : List ℕ) (word left : ℕ) → Gathered part word left → left ≤ 0 → word ≡ wordOf part
+whole : (part : List ℕ) (word left : ℕ) → Gathered part word left → left ≤ 0 → word ≡ word_of part
 whole part word left g h = let end : left ≡ 0 = omega arith in rw end at g.is
 
 module _ (part : List ℕ) (word left : ℕ) (g : Gathered part word left) (h : 0 < left) where
@@ -36,7 +36,7 @@ module _ (part : List ℕ) (word left : ℕ) (g : Gathered part word left) (h : 
       lt_of_lt_of_le g.few (pow-le-pow_right (lit< tt) {j = 7} few)
 
   more : get_or part (left - 1) 0 < 256 → Gathered part (word * 256 + get_or part (left - 1) 0) (left - 1)
-  unfolding wordOf
+  unfolding word_of
   more byte =
       let b = get_or part (left - 1) 0 in
       let there : left - 1 < length part = omega arith in

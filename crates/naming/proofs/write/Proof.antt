@@ -10,18 +10,18 @@ use borrow.Author.Tests.{le-leb, lt-leb, not-true, not-false}
 use lib.ListN.{length, get_or, set, length-set}
 use lib.Seq.{paste, paste-zero, paste-suc}
 use Rattle.naming.specs.declared.Name.{Name}
-use Rattle.naming.specs.Name.{Wrote, sixteen, bytes_of, isName, writable, written}
+use Rattle.naming.specs.Name.{Wrote, sixteen, bytes_of, is_name, writable, written}
 use Rattle.naming.proofs.Named.{well-formed}
 use Rattle.naming.proofs.Words.{length-sixteen}
 use Rattle.naming.proofs.write.Statement.{statement}
 use Rattle.naming.proofs.write.Tie as tie
 
 module _ (n : Name) (text : List ℕ) (at : ℕ) where
-  no_name : isName n ≡ false → Wrote n text at false text
+  no_name : is_name n ≡ false → Wrote n text at false text
   unfolding writable written
   no_name e = record { answered = simp e; left = simp e }
 
-  no_room : isName n ≡ true → length text < at + n.len → Wrote n text at false text
+  no_room : is_name n ≡ true → length text < at + n.len → Wrote n text at false text
   unfolding writable written
   no_room e h =
       let out = lt-leb (at + n.len) (length text) h in
@@ -46,7 +46,7 @@ module _ (bytes text : List ℕ) (at len : ℕ) where
         is = rw (p.is, add-one) (paste-suc text at bytes i 0 (omega arith) (omega arith));
       }
 
-whole : (n : Name) (text : List ℕ) (at : ℕ) (out : List ℕ) (i : ℕ) → isName n ≡ true → at + n.len ≤ length text
+whole : (n : Name) (text : List ℕ) (at : ℕ) (out : List ℕ) (i : ℕ) → is_name n ≡ true → at + n.len ≤ length text
     → Put (sixteen n.first n.second) text at n.len out i → n.len ≤ i → Wrote n text at true out
 unfolding writable written bytes_of
 whole n text at out i e fits p h =
@@ -68,7 +68,7 @@ returns c =
     let call = c.before.is_name in
     no_name _ _ _ (sym call.ensures ∙ not-true call.result c.if1.true)
 
-a-name : (c : tie.Else1 invariant-loop decreases-loop) → isName c.before.before.before.args.n ≡ true
+a-name : (c : tie.Else1 invariant-loop decreases-loop) → is_name c.before.before.before.args.n ≡ true
 a-name c = sym c.before.is_name.ensures ∙ not-false c.before.is_name.result c.if1.false
 
 short : (c : tie.Else1 invariant-loop decreases-loop) → c.before.before.before.args.n.len ≤ 16

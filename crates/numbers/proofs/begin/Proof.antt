@@ -6,13 +6,13 @@ use borrow.Author.Rules.{rules}
 use lib.ListN.{length, drop}
 use Rattle.fields.specs.Words.{words_of}
 use Rattle.job.proofs.Listing.{end-within}
-use Rattle.numbers.specs.Numbers.{numbersOf, listed}
+use Rattle.numbers.specs.Numbers.{numbers_of, listed}
 use Rattle.numbers.proofs.Laying.{begun-end, begun-on}
 use Rattle.numbers.proofs.begin.Statement.{statement}
 use Rattle.numbers.proofs.begin.Tie as tie
 
 abbrev invariant-loop : tie.invariant-loop
-invariant-loop line k at₀ left₀ at left = (at ≤ length line) × (numbersOf (drop left (words_of (drop at line))) ≡ listed line k)
+invariant-loop line k at₀ left₀ at left = (at ≤ length line) × (numbers_of (drop left (words_of (drop at line))) ≡ listed line k)
 
 abbrev decreases-loop : tie.decreases-loop
 decreases-loop line k at₀ left₀ at left = left

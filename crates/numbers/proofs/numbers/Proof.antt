@@ -9,13 +9,13 @@ use Rattle.decimal.specs.Number.{number_of}
 use Rattle.decimal.specs.declared.number.Number.TheVariants.{Double}
 use Rattle.fields.specs.Words.{words_of}
 use Rattle.job.proofs.Listing.{end-within}
-use Rattle.numbers.specs.Numbers.{numbersOf, listed}
+use Rattle.numbers.specs.Numbers.{numbers_of, listed}
 use Rattle.numbers.proofs.Laying.{Laid, laid_none, laid_next, number-none, number-last, number_more, stored-all, stored-full}
 use Rattle.numbers.proofs.numbers.Statement.{statement}
 use Rattle.numbers.proofs.numbers.Tie as tie
 
 abbrev invariant-loop : tie.invariant-loop
-invariant-loop line k out₀ at₀ n₀ out at n = (at ≤ length line) × Laid (listed line k) out₀ out n (numbersOf (words_of (drop at line)))
+invariant-loop line k out₀ at₀ n₀ out at n = (at ≤ length line) × Laid (listed line k) out₀ out n (numbers_of (words_of (drop at line)))
 
 abbrev decreases-loop : tie.decreases-loop
 decreases-loop line k out₀ at₀ n₀ out at n = length out - n
@@ -140,7 +140,7 @@ loop-again c =
     let is : number_of (take (at.at + p - at.at) (drop at.at line)) ≡ Double x = sym c4.read.ensures ∙ c2.number.given.1 in
     let next = number_more line at.at 0 p at.invariant.0 c6.place.ensures x is c.if1.false in (
       omega (arith, end-within line at.at 0 p at.invariant.0 c6.place.ensures),
-      laid_next (listed line c13.args.k) c13.args.out.now at.out at.n x (numbersOf (words_of (drop (at.at + p + 1) line))) (omega arith) (rw next at at.invariant.1),
+      laid_next (listed line c13.args.k) c13.args.out.now at.out at.n x (numbers_of (words_of (drop (at.at + p + 1) line))) (omega arith) (rw next at at.invariant.1),
     )
 
 same-length-3 : tie.Need-same-length-3 invariant-loop decreases-loop
@@ -150,7 +150,7 @@ returns-3 : tie.Need-returns-3 invariant-loop decreases-loop
 returns-3 c =
     let c5 = c.before.before.before.before.before in
     let at = c.before.loop in
-    stored-full c5.args.line.now c5.args.k c5.args.out.now at.out at.n (numbersOf (words_of (drop at.at c5.args.line.now))) (omega arith) at.invariant.1
+    stored-full c5.args.line.now c5.args.k c5.args.out.now at.out at.n (numbers_of (words_of (drop at.at c5.args.line.now))) (omega arith) at.invariant.1
 
 pub numbers-spec : {M : Type 1} → statement M
 numbers-spec =

@@ -56,7 +56,7 @@ use Rattle.pulse.proofs.list.Pulse.TheLaws as P'
 use Rattle.tables.specs.declared.Tables.{Tables}
 use Rattle.tables.specs.contracts.Tables as U
 use Rattle.tables.proofs.Tables.TheLaws as U'
-use Rattle.tables.proofs.Walked.{valU, IsTables, typedU, has-tables}
+use Rattle.tables.proofs.Walked.{val_u, IsTables, typed_u, has-tables}
 use Rattle.merge.proofs.Callees.{Rows}
 use Rattle.crosstalk.specs.declared.names.Crosstalk.{Crosstalk}
 use Rattle.crosstalk.specs.contracts.names.Crosstalk as X
@@ -64,7 +64,7 @@ use Rattle.crosstalk.proofs.names.Crosstalk.TheLaws as X'
 use Rattle.mixdown.specs.Sampled.{rowed}
 use Rattle.sampler.specs.declared.Request.{Request}
 use Rattle.sampler.specs.Sampler.{left, sampled}
-use Rattle.sampler.proofs.Callees.{Wave, valN, valX, valR, IsAnswer, IsCrosstalk, IsRequest, typedX, typedR, has-answer, has-crosstalk, has-request, Lease, refTo, spell, shared, held, token}
+use Rattle.sampler.proofs.Callees.{Wave, val_n, val_x, val_r, IsAnswer, IsCrosstalk, IsRequest, typed_x, typed_r, has-answer, has-crosstalk, has-request, Lease, ref_to, spell, shared, held, token}
 use Rattle.sampler.specs.contracts.Request as R
 use Rattle.sampler.proofs.Request.TheLaws as R'
 use Rattle.sampler.specs.contracts.sample as sa
@@ -140,8 +140,8 @@ module _ {M : Type 1} {𝓤 : Ura M} (𝓛 : Logic 𝓤) (mem : Memory → SProp
     (gF : Room f64 (length fs)) (gB : Room BinRow (length bs)) (gI : Room f64 (length is)) (gQ : Room f64 (length qs)) (gS : Room f64 (length ss)) (gW : Room Row (length ws)) (gM : Room usize (length ms)) where
   open 𝓛 use {H}
 
-  typedP : T (has_ty (ty_array P'.mir 8192) x) × WT x
-  typedP = ((Array-Lawful 𝓛 P.the_row (LL.lawful P.the_type P'.the_laws 𝓛) 8192).typed xs (x ∷ []) gx).0
+  typed_p : T (has_ty (ty_array P'.mir 8192) x) × WT x
+  typed_p = ((Array-Lawful 𝓛 P.the_row (LL.lawful P.the_type P'.the_laws 𝓛) 8192).typed xs (x ∷ []) gx).0
 
   long : length xs ≡ 8192
   long = gx.1.0.1
@@ -153,15 +153,15 @@ module _ {M : Type 1} {𝓤 : Ura M} (𝓛 : Logic 𝓤) (mem : Memory → SProp
   shared-by = (xF.q, (xB.q, (xI.q, (xQ.q, (xS.q, (xW.q, (xM.q, tt)))))))
 
   abbrev behind : Behind
-  behind = (refTo xI is, (refTo xQ qs, (refTo xS ss, (refTo xW ws, (refTo xM ms, tt)))))
+  behind = (ref_to xI is, (ref_to xQ qs, (ref_to xS ss, (ref_to xW ws, (ref_to xM ms, tt)))))
 
   abbrev args : Tables × (Request × (Crosstalk × (Bor Wave × (Bor Rows × (List Pulse × Behind)))))
-  args = (t, (r, (c, (refTo xF fs, (refTo xB bs, (xs, behind))))))
+  args = (t, (r, (c, (ref_to xF fs, (ref_to xB bs, (xs, behind))))))
 
   abbrev vals : Vals f.signature κs
   vals = (
-    valU t ∷ [],
-    (valR r ∷ [], (valX c ∷ [], (spell xF (length fs), (spell xB (length bs), (x ∷ [], (spell xI (length is), (spell xQ (length qs), (spell xS (length ss), (spell xW (length ws), (spell xM (length ms), tt)))))))))),
+    val_u t ∷ [],
+    (val_r r ∷ [], (val_x c ∷ [], (spell xF (length fs), (spell xB (length bs), (x ∷ [], (spell xI (length is), (spell xQ (length qs), (spell xS (length ss), (spell xW (length ws), (spell xM (length ms), tt)))))))))),
   )
 
   abbrev Post : Val → SProp 𝓤
@@ -175,10 +175,10 @@ module _ {M : Type 1} {𝓤 : Ura M} (𝓛 : Logic 𝓤) (mem : Memory → SProp
       ∷ ‵ (finally Row xW.γ w') ∷ token xW ∷ ‵ (finally usize xM.γ m') ∷ token xM ∷ []
 
   exits : (a : Answer) (i' q' s' : Wave) (w' : Rows) (m' : List ℕ) → IsAnswer a → length i' ≡ length is → length q' ≡ length qs → length s' ≡ length ss → length w' ≡ length ws → length m' ≡ length ms
-      → Is-left a i' q' s' w' m' → ent 𝓤 (⋆ 𝓛 (Last i' q' s' w' m')) (Post (valN a))
+      → Is-left a i' q' s' w' m' → ent 𝓤 (⋆ 𝓛 (Last i' q' s' w' m')) (Post (val_n a))
   exits a i' q' s' w' m' g li lq ls lw lm e =
       qed 𝓛 (Last i' q' s' w' m') ∵
-      suffices ! _ (ends_at 𝓛 f.ended stayed (f.clauses 𝓛 mem run) ((κs, shared-by, tt, args, vals), tt) (valN a) a (tt, (tt, (tt, (tt, (tt, (tt, (i', (q', (s', (w', (m', tt)))))))))))
+      suffices ! _ (ends_at 𝓛 f.ended stayed (f.clauses 𝓛 mem run) ((κs, shared-by, tt, args, vals), tt) (val_n a) a (tt, (tt, (tt, (tt, (tt, (tt, (i', (q', (s', (w', (m', tt)))))))))))
       (tt, (tt, (tt, (tt, (tt, (tt, (li, (lq, (ls, (lw, (lm, tt)))))))))))) $ says ! e $
       nothing ! $ move ! (14 ∷ 0 ∷ []) $ join ! $ move ! (12 ∷ 0 ∷ []) $ join ! $ move ! (10 ∷ 0 ∷ []) $ join ! $ move ! (8 ∷ 0 ∷ []) $ join ! $ move ! (6 ∷ 0 ∷ []) $ join ! $ move ! (4 ∷ 0 ∷ []) $ join ! $ move ! (2 ∷ 0 ∷ []) $ join ! $ frame ! $
       -- [factors; bins; i; q; scratch; work; marks]
@@ -188,18 +188,18 @@ module _ {M : Type 1} {𝓤 : Ura M} (𝓛 : Logic 𝓤) (mem : Memory → SProp
 
   -- the call of `sample`, with the array lent from lp for ν under the name δ
   module _ (lp ν : ℕ) (δ : GName) where
-    abbrev xP : Lease
-    xP = record { b = lp; o = 0; γ = δ; κ = ν ∷ []; q = full_share }
+    abbrev x_p : Lease
+    x_p = record { b = lp; o = 0; γ = δ; κ = ν ∷ []; q = full_share }
 
     -- what is lent of it, with its count written
     abbrev lent : ℕ → Fml
-    lent n = (ShrSlice (named 0) (ν ∷ []) P.the_row).own_val (refTo xP xs) (spell xP n)
+    lent n = (ShrSlice (named 0) (ν ∷ []) P.the_row).own_val (ref_to x_p xs) (spell x_p n)
 
     abbrev κs' : Of-eight Lft
     κs' = (xF.κ, (xB.κ, (ν ∷ [], κs.1.1)))
 
     abbrev given : Tables × (Request × (Crosstalk × (Bor Wave × (Bor Rows × (Bor (List Pulse) × Behind)))))
-    given = (t, (r, (c, (refTo xF fs, (refTo xB bs, (refTo xP xs, behind))))))
+    given = (t, (r, (c, (ref_to xF fs, (ref_to xB bs, (ref_to x_p xs, behind))))))
 
     abbrev to-sample : (Samples 𝓛 mem run).Ghost
     to-sample = (
@@ -209,15 +209,15 @@ module _ {M : Type 1} {𝓤 : Ura M} (𝓛 : Logic 𝓤) (mem : Memory → SProp
         tt,
         given,
         (
-          valU t ∷ [],
-          (valR r ∷ [], (valX c ∷ [], (spell xF (length fs), (spell xB (length bs), (spell xP 8192, (spell xI (length is), (spell xQ (length qs), (spell xS (length ss), (spell xW (length ws), (spell xM (length ms), tt)))))))))),
+          val_u t ∷ [],
+          (val_r r ∷ [], (val_x c ∷ [], (spell xF (length fs), (spell xB (length bs), (spell x_p 8192, (spell xI (length is), (spell xQ (length qs), (spell xS (length ss), (spell xW (length ws), (spell xM (length ms), tt)))))))))),
         ),
       ),
       tt,
     )
 
     abbrev tokens : Item 𝓤
-    tokens = token xF ⊛ (token xB ⊛ (token xP ⊛ (token xI ⊛ (token xQ ⊛ (token xS ⊛ (token xW ⊛ (token xM ⊛ ‵ ftrue)))))))
+    tokens = token xF ⊛ (token xB ⊛ (token x_p ⊛ (token xI ⊛ (token xQ ⊛ (token xS ⊛ (token xW ⊛ (token xM ⊛ ‵ ftrue)))))))
 
     abbrev slices : Item 𝓤
     slices = ‵ (shared f64 xF fs) ⊛ (‵ (shared BinRow xB bs) ⊛ (‵ (lent 8192) ⊛ (‵ (held f64 xI (length is) is) ⊛ (‵ (held f64 xQ (length qs) qs) ⊛ (‵ (held f64 xS (length ss) ss)
@@ -234,22 +234,22 @@ module _ {M : Type 1} {𝓤 : Ura M} (𝓛 : Logic 𝓤) (mem : Memory → SProp
     mixed a y = Is-left a y.1.1.1.1.1.1.0 y.1.1.1.1.1.1.1.0 y.1.1.1.1.1.1.1.1.0 y.1.1.1.1.1.1.1.1.1.0 y.1.1.1.1.1.1.1.1.1.1.0
 
   module _ (C : Calls 𝓤 H) (Λ : Loops 𝓤 H) (fm : FmC 𝓤 H 𝓛.laws C) (known : Triple 𝓤 (C #sample) (Samples 𝓛 mem run)) where
-    walk : ent 𝓤 (on_entry 𝓛 f.signature κs shared-by args vals) (WpFn 𝓤 H C Λ code.function (valU t ∷ valR r ∷ valX c ∷ slice xF (length fs) ∷ slice xB (length bs) ∷ x ∷ slice xI (length is) ∷ slice xQ (length qs) ∷ slice xS (length ss) ∷ slice xW (length ws) ∷ slice xM (length ms) ∷ []) Post)
+    walk : ent 𝓤 (on_entry 𝓛 f.signature κs shared-by args vals) (WpFn 𝓤 H C Λ code.function (val_u t ∷ val_r r ∷ val_x c ∷ slice xF (length fs) ∷ slice xB (length bs) ∷ x ∷ slice xI (length is) ∷ slice xQ (length qs) ∷ slice xS (length ss) ∷ slice xW (length ws) ∷ slice xM (length ms) ∷ []) Post)
     walk =
         qed 𝓛 ((token xF ⊛ (token xB ⊛ (token xI ⊛ (token xQ ⊛ (token xS ⊛ (token xW ⊛ (token xM ⊛ ‵ ftrue)))))))
         ∷ ‵ (owns (U.the_row ∷ R.the_row ∷ X.the_row ∷ ShrSlice (named 0) xF.κ f64 ∷ ShrSlice (named 1) xB.κ BinRow ∷ Pulses ∷ MutSlice (named 2) xI.κ f64 ∷ MutSlice (named 3) xQ.κ f64
         ∷ MutSlice (named 4) xS.κ f64 ∷ MutSlice (named 5) xW.κ Row ∷ MutSlice (named 6) xM.κ usize ∷ []) args vals) ∷ []) ∵
-        enter ! C Λ code.function (valU t ∷ valR r ∷ valX c ∷ slice xF (length fs) ∷ slice xB (length bs) ∷ x ∷ slice xI (length is) ∷ slice xQ (length qs) ∷ slice xS (length ss) ∷ slice xW (length ws) ∷ slice xM (length ms) ∷ []) _ $
+        enter ! C Λ code.function (val_u t ∷ val_r r ∷ val_x c ∷ slice xF (length fs) ∷ slice xB (length bs) ∷ x ∷ slice xI (length is) ∷ slice xQ (length qs) ∷ slice xS (length ss) ∷ slice xW (length ws) ∷ slice xM (length ms) ∷ []) _ $
         alloc1 ! (λ l₀. alloc1 ! (λ l₁. alloc1 ! (λ l₂. alloc1 ! (λ l₃. alloc1 ! (λ l₄. alloc1 ! (λ l₅. alloc1 ! (λ l₆. alloc1 ! (λ l₇. alloc1 ! (λ l₈.
         alloc1 ! (λ l₉. alloc1 ! (λ l₁₀. alloc1 ! (λ l₁₁. alloc1 ! (λ l₁₂. alloc1 ! (λ l₁₃. alloc1 ! (λ l₁₄. alloc1 ! (λ l₁₅. alloc1 ! (λ l₁₆. alloc1 ! (λ l₁₇.
         alloc1 ! (λ l₁₈. alloc1 ! (λ l₁₉. alloc1 ! (λ l₂₀. alloc1 ! (λ l₂₁. alloc1 ! (λ l₂₂. alloc1 ! (λ l₂₃. alloc1 ! (λ l₂₄. alloc0 ! $ params1 ! $
-        pass1 ! (init ! 46 refl (typedU 𝓛 t gt)) $ pass1 ! (init ! 44 refl (typedR 𝓛 r gr)) $ pass1 ! (init ! 42 refl (typedX 𝓛 c gc)) $ pass1 ! (init ! 40 refl (tt, (tt, (record { fits = gF.0 }, tt)))) $
-        pass1 ! (init ! 38 refl (tt, (tt, (record { fits = gB.0 }, tt)))) $ pass1 ! (init ! 36 refl typedP) $ pass1 ! (init ! 34 refl (tt, (tt, (record { fits = gI.0 }, tt)))) $ pass1 ! (init ! 32 refl (tt, (tt, (record { fits = gQ.0 }, tt)))) $
+        pass1 ! (init ! 46 refl (typed_u 𝓛 t gt)) $ pass1 ! (init ! 44 refl (typed_r 𝓛 r gr)) $ pass1 ! (init ! 42 refl (typed_x 𝓛 c gc)) $ pass1 ! (init ! 40 refl (tt, (tt, (record { fits = gF.0 }, tt)))) $
+        pass1 ! (init ! 38 refl (tt, (tt, (record { fits = gB.0 }, tt)))) $ pass1 ! (init ! 36 refl typed_p) $ pass1 ! (init ! 34 refl (tt, (tt, (record { fits = gI.0 }, tt)))) $ pass1 ! (init ! 32 refl (tt, (tt, (record { fits = gQ.0 }, tt)))) $
         pass1 ! (init ! 30 refl (tt, (tt, (record { fits = gS.0 }, tt)))) $ pass1 ! (init ! 28 refl (tt, (tt, (record { fits = gW.0 }, tt)))) $ pass1 ! (init ! 26 refl (tt, (tt, (record { fits = gM.0 }, tt)))) $ pass0 ! $
         move ! (50 ∷ 51 ∷ []) $ split ! $ move ! (1 ∷ []) $ split ! $ move ! (1 ∷ []) $ split ! $ move ! (1 ∷ []) $ split ! $ move ! (1 ∷ []) $ split ! $ move ! (1 ∷ []) $ split ! $ move ! (1 ∷ []) $ split ! $ move ! (8 ∷ []) $ fsplit ! $ move ! (1 ∷ []) $ fsplit ! $ move ! (1 ∷ []) $ fsplit ! $ move ! (1 ∷ []) $ fsplit ! $ move ! (1 ∷ []) $ fsplit ! $ move ! (1 ∷ []) $ fsplit ! $ move ! (1 ∷ []) $ fsplit ! $ move ! (1 ∷ []) $ fsplit ! $ move ! (1 ∷ []) $ fsplit ! $ move ! (1 ∷ []) $ fsplit ! $ move ! (1 ∷ []) $ fsplit ! $
         -- [marks; true; work; scratch; q; i; the array's; bins; factors; c's; r's; t's; κM; true; κW; κS; κQ; κI; κB; κF; _24; …]
         move ! (6 ∷ 8 ∷ 19 ∷ 7 ∷ 18 ∷ 5 ∷ 17 ∷ 4 ∷ 16 ∷ 3 ∷ 15 ∷ 2 ∷ 14 ∷ 0 ∷ 12 ∷ []) $ move ! (15 ∷ []) $ leave ! $ move ! (15 ∷ []) $ leave ! $ move ! (15 ∷ []) $ leave ! $ move ! (15 ∷ []) $ leave ! $ move ! (15 ∷ []) $ leave ! $
-        into ! 15 (of_opd ! (cell ! 15 refl)) refl typedP $ into ! 15 (addr ! (from-local ! (stop !))) refl (tt, tt) $
+        into ! 15 (of_opd ! (cell ! 15 refl)) refl typed_p $ into ! 15 (addr ! (from-local ! (stop !))) refl (tt, tt) $
         into ! 15 (agg ! (and_then ! (cell ! 15 refl) (and_then ! (big-lit ! (record { fits = lit< tt })) (no_more !)))) refl (tt, (tt, (record { fits = lit< tt }, tt))) $
         into ! 15 (addr ! (from-local ! (fld ! refl (hop ! (look_in ! 49 (sub ! 0 refl (whole !))) (stop !))))) refl (tt, tt) $
         into ! 15 (agg ! (and_then ! (cell ! 15 refl) (and_then ! (part ! 15 refl tt) (no_more !)))) refl (tt, (tt, (record { fits = gI.0 }, tt))) $
@@ -267,8 +267,8 @@ module _ {M : Type 1} {𝓤 : Ura M} (𝓛 : Logic 𝓤) (mem : Memory → SProp
         use1 𝓛 (later (some (λ (δ : GName). ‵ (lent l₁₂ ν δ (length xs)) ⊛ ‵ (flent (ν ∷ []) ((arr_parts (shares P.the_row) (length xs)).part full_share xs l₁₂ 0))))) (lends-all 𝓛 P.the_row l₁₂ 0 (ν ∷ []) xs (subst (Room P.the_row) (sym long) room)) $
         await ! tt $ pick ! (λ δ. split ! $ rewrite ! 0 (λ (n : ℕ). ‵ (lent l₁₂ ν δ n)) long refl $
         -- [the array, lent; the lender's part; ν; factors; κF; bins; κB; i; κI; …; marks; κM; _24; …]
-        move ! (3 ∷ []) $ use1 𝓛 (‵ (shared f64 xF fs) ⊛ ‵ (shared f64 xF fs)) ((shr_slice_copy 𝓛 (named 0) xF.κ f64).twice (refTo xF fs) (spell xF (length fs))) $ split ! $
-        move ! (6 ∷ []) $ use1 𝓛 (‵ (shared BinRow xB bs) ⊛ ‵ (shared BinRow xB bs)) ((shr_slice_copy 𝓛 (named 0) xB.κ BinRow).twice (refTo xB bs) (spell xB (length bs))) $ split ! $ nothing ! $
+        move ! (3 ∷ []) $ use1 𝓛 (‵ (shared f64 xF fs) ⊛ ‵ (shared f64 xF fs)) ((shr_slice_copy 𝓛 (named 0) xF.κ f64).twice (ref_to xF fs) (spell xF (length fs))) $ split ! $
+        move ! (6 ∷ []) $ use1 𝓛 (‵ (shared BinRow xB bs) ⊛ ‵ (shared BinRow xB bs)) ((shr_slice_copy 𝓛 (named 0) xB.κ BinRow).twice (ref_to xB bs) (spell xB (length bs))) $ split ! $ nothing ! $
         -- [true; bins, twice; factors, twice; the array, lent; the lender's part; ν; κF; κB; i; κI; q; κQ; scratch; κS; work; κW; marks; κM; _24; …]
         move ! (19 ∷ 0 ∷ []) $ join ! $ move ! (17 ∷ 0 ∷ []) $ join ! $ move ! (15 ∷ 0 ∷ []) $ join ! $ move ! (13 ∷ 0 ∷ []) $ join ! $ move ! (11 ∷ 0 ∷ []) $ join ! $ move ! (7 ∷ 0 ∷ []) $ join ! $ move ! (8 ∷ 0 ∷ []) $ join ! $
         move ! (7 ∷ 0 ∷ []) $ join ! $ move ! (10 ∷ 11 ∷ []) $ join ! $ move ! (10 ∷ 0 ∷ []) $ join ! $ move ! (9 ∷ 0 ∷ []) $ join ! $ move ! (8 ∷ 0 ∷ []) $ join ! $ move ! (6 ∷ 0 ∷ []) $ join ! $ move ! (2 ∷ 0 ∷ []) $ join ! $

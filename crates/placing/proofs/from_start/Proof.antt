@@ -5,22 +5,22 @@ use Rattle.quant.specs.declared.refusal.Refusal.TheVariants.{StartPastRow}
 use Rattle.quant.specs.declared.settings.Settings.{Settings}
 use Rattle.pulse.specs.declared.bin.Bin.{Bin}
 use Rattle.pulse.specs.declared.list.Pulse.{Pulse}
-use Rattle.pulse.specs.Envelope.{isShaped}
+use Rattle.pulse.specs.Envelope.{is_shaped}
 use Rattle.placing.specs.declared.Judged.TheVariants.{Refused}
-use Rattle.placing.specs.Judged.{plainAt, measuredAt, shapedAt, formedAt, startedAt}
+use Rattle.placing.specs.Judged.{plain_at, measured_at, shaped_at, formed_at, started_at}
 use Rattle.placing.proofs.from_start.Statement.{statement}
 use Rattle.placing.proofs.from_start.Tie as tie
 
 -- where the start is below the row length, the pulse by its shape
 module _ (s : Settings) (b : Bin) (numbers : List Float) (p : Pulse) (len start : ℕ) (offset : Float) (h : ltb start len ≡ true) where
-  started : formedAt s b numbers p start offset (len - start) ≡ startedAt s b numbers p len start offset
-  started = ap (λ (x : Bool). cond x (formedAt s b numbers p start offset (len - start)) (Refused StartPastRow)) (sym h)
+  started : formed_at s b numbers p start offset (len - start) ≡ started_at s b numbers p len start offset
+  started = ap (λ (x : Bool). cond x (formed_at s b numbers p start offset (len - start)) (Refused StartPastRow)) (sym h)
 
-  plain-started : isShaped b.envelope.shape ≡ false → plainAt s b p start offset (len - start) ≡ startedAt s b numbers p len start offset
-  plain-started e = ap (λ (x : Bool). cond x (shapedAt s b p start offset (measuredAt s b numbers offset (len - start))) (plainAt s b p start offset (len - start))) (sym e) ∙ started
+  plain-started : is_shaped b.envelope.shape ≡ false → plain_at s b p start offset (len - start) ≡ started_at s b numbers p len start offset
+  plain-started e = ap (λ (x : Bool). cond x (shaped_at s b p start offset (measured_at s b numbers offset (len - start))) (plain_at s b p start offset (len - start))) (sym e) ∙ started
 
-  shaped-started : isShaped b.envelope.shape ≡ true → shapedAt s b p start offset (measuredAt s b numbers offset (len - start)) ≡ startedAt s b numbers p len start offset
-  shaped-started e = ap (λ (x : Bool). cond x (shapedAt s b p start offset (measuredAt s b numbers offset (len - start))) (plainAt s b p start offset (len - start))) (sym e) ∙ started
+  shaped-started : is_shaped b.envelope.shape ≡ true → shaped_at s b p start offset (measured_at s b numbers offset (len - start)) ≡ started_at s b numbers p len start offset
+  shaped-started e = ap (λ (x : Bool). cond x (shaped_at s b p start offset (measured_at s b numbers offset (len - start))) (plain_at s b p start offset (len - start))) (sym e) ∙ started
 
 returns : tie.Need-returns
 returns c = rw (le-ltb _ _ c.if1.true)

@@ -2,8 +2,8 @@
 use Rattle.std.proofs.Common.{◌≡◌, ℤ, sym, ap, ◌∙◌, w32, rules}
 use lib.Ieee.{Float}
 use mir.ValLaws.{to_z-of_z}
-use Rattle.quant.specs.Aligned.{alignedOf, placed_of}
-use Rattle.placing.specs.Judged.{placed_at, judgedAt, judged}
+use Rattle.quant.specs.Aligned.{aligned_of, placed_of}
+use Rattle.placing.specs.Judged.{placed_at, judged_at, judged}
 use Rattle.placing.proofs.judge.Statement.{statement}
 use Rattle.placing.proofs.judge.Tie as tie
 
@@ -33,36 +33,36 @@ placed-is : (d : tie.After-place) → d.place.result ≡ placed_at d.before.befo
 placed-is d =
     let a = d.before.before.before.before.before.args in
     d.place.ensures
-    ∙ ap (λ (z : ℤ). placed_of (alignedOf d.before.before.add.result.0 a.s.rate.0 z)) (to_z-of_z w32 a.s.level (search rules))
-    ∙ ap (λ (t : Float). placed_of (alignedOf t a.s.rate.0 a.s.level)) d.before.before.add.ensures
+    ∙ ap (λ (z : ℤ). placed_of (aligned_of d.before.before.add.result.0 a.s.rate.0 z)) (to_z-of_z w32 a.s.level (search rules))
+    ∙ ap (λ (t : Float). placed_of (aligned_of t a.s.rate.0 a.s.level)) d.before.before.add.ensures
 
 returns : tie.Need-returns
 unfolding judged
 returns c =
     let d = c.before.before.before.before in
     let a = d.before.before.before.before.before.args in
-    c.from_start.ensures ∙ ap (judgedAt a.s a.b a.numbers.now a.p a.len) (sym c.before.before.start.given.1 ∙ placed-is d)
+    c.from_start.ensures ∙ ap (judged_at a.s a.b a.numbers.now a.p a.len) (sym c.before.before.start.given.1 ∙ placed-is d)
 
 returns-2 : tie.Need-returns-2
 unfolding judged
 returns-2 c =
     let d = c.before.before in
     let a = d.before.before.before.before.before.args in
-    ap (judgedAt a.s a.b a.numbers.now a.p a.len) (sym c.enum_told.given.1 ∙ placed-is d)
+    ap (judged_at a.s a.b a.numbers.now a.p a.len) (sym c.enum_told.given.1 ∙ placed-is d)
 
 returns-3 : tie.Need-returns-3
 unfolding judged
 returns-3 c =
     let d = c.before.before in
     let a = d.before.before.before.before.before.args in
-    ap (judgedAt a.s a.b a.numbers.now a.p a.len) (sym c.enum-told2.given.1 ∙ placed-is d)
+    ap (judged_at a.s a.b a.numbers.now a.p a.len) (sym c.enum-told2.given.1 ∙ placed-is d)
 
 returns-4 : tie.Need-returns-4
 unfolding judged
 returns-4 c =
     let d = c.before.before in
     let a = d.before.before.before.before.before.args in
-    ap (judgedAt a.s a.b a.numbers.now a.p a.len) (sym c.enum-told3.given.1 ∙ placed-is d)
+    ap (judged_at a.s a.b a.numbers.now a.p a.len) (sym c.enum-told3.given.1 ∙ placed-is d)
 
 pub judge-spec : {M : Type 1} → statement M
 judge-spec =

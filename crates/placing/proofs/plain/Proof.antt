@@ -1,7 +1,7 @@
 -- `placing::plain` meets its contract: the count, the room for it, then the rest judged. Assumes nothing.
 use Rattle.std.proofs.Common.{◌≡◌, true, false, ltb, sym, ◌∙◌, rules, le-ltb, lt-ltb}
-use Rattle.rows.specs.Rows.{allFinite}
-use Rattle.placing.specs.Judged.{weightNumbers, count_of}
+use Rattle.rows.specs.Rows.{all_finite}
+use Rattle.placing.specs.Judged.{weight_numbers, count_of}
 use Rattle.quant.proofs.Judging.{taken, passed}
 use Rattle.placing.proofs.Turning.{turn-given, turn-missing}
 use Rattle.placing.proofs.plain.Statement.{statement}
@@ -35,7 +35,7 @@ enum_told c = search rules
 
 -- the tests that were passed before the phases
 passed-tests : (d : tie.After-turn) → let a = d.before.before.before.before.before.before.args in
-    (ltb a.room (count_of a.s a.b) ≡ false) × (allFinite (weightNumbers a.p) ≡ true)
+    (ltb a.room (count_of a.s a.b) ≡ false) × (all_finite (weight_numbers a.p) ≡ true)
 passed-tests d =
     let w = d.before.before in
     let k = w.before in

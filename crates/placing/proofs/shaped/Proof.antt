@@ -1,6 +1,6 @@
 -- `placing::shaped` meets its contract: by what the envelope measures. Assumes nothing.
 use Rattle.std.proofs.Common.{sym, ap, ◌∙◌, rules}
-use Rattle.placing.specs.Judged.{shapedAt}
+use Rattle.placing.specs.Judged.{shaped_at}
 use Rattle.placing.proofs.shaped.Statement.{statement}
 use Rattle.placing.proofs.shaped.Tie as tie
 
@@ -20,13 +20,13 @@ returns : tie.Need-returns
 returns c =
     let d = c.before.before.before.before in
     let a = d.before.before.before.args in
-    c.with-points.ensures ∙ ap (shapedAt a.s a.b a.p a.start a.offset) (sym c.before.before.points.given.1 ∙ d.measure.ensures)
+    c.with-points.ensures ∙ ap (shaped_at a.s a.b a.p a.start a.offset) (sym c.before.before.points.given.1 ∙ d.measure.ensures)
 
 returns-2 : tie.Need-returns-2
 returns-2 c =
     let d = c.before.before.before in
     let a = d.before.before.before.args in
-    ap (shapedAt a.s a.b a.p a.start a.offset) (sym c.before.r.given.1 ∙ d.measure.ensures)
+    ap (shaped_at a.s a.b a.p a.start a.offset) (sym c.before.r.given.1 ∙ d.measure.ensures)
 
 pub shaped-spec : {M : Type 1} → statement M
 shaped-spec =

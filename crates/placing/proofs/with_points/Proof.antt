@@ -2,8 +2,8 @@
 use Rattle.std.proofs.Common.{◌≡◌, ◌&&◌, sym, ◌∙◌, rules}
 use mathlib.Core.Bool.{and-false}
 use Rattle.quant.proofs.Judging.{taken, passed}
-use Rattle.rows.specs.Rows.{allFinite}
-use Rattle.placing.specs.Judged.{weightNumbers, dragNumbers}
+use Rattle.rows.specs.Rows.{all_finite}
+use Rattle.placing.specs.Judged.{weight_numbers, drag_numbers}
 use Rattle.placing.proofs.Turning.{turn-given, turn-missing}
 use Rattle.placing.proofs.with_points.Statement.{statement}
 use Rattle.placing.proofs.with_points.Tie as tie
@@ -25,7 +25,7 @@ both-requires c κs = search rules
 
 -- both judgements, of the numbers that the definition names
 weighed : (d : tie.After-both) → let a = d.before.before.before.before.before.before.before.before.args in
-    d.both.result ≡ (allFinite (weightNumbers a.p) && allFinite (dragNumbers a.s a.p))
+    d.both.result ≡ (all_finite (weight_numbers a.p) && all_finite (drag_numbers a.s a.p))
 weighed d =
     rw (d.both.ensures, d.before.before.before.is-finite-weight.ensures, d.before.all-finite.ensures, d.before.before.before.before.scale.ensures)
 

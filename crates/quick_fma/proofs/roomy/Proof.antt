@@ -7,30 +7,30 @@ use lib.Bits.{bit_and, and_mask}
 use lib.Dec.{T, eqb, leb}
 use lib.Ieee.{Float, binary64, is_nan, to_bits}
 use lib.Ieee.Bits.{is_false}
-use Rattle.exact.proofs.Truth.{nan-if-other, number-if-same}
-use Rattle.quick_fma.specs.Quick.{roomyOf}
+use Rattle.exact.proofs.Truth.{nan_if_other, number_if_same}
+use Rattle.quick_fma.specs.Quick.{roomy_of}
 use Rattle.quick_fma.proofs.roomy.Statement.{statement}
 use Rattle.quick_fma.proofs.roomy.Tie as tie
 
 -- of a number only its size counts
-size-only : (x : Float) → T (not (is_nan x)) → roomyOf x ≡ (eqb (to_bits binary64 x % 2 ^ 63) 0 || leb 0x21a0_0000_0000_0000 (to_bits binary64 x % 2 ^ 63))
+size-only : (x : Float) → T (not (is_nan x)) → roomy_of x ≡ (eqb (to_bits binary64 x % 2 ^ 63) 0 || leb 0x21a0_0000_0000_0000 (to_bits binary64 x % 2 ^ 63))
 size-only x n = ap (λ (b : Bool). not b && (eqb (to_bits binary64 x % 2 ^ 63) 0 || leb 0x21a0_0000_0000_0000 (to_bits binary64 x % 2 ^ 63))) (is_false (is_nan x) n)
 
 as-masked : (x : Float) (b : Bool) → b ≡ (eqb (bit_and (to_bits binary64 x) 0x7fff_ffff_ffff_ffff) 0 || leb 0x21a0_0000_0000_0000 (bit_and (to_bits binary64 x) 0x7fff_ffff_ffff_ffff))
-    → T (not (is_nan x)) → b ≡ roomyOf x
+    → T (not (is_nan x)) → b ≡ roomy_of x
 as-masked x b e n = e ∙ ap (λ (k : ℕ). eqb k 0 || leb 0x21a0_0000_0000_0000 k) (and_mask (to_bits binary64 x) 63) ∙ sym (size-only x n)
 
 returns : tie.Need-returns
-returns c = rw (nan-if-other c.before.args.x c.if1.true)
+returns c = rw (nan_if_other c.before.args.x c.if1.true)
 
 float-to-bits-n : tie.Need-float-to-bits-n
-float-to-bits-n c = number-if-same c.before.args.x c.if1.false
+float-to-bits-n c = number_if_same c.before.args.x c.if1.false
 
 returns-2 : tie.Need-returns-2
-returns-2 c = as-masked c.before.before.args.x true (rw (eq-eqb _ _ c.if2.true)) (number-if-same c.before.before.args.x c.before.if1.false)
+returns-2 c = as-masked c.before.before.args.x true (rw (eq-eqb _ _ c.if2.true)) (number_if_same c.before.before.args.x c.before.if1.false)
 
 returns-3 : tie.Need-returns-3
-returns-3 c = as-masked c.before.before.args.x _ (rw (ne_eqb _ _ c.if2.false)) (number-if-same c.before.before.args.x c.before.if1.false)
+returns-3 c = as-masked c.before.before.args.x _ (rw (ne_eqb _ _ c.if2.false)) (number_if_same c.before.before.args.x c.before.if1.false)
 
 pub roomy-spec : {M : Type 1} → statement M
 roomy-spec = tie.close (tie.spec returns float-to-bits-n returns-2 returns-3)

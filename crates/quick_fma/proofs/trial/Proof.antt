@@ -2,7 +2,7 @@
 use mathlib.Core.Path.{◌∙◌}
 use borrow.Author.Rules.{rules}
 use lib.Ieee.{binary64, add, mul}
-use Rattle.roundoff.specs.Roundoff.{enclosureOf}
+use Rattle.roundoff.specs.Roundoff.{enclosure_of}
 use Rattle.quick_fma.proofs.trial.Statement.{statement}
 use Rattle.quick_fma.proofs.trial.Tie as tie
 
@@ -19,7 +19,7 @@ returns : tie.Need-returns
 returns c =
     let o = c.before.before in
     let k = o.before.args in
-    c.enclose.ensures ∙ (λ i. enclosureOf (add binary64 (mul binary64 k.a k.x) k.c) (o.sum-off.ensures i) (c.before.product-off.ensures i))
+    c.enclose.ensures ∙ (λ i. enclosure_of (add binary64 (mul binary64 k.a k.x) k.c) (o.sum-off.ensures i) (c.before.product-off.ensures i))
 
 pub trial-spec : {M : Type 1} → statement M
 trial-spec = tie.close (tie.spec sum-off-requires product-off-requires enclose-requires returns)

@@ -9,8 +9,8 @@ use native.Mathlib.Omega.{arith}
 use lib.ListN.{length, take}
 use lib.Seq.{take-length, drop-length}
 use lib.Ieee.{Float}
-use Rattle.ring.specs.Ring.{filteredFrom, slot_of}
-use Rattle.ring.specs.Inside.{rowToBe, Ready, Advanced}
+use Rattle.ring.specs.Ring.{filtered_from, slot_of}
+use Rattle.ring.specs.Inside.{row_to_be, Ready, Advanced}
 use Rattle.ring.proofs.Only.{only_of}
 use Rattle.ring.proofs.go_round.Statement.{statement}
 use Rattle.ring.proofs.go_round.Tie as tie
@@ -20,7 +20,7 @@ record Inv (row₀ ring₀ taps row ring : List Float) (k s : ℕ) : Type 0 wher
   same : length row ≡ length row₀
   room : length ring ≡ length ring₀
   slot : s ≡ slot_of taps k
-  left : rowToBe taps k ring row ≡ filteredFrom taps 0 ring₀ row₀
+  left : row_to_be taps k ring row ≡ filtered_from taps 0 ring₀ row₀
 
 abbrev invariant-loop : tie.invariant-loop
 invariant-loop row₀ ring₀ taps k₀ s₀ row ring k s = Inv row₀ ring₀ taps row ring k s
@@ -93,13 +93,13 @@ same-length-2 c = c.before.loop.invariant.same
 same-length-3 : tie.Need-same-length-3 invariant-loop decreases-loop
 same-length-3 c = c.before.loop.invariant.room
 
-done : (row₀ ring₀ taps row ring : List Float) (k s : ℕ) → k ≡ length row → Inv row₀ ring₀ taps row ring k s → row ≡ filteredFrom taps 0 ring₀ row₀
-unfolding filteredFrom
+done : (row₀ ring₀ taps row ring : List Float) (k s : ℕ) → k ≡ length row → Inv row₀ ring₀ taps row ring k s → row ≡ filtered_from taps 0 ring₀ row₀
+unfolding filtered_from
 done row₀ ring₀ taps row ring k s e i =
     sym (append-nil row)
     ∙ ap (λ (l : List Float). l ++ []) (sym (take-length row))
-    ∙ ap (λ (l : List Float). take (length row) row ++ filteredFrom taps (length row) ring l) (sym (drop-length row))
-    ∙ ap (λ (m : ℕ). rowToBe taps m ring row) (sym e)
+    ∙ ap (λ (l : List Float). take (length row) row ++ filtered_from taps (length row) ring l) (sym (drop-length row))
+    ∙ ap (λ (m : ℕ). row_to_be taps m ring row) (sym e)
     ∙ i.left
 
 returns-2 : tie.Need-returns-2 invariant-loop decreases-loop

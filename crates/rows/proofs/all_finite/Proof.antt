@@ -10,17 +10,17 @@ use lib.ListN.{length, drop, get_or}
 use lib.Seq.{drop-cons, drop-length}
 use lib.Ieee.{Float, nan}
 use lib.Ieee.Scale.{finite}
-use Rattle.rows.specs.Rows.{allFinite}
+use Rattle.rows.specs.Rows.{all_finite}
 use Rattle.rows.proofs.all_finite.Statement.{statement}
 use Rattle.rows.proofs.all_finite.Tie as tie
 
 -- what is judged from k on is the k-th and what is judged after it
-next : (l : List Float) (k : ℕ) → k < length l → allFinite (drop k l) ≡ (finite (get_or l k nan) && allFinite (drop (k + 1) l))
-unfolding allFinite
-next l k h = ap allFinite (drop-cons l k nan h) ∙ ap (λ (n : ℕ). finite (get_or l k nan) && allFinite (drop n l)) (sym (add-one k))
+next : (l : List Float) (k : ℕ) → k < length l → all_finite (drop k l) ≡ (finite (get_or l k nan) && all_finite (drop (k + 1) l))
+unfolding all_finite
+next l k h = ap all_finite (drop-cons l k nan h) ∙ ap (λ (n : ℕ). finite (get_or l k nan) && all_finite (drop n l)) (sym (add-one k))
 
 abbrev invariant-loop : tie.invariant-loop
-invariant-loop numbers k₀ k = (k ≤ length numbers) × (allFinite numbers ≡ allFinite (drop k numbers))
+invariant-loop numbers k₀ k = (k ≤ length numbers) × (all_finite numbers ≡ all_finite (drop k numbers))
 
 abbrev decreases-loop : tie.decreases-loop
 decreases-loop numbers k₀ k = length numbers - k
@@ -44,11 +44,11 @@ loop-less : tie.Need-loop-smaller invariant-loop decreases-loop
 loop-less c = omega arith
 
 -- at the test, with the answer b: what is judged from k on
-judged : (f : tie.After-is-finite invariant-loop decreases-loop) (b : Bool) → f.is_finite.result ≡ b → allFinite f.before.before.before.before.before.args.numbers.now ≡ (b && allFinite (drop (f.before.before.before.loop.k + 1) f.before.before.before.before.before.args.numbers.now))
+judged : (f : tie.After-is-finite invariant-loop decreases-loop) (b : Bool) → f.is_finite.result ≡ b → all_finite f.before.before.before.before.before.args.numbers.now ≡ (b && all_finite (drop (f.before.before.before.loop.k + 1) f.before.before.before.before.before.args.numbers.now))
 judged f b e =
     let at = f.before.before.before.loop in
     let l = f.before.before.before.before.before.args.numbers.now in
-    at.invariant.1 ∙ next l at.k (omega arith) ∙ ap (λ (x : Bool). x && allFinite (drop (at.k + 1) l)) (sym f.is_finite.ensures ∙ e)
+    at.invariant.1 ∙ next l at.k (omega arith) ∙ ap (λ (x : Bool). x && all_finite (drop (at.k + 1) l)) (sym f.is_finite.ensures ∙ e)
 
 loop-again : tie.Need-loop-preserved invariant-loop decreases-loop
 loop-again c = (omega arith, judged c.before true c.if1.true)
@@ -57,12 +57,12 @@ returns : tie.Need-returns invariant-loop decreases-loop
 returns c = sym (judged c.before false c.if1.false)
 
 returns-2 : tie.Need-returns-2 invariant-loop decreases-loop
-unfolding allFinite
+unfolding all_finite
 returns-2 c =
     let at = c.before.loop in
     let l = c.before.before.before.args.numbers.now in
     let end : at.k ≡ length l = omega arith in
-    sym (at.invariant.1 ∙ ap (λ (n : ℕ). allFinite (drop n l)) end ∙ ap allFinite (drop-length l))
+    sym (at.invariant.1 ∙ ap (λ (n : ℕ). all_finite (drop n l)) end ∙ ap all_finite (drop-length l))
 
 pub all-finite-spec : {M : Type 1} → statement M
 all-finite-spec =

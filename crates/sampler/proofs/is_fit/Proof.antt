@@ -3,7 +3,7 @@ use borrow.Author.Rules.{rules}
 use mathlib.Core.Path.{◌≡◌, sym, ap, ◌∙◌}
 use mir.Syntax.{w32}
 use mir.ValLaws.{to_z-of_z}
-use Rattle.quant.specs.Settings.{fittingOf}
+use Rattle.quant.specs.Settings.{fitting_of}
 use Rattle.sampler.specs.Prepared.{fits}
 use Rattle.sampler.proofs.is_fit.Statement.{statement}
 use Rattle.sampler.proofs.is_fit.Tie as tie
@@ -18,10 +18,10 @@ enum-told-2 : tie.Need-enum-told-2
 enum-told-2 c = search rules
 
 -- what `set_up` answered
-fitting-is : (d : tie.After-set-up) → let r = d.before.before.args.r in d.set-up.result ≡ fittingOf r.rate r.delay r.level
+fitting-is : (d : tie.After-set-up) → let r = d.before.before.args.r in d.set-up.result ≡ fitting_of r.rate r.delay r.level
 fitting-is d =
     let r = d.before.before.args.r in
-    d.set-up.ensures ∙ ap (fittingOf r.rate r.delay) (to_z-of_z w32 r.level (search rules))
+    d.set-up.ensures ∙ ap (fitting_of r.rate r.delay) (to_z-of_z w32 r.level (search rules))
 
 returns : tie.Need-returns
 returns c = ap fits (sym c.enum_told.given.1 ∙ fitting-is c.before.before)

@@ -1,7 +1,7 @@
 -- `sampler::prepare` meets its contract. Assumes nothing.
 use borrow.Author.Rules.{rules}
 use Rattle.quant.proofs.Judging.{taken, passed}
-use Rattle.sampler.specs.Prepared.{preparedOf}
+use Rattle.sampler.specs.Prepared.{prepared_of}
 use Rattle.sampler.proofs.prepare.Statement.{statement}
 use Rattle.sampler.proofs.prepare.Tie as tie
 
@@ -12,7 +12,7 @@ refused-requires : tie.Need-refused-requires
 refused-requires c κs = search rules
 
 returns : tie.Need-returns
-unfolding preparedOf
+unfolding prepared_of
 returns c = rw (c.refused.ensures, taken _ _ c.before.before.is-fit.ensures c.before.if1.true)
 
 sizes-fit-requires : tie.Need-sizes-fit-requires
@@ -22,7 +22,7 @@ refused-requires-2 : tie.Need-refused-requires-2
 refused-requires-2 c κs = search rules
 
 returns-2 : tie.Need-returns-2
-unfolding preparedOf
+unfolding prepared_of
 returns-2 c = rw (
   c.refused2.ensures,
   passed _ _ c.before.before.before.before.is-fit.ensures c.before.before.before.if1.false,
@@ -36,7 +36,7 @@ planned-for-requires : tie.Need-planned-for-requires
 planned-for-requires c κs = search rules
 
 returns-3 : tie.Need-returns-3
-unfolding preparedOf
+unfolding prepared_of
 returns-3 c = rw (
   c.planned-for.ensures,
   c.before.plan.ensures,

@@ -3,8 +3,8 @@ use mathlib.Core.Path.{sym, ◌∙◌}
 use native.Mathlib.Omega.{arith}
 use borrow.Author.Rules.{rules}
 use Rattle.sheet.proofs.Pasting.{then}
-use Rattle.sheet_answer.specs.Answer.{refusedText, refusedKey, line_key}
-use Rattle.sheet_answer.proofs.Decimal.{at-most-twenty}
+use Rattle.sheet_answer.specs.Answer.{refused_text, refused_key, line_key}
+use Rattle.sheet_answer.proofs.Decimal.{at-most_twenty}
 use Rattle.sheet_answer.proofs.refused.Statement.{statement}
 use Rattle.sheet_answer.proofs.refused.Tie as tie
 
@@ -26,7 +26,7 @@ put-decimal-requires c κs =
       at-put.before.before.before.before.requires,
       at-put.put.ensures.next,
       at-put.put.auto.1.0,
-      at-most-twenty at-number.number.result at-number.number.type-inv,
+      at-most_twenty at-number.number.result at-number.number.type-inv,
     )
 
 slice-aggregate-put-2 : tie.Need-slice-aggregate-put-2
@@ -44,7 +44,7 @@ put-requires-2 c κs =
       at-put.put.auto.1.0,
       at-put-decimal.put-decimal.ensures.next,
       at-put-decimal.put-decimal.auto.1.0,
-      at-most-twenty at-number.number.result at-number.number.type-inv,
+      at-most_twenty at-number.number.result at-number.number.type-inv,
     )
 
 put-decimal-requires-2 : tie.Need-put-decimal-requires-2
@@ -63,8 +63,8 @@ put-decimal-requires-2 c κs =
       at-put-decimal.put-decimal.auto.1.0,
       at-put2.put2.ensures.next,
       at-put2.put2.auto.1.0,
-      at-most-twenty at-number.number.result at-number.number.type-inv,
-      at-most-twenty start.args.line start.ranges.line.fits,
+      at-most_twenty at-number.number.result at-number.number.type-inv,
+      at-most_twenty start.args.line start.ranges.line.fits,
     )
 
 put-byte-requires : tie.Need-put-byte-requires
@@ -86,8 +86,8 @@ put-byte-requires c κs =
       at-put2.put2.auto.1.0,
       at-put-decimal2.put-decimal2.ensures.next,
       at-put-decimal2.put-decimal2.auto.1.0,
-      at-most-twenty at-number.number.result at-number.number.type-inv,
-      at-most-twenty start.args.line start.ranges.line.fits,
+      at-most_twenty at-number.number.result at-number.number.type-inv,
+      at-most_twenty start.args.line start.ranges.line.fits,
     )
 
 same_length : tie.Need-same-length
@@ -104,7 +104,7 @@ same_length c =
     ∙ at-put.put.auto.1.0
 
 returns : tie.Need-returns
-unfolding refusedText refusedKey line_key
+unfolding refused_text refused_key line_key
 returns c =
     let at-put-byte = c.before.before in
     let at-put-decimal2 = at-put-byte.before.before.before.before in

@@ -2,8 +2,8 @@
 use borrow.Author.Rules.{rules}
 use mathlib.Core.Path.{◌≡◌, sym, ◌∙◌}
 use mathlib.Core.Bool.{◌&&◌}
-use Rattle.naming.specs.Name.{isName}
-use Rattle.tables.specs.Tables.{finiteOsc}
+use Rattle.naming.specs.Name.{is_name}
+use Rattle.tables.specs.Tables.{finite_osc}
 use Rattle.tables.proofs.add_channel.Statement.{statement}
 use Rattle.tables.proofs.add_channel.Tie as tie
 
@@ -28,7 +28,7 @@ settle-requires c κs = search rules
 returns : tie.Need-returns
 returns c =
     let a = c.before.before.before.before.before.before.before.args in
-    let flag : c.before.before.before.before.both.result ≡ (isName a.name && finiteOsc a.osc) = rw (c.before.before.before.before.both.ensures, c.before.before.before.before.before.is-finite-osc.ensures, c.before.before.before.before.before.before.is_name.ensures) in
+    let flag : c.before.before.before.before.both.result ≡ (is_name a.name && finite_osc a.osc) = rw (c.before.before.before.before.both.ensures, c.before.before.before.before.before.is-finite-osc.ensures, c.before.before.before.before.before.before.is_name.ensures) in
     rw (c.settle.ensures, c.before.fresh.ensures, c.before.before.find.ensures, sym flag ∙ c.before.before.before.if1.true)
 
 refused-requires : tie.Need-refused-requires
@@ -37,7 +37,7 @@ refused-requires c κs = search rules
 returns-2 : tie.Need-returns-2
 returns-2 c =
     let a = c.before.before.before.before.before.args in
-    let flag : c.before.before.both.result ≡ (isName a.name && finiteOsc a.osc) = rw (c.before.before.both.ensures, c.before.before.before.is-finite-osc.ensures, c.before.before.before.before.is_name.ensures) in
+    let flag : c.before.before.both.result ≡ (is_name a.name && finite_osc a.osc) = rw (c.before.before.both.ensures, c.before.before.before.is-finite-osc.ensures, c.before.before.before.before.is_name.ensures) in
     rw (c.refused.ensures, sym flag ∙ c.before.if1.false)
 
 pub add-channel-spec : {M : Type 1} → statement M

@@ -1,8 +1,8 @@
 -- `tables::add_spline` meets its contract. Assumes nothing.
 use mathlib.Core.Path.{◌≡◌, sym, ◌∙◌}
 use mathlib.Core.Bool.{Bool, true, false, not, ◌&&◌}
-use Rattle.naming.specs.Name.{isName}
-use Rattle.rows.specs.Rows.{allFinite}
+use Rattle.naming.specs.Name.{is_name}
+use Rattle.rows.specs.Rows.{all_finite}
 use borrow.Author.Tests.{not-true, not-false, eq-eqb, ne_eqb}
 use borrow.Author.Rules.{rules}
 use Rattle.tables.proofs.add_spline.Statement.{statement}
@@ -34,7 +34,7 @@ module _ (c : tie.After-both2) where
   abbrev good : Bool
   good =
       let a = c.before.before.before.before.before.before.before.before.args in
-      isName a.name && allFinite a.controls.now && allFinite a.knots.now
+      is_name a.name && all_finite a.controls.now && all_finite a.knots.now
 
   same_test : c.both2.result ≡ good
   same_test =

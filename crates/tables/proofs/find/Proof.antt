@@ -4,14 +4,14 @@ use Prim.Native.Nat.{◌-◌, ◌≤◌}
 use native.Mathlib.Omega.{arith}
 use mathlib.Core.Path.{◌≡◌, refl, sym, ◌∙◌}
 use lib.ListN.{drop}
-use Rattle.tables.specs.Tables.{channelsIn, found_from, found}
-use Rattle.tables.proofs.Sizes.{eight-channels}
+use Rattle.tables.specs.Tables.{channels_in, found_from, found}
+use Rattle.tables.proofs.Sizes.{eight_channels}
 use Rattle.tables.proofs.Finding.{none_left, none_over, next-left, found-not, found_here, found-later}
 use Rattle.tables.proofs.find.Statement.{statement}
 use Rattle.tables.proofs.find.Tie as tie
 
 abbrev invariant-loop : tie.invariant-loop
-invariant-loop name t i₀ i = (i ≤ 8) × (found_from i name (drop i (channelsIn t)) ≡ found t name)
+invariant-loop name t i₀ i = (i ≤ 8) × (found_from i name (drop i (channels_in t)) ≡ found t name)
 
 abbrev decreases-loop : tie.decreases-loop
 decreases-loop name t i₀ i = 8 - i
@@ -39,7 +39,7 @@ returns-2 c =
     let at = c.before.before.before.before.before.before.loop in
     let s = c.before.before.before.before.before.before.before in
     let a = s.args in
-    let whole = eight-channels a.t1 _ s.well-formed.0 in
+    let whole = eight_channels a.t1 _ s.well-formed.0 in
     let cell = next-left a.t1.channels a.t1.count at.i _ (omega arith) (omega (arith, whole)) in
     sym (found_here at.i a.name _ _ _ cell (sym c.before.same.ensures ∙ c.if2.true)) ∙ at.invariant.1
 
@@ -54,7 +54,7 @@ loop-again c =
     let at = c.before.before.before.before.before.before.loop in
     let s = c.before.before.before.before.before.before.before in
     let a = s.args in
-    let whole = eight-channels a.t1 _ s.well-formed.0 in
+    let whole = eight_channels a.t1 _ s.well-formed.0 in
     let cell = next-left a.t1.channels a.t1.count at.i _ (omega arith) (omega (arith, whole)) in
     (omega arith, found-later at.i a.name _ _ _ cell (sym c.before.same.ensures ∙ c.if2.false) ∙ at.invariant.1)
 
@@ -63,7 +63,7 @@ returns-3 c =
     let at = c.before.loop in
     let s = c.before.before in
     let a = s.args in
-    let whole = eight-channels a.t1 _ s.well-formed.0 in
+    let whole = eight_channels a.t1 _ s.well-formed.0 in
     sym (found-not at.i a.name _ (none_over a.t1.channels a.t1.count at.i (omega (arith, whole)))) ∙ at.invariant.1
 
 pub find_spec : {M : Type 1} → statement M

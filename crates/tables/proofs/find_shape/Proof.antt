@@ -4,14 +4,14 @@ use Prim.Native.Nat.{◌-◌, ◌≤◌}
 use native.Mathlib.Omega.{arith}
 use mathlib.Core.Path.{◌≡◌, refl, sym, ◌∙◌}
 use lib.ListN.{drop}
-use Rattle.tables.specs.Tables.{shapesIn, shapeFrom, shapeFound}
+use Rattle.tables.specs.Tables.{shapes_in, shape_from, shape_found}
 use Rattle.tables.proofs.Sizes.{eight-shapes}
 use Rattle.tables.proofs.Finding.{none_left, none_over, next-left, shape-not, shape-here, shape-later}
 use Rattle.tables.proofs.find_shape.Statement.{statement}
 use Rattle.tables.proofs.find_shape.Tie as tie
 
 abbrev invariant-loop : tie.invariant-loop
-invariant-loop name t i₀ i = (i ≤ 8) × (shapeFrom i name (drop i (shapesIn t)) ≡ shapeFound t name)
+invariant-loop name t i₀ i = (i ≤ 8) × (shape_from i name (drop i (shapes_in t)) ≡ shape_found t name)
 
 abbrev decreases-loop : tie.decreases-loop
 decreases-loop name t i₀ i = 8 - i

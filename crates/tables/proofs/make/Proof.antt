@@ -2,7 +2,7 @@
 use borrow.Author.Rules.{rules}
 use mathlib.Core.Path.{◌≡◌, sym, ◌∙◌}
 use mathlib.Core.Bool.{◌&&◌}
-use Rattle.quant.specs.Settings.{isTolerance}
+use Rattle.quant.specs.Settings.{is_tolerance}
 use Rattle.tables.proofs.make.Statement.{statement}
 use Rattle.tables.proofs.make.Tie as tie
 
@@ -24,7 +24,7 @@ done-requires c κs = search rules
 returns : tie.Need-returns
 returns c =
     let a = c.before.before.before.before.before.before.args in
-    let flag : c.before.before.before.both.result ≡ (isTolerance a.amp.0 && isTolerance a.time.0) = rw (c.before.before.before.both.ensures, c.before.before.before.before.is-tolerance2.ensures, c.before.before.before.before.before.is-tolerance.ensures) in
+    let flag : c.before.before.before.both.result ≡ (is_tolerance a.amp.0 && is_tolerance a.time.0) = rw (c.before.before.before.both.ensures, c.before.before.before.before.is-tolerance2.ensures, c.before.before.before.before.before.is-tolerance.ensures) in
     rw (c.done.ensures, c.before.empty.ensures, sym flag ∙ c.before.before.if1.true)
 
 empty-requires-2 : tie.Need-empty-requires-2
@@ -36,7 +36,7 @@ refused-requires c κs = search rules
 returns-2 : tie.Need-returns-2
 returns-2 c =
     let a = c.before.before.before.before.before.before.args in
-    let flag : c.before.before.before.both.result ≡ (isTolerance a.amp.0 && isTolerance a.time.0) = rw (c.before.before.before.both.ensures, c.before.before.before.before.is-tolerance2.ensures, c.before.before.before.before.before.is-tolerance.ensures) in
+    let flag : c.before.before.before.both.result ≡ (is_tolerance a.amp.0 && is_tolerance a.time.0) = rw (c.before.before.before.both.ensures, c.before.before.before.before.is-tolerance2.ensures, c.before.before.before.before.before.is-tolerance.ensures) in
     rw (c.refused.ensures, c.before.empty2.ensures, sym flag ∙ c.before.before.if1.false)
 
 pub make_spec : {M : Type 1} → statement M

@@ -3,7 +3,7 @@ use Prim.Native.Nat.{◌<◌}
 use native.Mathlib.Omega.{arith}
 use mathlib.Core.Path.{sym, ◌∙◌}
 use borrow.Author.Tests.{lt-ltb, le-ltb}
-use Rattle.tables.specs.Tables.{settledShape}
+use Rattle.tables.specs.Tables.{settled_shape}
 use Rattle.tables.proofs.Sizes.{eight-shapes}
 use Rattle.tables.proofs.Finding.{shape-eight}
 use borrow.Author.Rules.{rules}
@@ -36,7 +36,7 @@ refused-requires : tie.Need-refused-requires
 refused-requires c κs = search rules
 
 returns : tie.Need-returns
-unfolding settledShape
+unfolding settled_shape
 returns c = rw (c.refused.ensures, c.before.before.before.enum_told.given.1, le-ltb _ _ c.before.if1.true)
 
 mul-name : tie.Need-overflow-mul-name
@@ -61,14 +61,14 @@ same_length : tie.Need-same-length
 same_length c = search rules
 
 returns-2 : tie.Need-returns-2
-unfolding settledShape
+unfolding settled_shape
 returns-2 c = rw (c.done.ensures, c.before.before.at.given.1)
 
 same-length-2 : tie.Need-same-length-2
 same-length-2 c = search rules
 
 returns-3 : tie.Need-returns-3
-unfolding settledShape
+unfolding settled_shape
 returns-3 c = rw (c.done2.ensures, c.before.before.before.enum_told.given.1, lt-ltb _ _ c.before.if1.false)
 
 pub settle-shape-spec : {M : Type 1} → statement M

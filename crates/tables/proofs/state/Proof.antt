@@ -5,9 +5,9 @@ use Prim.Native.Nat.{◌<◌}
 use native.Mathlib.Omega.{arith}
 use mathlib.Core.Path.{◌≡◌, sym, ◌∙◌}
 use mathlib.Core.Bool.{true}
-use Rattle.naming.specs.Name.{isName}
-use Rattle.tables.specs.Tables.{toldAt}
-use Rattle.tables.proofs.Sizes.{eight-channels}
+use Rattle.naming.specs.Name.{is_name}
+use Rattle.tables.specs.Tables.{told_at}
+use Rattle.tables.proofs.Sizes.{eight_channels}
 use Rattle.tables.proofs.Finding.{found-eight}
 use Rattle.tables.proofs.state.Statement.{statement}
 use Rattle.tables.proofs.state.Tie as tie
@@ -25,7 +25,7 @@ enum-known-i : tie.Need-enum-known-i
 enum-known-i c = search rules
 
 -- past the test the name is one
-is-good : (d : tie.After-find) → isName d.before.before.before.args.name ≡ true
+is-good : (d : tie.After-find) → is_name d.before.before.before.args.name ≡ true
 is-good d = sym d.before.before.is_name.ensures ∙ not-false _ d.before.if1.false
 
 module _ (c : tie.After-known-told) where
@@ -34,7 +34,7 @@ module _ (c : tie.After-known-told) where
       let d = c.before.before.before in
       let s = d.before.before.before in
       let a = s.args in
-      found-eight a.t1 a.name _ (eight-channels a.t1 _ s.well-formed.0) (sym d.find.ensures ∙ c.before.i.given.1)
+      found-eight a.t1 a.name _ (eight_channels a.t1 _ s.well-formed.0) (sym d.find.ensures ∙ c.before.i.given.1)
 
 mul-c : tie.Need-overflow-mul-c
 mul-c c = let below = there c in omega arith
@@ -46,13 +46,13 @@ enum_told : tie.Need-enum-told
 enum_told c = search rules
 
 returns-2 : tie.Need-returns-2
-unfolding toldAt
+unfolding told_at
 returns-2 c =
     let d = c.before.before.before.before.before in
     rw (is-good d, sym d.find.ensures ∙ c.before.before.before.i.given.1)
 
 returns-3 : tie.Need-returns-3
-unfolding toldAt
+unfolding told_at
 returns-3 c = rw (is-good c.before.before, sym c.before.before.find.ensures ∙ c.enum_told.given.1)
 
 pub state-spec : {M : Type 1} → statement M

@@ -2,7 +2,7 @@
 use borrow.Author.Rules.{rules}
 use native.Mathlib.Omega.{arith}
 use lib.Seq.{set_out}
-use Rattle.tables.proofs.Sizes.{eight-channels}
+use Rattle.tables.proofs.Sizes.{eight_channels}
 use Rattle.tables.proofs.with_channel.Statement.{statement}
 use Rattle.tables.proofs.with_channel.Tie as tie
 
@@ -10,7 +10,7 @@ returns : tie.Need-returns
 returns c =
     let s = c.before in
     let a = s.args in
-    let whole = eight-channels a.t _ s.well-formed.0 in
+    let whole = eight_channels a.t _ s.well-formed.0 in
     rw (set_out a.t.channels a.i a.c (omega (arith, whole)))
 
 mul-c : tie.Need-overflow-mul-c

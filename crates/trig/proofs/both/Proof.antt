@@ -1,7 +1,7 @@
 -- `trig::both` meets its contract: cosine and sine of the angle that is reduced once. Assumes nothing.
 use mathlib.Core.Path.{ap, ◌∙◌}
 use borrow.Author.Rules.{rules}
-use Rattle.trig.specs.Trig.{cosineAt, sineAt, cosineOf, sineOf}
+use Rattle.trig.specs.Trig.{cosine_at, sine_at, cosine_of, sine_of}
 use Rattle.trig.proofs.both.Statement.{statement}
 use Rattle.trig.proofs.both.Tie as tie
 
@@ -15,11 +15,11 @@ sin-at-requires : tie.Need-sin-at-requires
 sin-at-requires c κs = search rules
 
 returns : tie.Need-returns
-unfolding cosineOf sineOf
+unfolding cosine_of sine_of
 returns c =
     record {
-      cos = c.before.cos-at.ensures ∙ ap cosineAt c.before.before.reduce.ensures;
-      sin = c.sin-at.ensures ∙ ap sineAt c.before.before.reduce.ensures;
+      cos = c.before.cos-at.ensures ∙ ap cosine_at c.before.before.reduce.ensures;
+      sin = c.sin-at.ensures ∙ ap sine_at c.before.before.reduce.ensures;
     }
 
 pub both-spec : {M : Type 1} → statement M

@@ -1,7 +1,7 @@
 -- `trig::cosine` meets its contract: the two calls are the two steps of the definition. Assumes nothing.
 use mathlib.Core.Path.{ap, ◌∙◌}
 use borrow.Author.Rules.{rules}
-use Rattle.trig.specs.Trig.{cosineAt, cosineOf}
+use Rattle.trig.specs.Trig.{cosine_at, cosine_of}
 use Rattle.trig.proofs.cosine.Statement.{statement}
 use Rattle.trig.proofs.cosine.Tie as tie
 
@@ -12,8 +12,8 @@ cos-at-requires : tie.Need-cos-at-requires
 cos-at-requires c κs = search rules
 
 returns : tie.Need-returns
-unfolding cosineOf
-returns c = c.cos-at.ensures ∙ ap cosineAt c.before.reduce.ensures
+unfolding cosine_of
+returns c = c.cos-at.ensures ∙ ap cosine_at c.before.reduce.ensures
 
 pub cosine-spec : {M : Type 1} → statement M
 cosine-spec = tie.close (tie.spec reduce-requires cos-at-requires returns)

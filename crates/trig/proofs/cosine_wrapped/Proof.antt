@@ -1,7 +1,7 @@
 -- `trig::cosine_wrapped` meets its contract: the two calls are the two steps that it names. Assumes nothing.
 use mathlib.Core.Path.{ap, ◌∙◌}
 use borrow.Author.Rules.{rules}
-use Rattle.trig.specs.Trig.{cosineAt}
+use Rattle.trig.specs.Trig.{cosine_at}
 use Rattle.trig.proofs.cosine_wrapped.Statement.{statement}
 use Rattle.trig.proofs.cosine_wrapped.Tie as tie
 
@@ -12,7 +12,7 @@ cos-at-requires : tie.Need-cos-at-requires
 cos-at-requires c κs = search rules
 
 returns : tie.Need-returns
-returns c = c.cos-at.ensures ∙ ap cosineAt c.before.wrap.ensures
+returns c = c.cos-at.ensures ∙ ap cosine_at c.before.wrap.ensures
 
 pub cosine-wrapped-spec : {M : Type 1} → statement M
 cosine-wrapped-spec = tie.close (tie.spec wrap-requires cos-at-requires returns)

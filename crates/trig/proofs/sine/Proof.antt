@@ -1,7 +1,7 @@
 -- `trig::sine` meets its contract: the two calls are the two steps of the definition. Assumes nothing.
 use mathlib.Core.Path.{ap, ◌∙◌}
 use borrow.Author.Rules.{rules}
-use Rattle.trig.specs.Trig.{sineAt, sineOf}
+use Rattle.trig.specs.Trig.{sine_at, sine_of}
 use Rattle.trig.proofs.sine.Statement.{statement}
 use Rattle.trig.proofs.sine.Tie as tie
 
@@ -12,8 +12,8 @@ sin-at-requires : tie.Need-sin-at-requires
 sin-at-requires c κs = search rules
 
 returns : tie.Need-returns
-unfolding sineOf
-returns c = c.sin-at.ensures ∙ ap sineAt c.before.reduce.ensures
+unfolding sine_of
+returns c = c.sin-at.ensures ∙ ap sine_at c.before.reduce.ensures
 
 pub sine-spec : {M : Type 1} → statement M
 sine-spec = tie.close (tie.spec reduce-requires sin-at-requires returns)

@@ -10,10 +10,10 @@ use Rattle.wide_decimal.specs.declared.round.Rounded.{Rounded}
 use Rattle.wide_decimal.specs.Figures.{worth, without}
 use Rattle.wide_decimal.specs.Limbs.{value, weight, Held}
 use Rattle.wide_decimal.specs.Near.{Near}
-use Rattle.wide_decimal.specs.Placed.{before, parts, nearestOf}
+use Rattle.wide_decimal.specs.Placed.{before, parts, nearest_of}
 use Rattle.wide_decimal.specs.Told.{Told}
 use Rattle.wide_decimal.proofs.Placing.{same-take, same_drop, same-behind, same_more, grown, together}
-use Rattle.wide_decimal.proofs.Powers.{ten-pos, weight-even}
+use Rattle.wide_decimal.proofs.Powers.{ten_pos, weight-even}
 use Rattle.wide_decimal.proofs.Truths.{denied, granted}
 use Rattle.wide_decimal.proofs.within.Statement.{statement}
 use Rattle.wide_decimal.proofs.within.Tie as tie
@@ -156,11 +156,11 @@ same-length-4 : tie.Need-same-length-4
 same-length-4 c = search rules
 
 returns-3 : tie.Need-returns-3
-unfolding nearestOf
+unfolding nearest_of
 returns-3 c =
     let p = c.before.before.before in
     let k = l p in
-    answered p _ c.before.end.given.1 (before (figures k) (whole k) * parts (figures k) (whole k) (start k).args.zeros + worth (drop (whole k) (figures k))) (parts (figures k) (whole k) (start k).args.zeros) (ten-pos (length (figures k) - whole k + (start k).args.zeros)) (both p)
+    answered p _ c.before.end.given.1 (before (figures k) (whole k) * parts (figures k) (whole k) (start k).args.zeros + worth (drop (whole k) (figures k))) (parts (figures k) (whole k) (start k).args.zeros) (ten_pos (length (figures k) - whole k + (start k).args.zeros)) (both p)
 
 same-length-5 : tie.Need-same-length-5
 same-length-5 c = search rules

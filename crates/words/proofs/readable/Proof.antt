@@ -8,18 +8,18 @@ use native.Mathlib.Omega.{arith}
 use borrow.Author.Rules.{rules}
 use borrow.Author.Tests.{eq-eqb, ne_eqb, not-true, not-false}
 use Rattle.lines.specs.Field.{number_at}
-use Rattle.words.specs.Words.{isWord, wordsStand, readableAs}
+use Rattle.words.specs.Words.{is_word, words_stand, readable_as}
 use Rattle.words.proofs.readable.Statement.{statement}
 use Rattle.words.proofs.readable.Tie as tie
 
 -- the last of the words, and those before it
-last : (line : List ℕ) (k : ℕ) → 0 < k → wordsStand line k ≡ isWord (number_at line (1 + 17 * (k - 1))) && wordsStand line (k - 1)
-unfolding wordsStand
+last : (line : List ℕ) (k : ℕ) → 0 < k → words_stand line k ≡ is_word (number_at line (1 + 17 * (k - 1))) && words_stand line (k - 1)
+unfolding words_stand
 last line zero h = absurd (omega arith)
 last line (suc k) h = let one : suc k - 1 ≡ k = omega arith in rw one
 
 abbrev invariant-loop : tie.invariant-loop
-invariant-loop line count words left₀ left = (left ≤ 255) × (wordsStand line count ≡ wordsStand line left)
+invariant-loop line count words left₀ left = (left ≤ 255) × (words_stand line count ≡ words_stand line left)
 
 abbrev decreases-loop : tie.decreases-loop
 decreases-loop line count words left₀ left = left
@@ -31,7 +31,7 @@ add-if1 : tie.Need-overflow-add-if1 invariant-loop decreases-loop
 add-if1 c = search rules
 
 returns : tie.Need-returns invariant-loop decreases-loop
-unfolding readableAs
+unfolding readable_as
 returns c = rw (ne_eqb _ _ c.if1.true)
 
 loop-holds : tie.Need-loop-init invariant-loop decreases-loop
@@ -50,12 +50,12 @@ is-word-requires : tie.Need-is-word-requires invariant-loop decreases-loop
 is-word-requires c κs = search rules
 
 returns-2 : tie.Need-returns-2 invariant-loop decreases-loop
-unfolding readableAs
+unfolding readable_as
 returns-2 c =
     let turn = c.before.before.before in
     let line = turn.before.before.before.args.line.now in
     let k = turn.loop.left in
-    let bad : isWord (number_at line (1 + 17 * (k - 1))) ≡ false = sym c.before.is_IsWord.ensures ∙ not-true _ c.if2.true in
+    let bad : is_word (number_at line (1 + 17 * (k - 1))) ≡ false = sym c.before.is_IsWord.ensures ∙ not-true _ c.if2.true in
     rw (eq-eqb _ _ turn.before.if1.false, turn.loop.invariant.1, last line k (omega arith), bad)
 
 loop-less : tie.Need-loop-smaller invariant-loop decreases-loop
@@ -66,11 +66,11 @@ loop-again c =
     let turn = c.before.before.before in
     let line = turn.before.before.before.args.line.now in
     let k = turn.loop.left in
-    let good : isWord (number_at line (1 + 17 * (k - 1))) ≡ true = sym c.before.is_IsWord.ensures ∙ not-false _ c.if2.false in
+    let good : is_word (number_at line (1 + 17 * (k - 1))) ≡ true = sym c.before.is_IsWord.ensures ∙ not-false _ c.if2.false in
     (omega arith, rw (turn.loop.invariant.1, last line k (omega arith), good))
 
 returns-3 : tie.Need-returns-3 invariant-loop decreases-loop
-unfolding readableAs wordsStand
+unfolding readable_as words_stand
 returns-3 c =
     let none : c.before.loop.left ≡ 0 = omega arith in
     rw (eq-eqb _ _ c.before.before.if1.false, c.before.loop.invariant.1, none)

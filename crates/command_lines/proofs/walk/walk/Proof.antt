@@ -6,7 +6,7 @@ use mathlib.Core.List.{List}
 use lib.Ieee.{Float}
 use lib.ListN.{length, drop, drop_of_length-le}
 use borrow.Author.Rules.{rules}
-use Rattle.lines.specs.Text.{lines_of, lineLength}
+use Rattle.lines.specs.Text.{lines_of, line_length}
 use Rattle.lines.proofs.Lines.{line-ends-within, next-line}
 use Rattle.words.specs.Words.{end_in}
 use Rattle.command_lines.proofs.walk.walk.Statement.{statement}
@@ -28,7 +28,7 @@ module _ (text : List ℕ) (lines at end : ℕ) where
   further : (bins bins' splines splines' : List (List Float)) → At text bins splines lines at → at < length text → end ≡ end_in text at
       → length bins' ≡ length bins → length splines' ≡ length splines → At text bins' splines' (lines + 1) (end + 1)
   further bins bins' splines splines' now h e same alike =
-      let is : end ≡ at + lineLength (drop at text) = omega (arith, e, line-ends-within text at h) in
+      let is : end ≡ at + line_length (drop at text) = omega (arith, e, line-ends-within text at h) in
       let one : length (lines_of (drop at text)) ≡ suc (length (lines_of (drop (end + 1) text))) = rw is (ap length (next-line text at h)) in
       record { near = omega (arith, e); rows = same ∙ now.rows; shapes = alike ∙ now.shapes; few = omega (arith, now.few, is); counted = omega (arith, now.counted, one) }
 

@@ -66,13 +66,13 @@ use Rattle.tables.specs.contracts.Tables as U
 use Rattle.tables.proofs.Tables.TheLaws as U'
 use Rattle.tables.specs.contracts.Tabled as X
 use Rattle.tables.proofs.Tabled.TheLaws as X'
-use Rattle.tables.proofs.Walked.{valU, IsTables, typedU, has-tables}
+use Rattle.tables.proofs.Walked.{val_u, IsTables, typed_u, has-tables}
 use Rattle.commands.specs.declared.command.Arranged.{Arranged}
 use Rattle.commands.specs.declared.step.Step.{Step}
-use Rattle.commands.specs.Step.{binsAfter, pulsesAfter}
-use Rattle.commands.specs.Run.{ranTo, refusedAt, sizesFit, executed}
+use Rattle.commands.specs.Step.{bins_after, pulses_after}
+use Rattle.commands.specs.Run.{ran_to, refused_at, sizes_fit, executed}
 use Rattle.commands.proofs.Turns.{none, at-end, stopped, rows_fit, Upto, begun, command, step, next}
-use Rattle.commands.proofs.Callees.{bytes, sliceF, sliceC, refB, sliceB, refP, sliceP, valN, val_s, valX, IsStep, IsTabled, typedN, typedX, parts, has-tabled, Fits as SizesFit, Misfits, Acts, Refuses, Stores, Ends, fits-of, misfit-of, refused-of, done-of, to-fits, goes-fits, to-misfit, goes-misfit, to-refused, goes-refused, to-done, goes-done, to-act, goes-act, to-store, goes-store}
+use Rattle.commands.proofs.Callees.{bytes, slice_f, slice_c, ref_b, slice_b, ref_p, slice_p, val_n, val_s, val_x, IsStep, IsTabled, typed_n, typed_x, parts, has-tabled, Fits as SizesFit, Misfits, Acts, Refuses, Stores, Ends, fits-of, misfit_of, refused-of, done-of, to-fits, goes-fits, to_misfit, goes_misfit, to-refused, goes-refused, to-done, goes-done, to-act, goes-act, to-store, goes-store}
 use Rattle.commands.specs.contracts.command.Arranged as N
 use Rattle.commands.proofs.command.Arranged.TheLaws as N'
 use Rattle.commands.specs.contracts.step.Step as S
@@ -119,38 +119,38 @@ module _ {M : Type 1} {𝓤 : Ura M} (𝓛 : Logic 𝓤) (mem : Memory → SProp
     (t₀ : Tables) (fs : List (List Float)) (cs : List Arranged) (bs₀ : List (List Float)) (ps₀ : List Pulse) (gt : IsTables t₀) (gf : Room Numbers (length fs)) (gc : Room N.the_row (length cs)) (gb : Room BinRow (length bs₀)) (gp : Room P.the_row (length ps₀)) where
   open 𝓛 use {H}
 
-  abbrev refC : MutBor (List Arranged)
-  refC = record { ref_ptr = (b₀, o₀); ghost_name = γ₀; now = cs }
+  abbrev ref_c : MutBor (List Arranged)
+  ref_c = record { ref_ptr = (b₀, o₀); ghost_name = γ₀; now = cs }
 
-  abbrev refF : Bor (List (List Float))
-  refF = record { ref_ptr = (b₃, o₃); ghost_name = γ₃; now = fs }
+  abbrev ref_f : Bor (List (List Float))
+  ref_f = record { ref_ptr = (b₃, o₃); ghost_name = γ₃; now = fs }
 
   abbrev args : Tables × (Bor (List (List Float)) × (Bor (List Arranged) × (Bor (List (List Float)) × (Bor (List Pulse) × Unit {0}))))
-  args = (t₀, (refF, (refC, (record { ref_ptr = (b₁, o₁); ghost_name = γ₁; now = bs₀ }, (record { ref_ptr = (b₂, o₂); ghost_name = γ₂; now = ps₀ }, tt)))))
+  args = (t₀, (ref_f, (ref_c, (record { ref_ptr = (b₁, o₁); ghost_name = γ₁; now = bs₀ }, (record { ref_ptr = (b₂, o₂); ghost_name = γ₂; now = ps₀ }, tt)))))
 
   abbrev at : Vals f.signature (κ₃, (κ₀, (κ₁, (κ₂, tt))))
-  at = (valU t₀ ∷ [], (slice_val (b₃, o₃) (length fs) ∷ [], (slice_val (b₀, o₀) (length cs) ∷ [], (slice_val (b₁, o₁) (length bs₀) ∷ [], (slice_val (b₂, o₂) (length ps₀) ∷ [], tt)))))
+  at = (val_u t₀ ∷ [], (slice_val (b₃, o₃) (length fs) ∷ [], (slice_val (b₀, o₀) (length cs) ∷ [], (slice_val (b₁, o₁) (length bs₀) ∷ [], (slice_val (b₂, o₂) (length ps₀) ∷ [], tt)))))
 
-  abbrev ownC : Fml
-  ownC = (ShrSlice (named 1) κ₀ N.the_row).own_val refC (slice_val (b₀, o₀) (length cs) ∷ [])
+  abbrev own_c : Fml
+  own_c = (ShrSlice (named 1) κ₀ N.the_row).own_val ref_c (slice_val (b₀, o₀) (length cs) ∷ [])
 
   abbrev own_f : Fml
-  own_f = (ShrSlice (named 0) κ₃ Numbers).own_val refF (slice_val (b₃, o₃) (length fs) ∷ [])
+  own_f = (ShrSlice (named 0) κ₃ Numbers).own_val ref_f (slice_val (b₃, o₃) (length fs) ∷ [])
 
-  abbrev ownB : List (List Float) → Fml
-  ownB l = Own BinRow b₁ o₁ (length bs₀) κ₁ γ₁ l
+  abbrev own_b : List (List Float) → Fml
+  own_b l = Own BinRow b₁ o₁ (length bs₀) κ₁ γ₁ l
 
-  abbrev ownP : List Pulse → Fml
-  ownP l = Own P.the_row b₂ o₂ (length ps₀) κ₂ γ₂ l
+  abbrev own_p : List Pulse → Fml
+  own_p l = Own P.the_row b₂ o₂ (length ps₀) κ₂ γ₂ l
 
   abbrev Post : Val → SProp 𝓤
   Post = (walk_of 𝓛 f.ended stayed (f.clauses 𝓛 mem run)).post (((κ₃, (κ₀, (κ₁, (κ₂, tt)))), (q₃, (q₀, (q₁, (q₂, tt)))), tt, args, at), tt)
 
-  exits : (r : Tabled) (bs : List (List Float)) (ps : List Pulse) → IsTabled r → length bs ≡ length bs₀ → length ps ≡ length ps₀ → ranTo r bs ps ≡ executed t₀ fs cs bs₀ ps₀
-      → ent 𝓤 (⋆ 𝓛 (‵ ownC ∷ ‵ (flft κ₀ q₀) ∷ ‵ own_f ∷ ‵ (flft κ₃ q₃) ∷ ‵ (ownB bs) ∷ ‵ (flft κ₁ q₁) ∷ ‵ (ownP ps) ∷ ‵ (flft κ₂ q₂) ∷ [])) (Post (valX r))
+  exits : (r : Tabled) (bs : List (List Float)) (ps : List Pulse) → IsTabled r → length bs ≡ length bs₀ → length ps ≡ length ps₀ → ran_to r bs ps ≡ executed t₀ fs cs bs₀ ps₀
+      → ent 𝓤 (⋆ 𝓛 (‵ own_c ∷ ‵ (flft κ₀ q₀) ∷ ‵ own_f ∷ ‵ (flft κ₃ q₃) ∷ ‵ (own_b bs) ∷ ‵ (flft κ₁ q₁) ∷ ‵ (own_p ps) ∷ ‵ (flft κ₂ q₂) ∷ [])) (Post (val_x r))
   exits r bs ps g lb lp is =
-      qed 𝓛 (‵ ownC ∷ ‵ (flft κ₀ q₀) ∷ ‵ own_f ∷ ‵ (flft κ₃ q₃) ∷ ‵ (ownB bs) ∷ ‵ (flft κ₁ q₁) ∷ ‵ (ownP ps) ∷ ‵ (flft κ₂ q₂) ∷ []) ∵
-      suffices ! _ (ends_at 𝓛 f.ended stayed (f.clauses 𝓛 mem run) (((κ₃, (κ₀, (κ₁, (κ₂, tt)))), (q₃, (q₀, (q₁, (q₂, tt)))), tt, args, at), tt) (valX r) r (tt, (tt, (tt, (bs, (ps, tt))))) (tt, (tt, (tt, (lb, (lp, tt)))))) $ says ! is $
+      qed 𝓛 (‵ own_c ∷ ‵ (flft κ₀ q₀) ∷ ‵ own_f ∷ ‵ (flft κ₃ q₃) ∷ ‵ (own_b bs) ∷ ‵ (flft κ₁ q₁) ∷ ‵ (own_p ps) ∷ ‵ (flft κ₂ q₂) ∷ []) ∵
+      suffices ! _ (ends_at 𝓛 f.ended stayed (f.clauses 𝓛 mem run) (((κ₃, (κ₀, (κ₁, (κ₂, tt)))), (q₃, (q₀, (q₁, (q₂, tt)))), tt, args, at), tt) (val_x r) r (tt, (tt, (tt, (bs, (ps, tt))))) (tt, (tt, (tt, (lb, (lp, tt)))))) $ says ! is $
       nothing ! $ move ! (8 ∷ 0 ∷ []) $ join ! $ move ! (6 ∷ 0 ∷ []) $ join ! $ move ! (2 ∷ 0 ∷ []) $ join ! $ move ! (3 ∷ 0 ∷ []) $ join ! $ frame ! $
       -- [what is owned of commands, the shapes' rows, bins and pulses]
       nothing ! $ move ! (4 ∷ 0 ∷ []) $ fjoin ! $ move ! (3 ∷ 0 ∷ []) $ fjoin ! $ move ! (1 ∷ 0 ∷ []) $ fjoin ! $ move ! (1 ∷ 0 ∷ []) $ fjoin ! $ has-tables ! t₀ gt $ fjoin ! $ frame ! $ has-tabled ! r g $ done !
@@ -174,19 +174,19 @@ module _ {M : Type 1} {𝓤 : Ura M} (𝓛 : Logic 𝓤) (mem : Memory → SProp
     fm = fm_of 𝓤 H 𝓛.laws 𝓣
 
     abbrev En : Env 𝓤 H
-    En = (X'.mir, l₀) ∷ (U'.mir, l₁) ∷ (sliceF, l₂) ∷ (sliceC, l₃) ∷ (sliceB, l₄) ∷ (sliceP, l₅) ∷ (U'.mir, l₆) ∷ (word, l₇) ∷ (N'.mir, l₈) ∷ (S'.mir, l₉) ∷ (ty_bool, l₁₀) ∷ (word, l₁₁) ∷ (word, l₁₂) ∷ (word, l₁₃) ∷ (word, l₁₄) ∷ (ty_bool, l₁₅) ∷ (word, l₁₆) ∷ (ty_bool, l₁₇) ∷ (ty_ptr, l₁₈) ∷ (N'.mir, l₁₉) ∷ (refB, l₂₀) ∷ (slice_ty refB, l₂₁) ∷ (ty_unit, l₂₂) ∷ (refP, l₂₃) ∷ (slice_ty refP, l₂₄) ∷ []
+    En = (X'.mir, l₀) ∷ (U'.mir, l₁) ∷ (slice_f, l₂) ∷ (slice_c, l₃) ∷ (slice_b, l₄) ∷ (slice_p, l₅) ∷ (U'.mir, l₆) ∷ (word, l₇) ∷ (N'.mir, l₈) ∷ (S'.mir, l₉) ∷ (ty_bool, l₁₀) ∷ (word, l₁₁) ∷ (word, l₁₂) ∷ (word, l₁₃) ∷ (word, l₁₄) ∷ (ty_bool, l₁₅) ∷ (word, l₁₆) ∷ (ty_bool, l₁₇) ∷ (ty_ptr, l₁₈) ∷ (N'.mir, l₁₉) ∷ (ref_b, l₂₀) ∷ (slice_ty ref_b, l₂₁) ∷ (ty_unit, l₂₂) ∷ (ref_p, l₂₃) ∷ (slice_ty ref_p, l₂₄) ∷ []
 
     -- [commands; κ₀; shapes; κ₃; bins; κ₁; pulses; κ₂; _24; …; _0; …], with what stands at _6, the tables, _7, the count, _9, the step, and _0, the result
     abbrev Here : List (List Float) → List Pulse → Item 𝓤 → Item 𝓤 → Item 𝓤 → Item 𝓤 → List (Item 𝓤)
-    Here bs ps i₆ i₇ i₉ i₀ = ‵ ownC ∷ ‵ (flft κ₀ q₀) ∷ ‵ own_f ∷ ‵ (flft κ₃ q₃) ∷ ‵ (ownB bs) ∷ ‵ (flft κ₁ q₁) ∷ ‵ (ownP ps) ∷ ‵ (flft κ₂ q₂)
-        ∷ ‵ (froom (slice_ty refP) l₂₄ 0) ∷ ‵ (fdies (slice_ty refP) l₂₄) ∷ ‵ (froom refP l₂₃ 0) ∷ ‵ (fdies refP l₂₃) ∷ ‵ (froom ty_unit l₂₂ 0) ∷ ‵ (fdies ty_unit l₂₂)
-        ∷ ‵ (froom (slice_ty refB) l₂₁ 0) ∷ ‵ (fdies (slice_ty refB) l₂₁) ∷ ‵ (froom refB l₂₀ 0) ∷ ‵ (fdies refB l₂₀) ∷ ‵ (froom N'.mir l₁₉ 0) ∷ ‵ (fdies N'.mir l₁₉)
+    Here bs ps i₆ i₇ i₉ i₀ = ‵ own_c ∷ ‵ (flft κ₀ q₀) ∷ ‵ own_f ∷ ‵ (flft κ₃ q₃) ∷ ‵ (own_b bs) ∷ ‵ (flft κ₁ q₁) ∷ ‵ (own_p ps) ∷ ‵ (flft κ₂ q₂)
+        ∷ ‵ (froom (slice_ty ref_p) l₂₄ 0) ∷ ‵ (fdies (slice_ty ref_p) l₂₄) ∷ ‵ (froom ref_p l₂₃ 0) ∷ ‵ (fdies ref_p l₂₃) ∷ ‵ (froom ty_unit l₂₂ 0) ∷ ‵ (fdies ty_unit l₂₂)
+        ∷ ‵ (froom (slice_ty ref_b) l₂₁ 0) ∷ ‵ (fdies (slice_ty ref_b) l₂₁) ∷ ‵ (froom ref_b l₂₀ 0) ∷ ‵ (fdies ref_b l₂₀) ∷ ‵ (froom N'.mir l₁₉ 0) ∷ ‵ (fdies N'.mir l₁₉)
         ∷ ‵ (froom ty_ptr l₁₈ 0) ∷ ‵ (fdies ty_ptr l₁₈) ∷ ‵ (froom ty_bool l₁₇ 0) ∷ ‵ (fdies ty_bool l₁₇) ∷ ‵ (froom word l₁₆ 0) ∷ ‵ (fdies word l₁₆)
         ∷ ‵ (froom ty_bool l₁₅ 0) ∷ ‵ (fdies ty_bool l₁₅) ∷ ‵ (froom word l₁₄ 0) ∷ ‵ (fdies word l₁₄) ∷ ‵ (froom word l₁₃ 0) ∷ ‵ (fdies word l₁₃)
         ∷ ‵ (froom word l₁₂ 0) ∷ ‵ (fdies word l₁₂) ∷ ‵ (froom word l₁₁ 0) ∷ ‵ (fdies word l₁₁) ∷ ‵ (froom ty_bool l₁₀ 0) ∷ ‵ (fdies ty_bool l₁₀) ∷ i₉ ∷ ‵ (fdies S'.mir l₉)
         ∷ ‵ (froom N'.mir l₈ 0) ∷ ‵ (fdies N'.mir l₈) ∷ i₇ ∷ ‵ (fdies word l₇) ∷ i₆ ∷ ‵ (fdies U'.mir l₆)
-        ∷ ‵ (fat full_share sliceP l₅ 0 (slice_val (b₂, o₂) (length ps₀))) ∷ ‵ (fdies sliceP l₅) ∷ ‵ (fat full_share sliceB l₄ 0 (slice_val (b₁, o₁) (length bs₀))) ∷ ‵ (fdies sliceB l₄) ∷ ‵ (fat full_share sliceC l₃ 0 (slice_val (b₀, o₀) (length cs))) ∷ ‵ (fdies sliceC l₃) ∷ ‵ (fat full_share sliceF l₂ 0 (slice_val (b₃, o₃) (length fs))) ∷ ‵ (fdies sliceF l₂)
-        ∷ ‵ (fat full_share U'.mir l₁ 0 (valU t₀)) ∷ ‵ (fdies U'.mir l₁) ∷ i₀ ∷ ‵ (fdies X'.mir l₀) ∷ []
+        ∷ ‵ (fat full_share slice_p l₅ 0 (slice_val (b₂, o₂) (length ps₀))) ∷ ‵ (fdies slice_p l₅) ∷ ‵ (fat full_share slice_b l₄ 0 (slice_val (b₁, o₁) (length bs₀))) ∷ ‵ (fdies slice_b l₄) ∷ ‵ (fat full_share slice_c l₃ 0 (slice_val (b₀, o₀) (length cs))) ∷ ‵ (fdies slice_c l₃) ∷ ‵ (fat full_share slice_f l₂ 0 (slice_val (b₃, o₃) (length fs))) ∷ ‵ (fdies slice_f l₂)
+        ∷ ‵ (fat full_share U'.mir l₁ 0 (val_u t₀)) ∷ ‵ (fdies U'.mir l₁) ∷ i₀ ∷ ‵ (fdies X'.mir l₀) ∷ []
 
     -- before the loop and after it
     abbrev Bare : List (List Float) → List Pulse → Item 𝓤 → List (Item 𝓤)
@@ -194,7 +194,7 @@ module _ {M : Type 1} {𝓤 : Ura M} (𝓛 : Logic 𝓤) (mem : Memory → SProp
 
     -- within a turn, before `act` and after it
     abbrev Running : Upto t₀ fs cs bs₀ ps₀ → Item 𝓤 → List (List Float) → List Pulse → List (Item 𝓤)
-    Running t i₉ bs ps = Here bs ps (‵ (fat full_share U'.mir l₆ 0 (valU t.u))) (‵ (fat full_share word l₇ 0 (vint w64 t.k))) i₉ (‵ (froom X'.mir l₀ 0))
+    Running t i₉ bs ps = Here bs ps (‵ (fat full_share U'.mir l₆ 0 (val_u t.u))) (‵ (fat full_share word l₇ 0 (vint w64 t.k))) i₉ (‵ (froom X'.mir l₀ 0))
 
     abbrev At : Upto t₀ fs cs bs₀ ps₀ → List (Item 𝓤)
     At t = Running t (‵ (froom S'.mir l₉ 0)) t.bs t.ps
@@ -203,8 +203,8 @@ module _ {M : Type 1} {𝓤 : Ura M} (𝓛 : Logic 𝓤) (mem : Memory → SProp
     Stepped t s zs us = Running t (‵ (fat full_share S'.mir l₉ 0 (val_s s))) zs us
 
     -- the result is there: the locals are freed
-    leaves : (bs : List (List Float)) (ps : List Pulse) (r : Tabled) → IsTabled r → length bs ≡ length bs₀ → length ps ≡ length ps₀ → ranTo r bs ps ≡ executed t₀ fs cs bs₀ ps₀
-        → Sq 𝓛 (Bare bs ps (‵ (fat full_share X'.mir l₀ 0 (valX r)))) (frees En (prop (Post (valX r))))
+    leaves : (bs : List (List Float)) (ps : List Pulse) (r : Tabled) → IsTabled r → length bs ≡ length bs₀ → length ps ≡ length ps₀ → ran_to r bs ps ≡ executed t₀ fs cs bs₀ ps₀
+        → Sq 𝓛 (Bare bs ps (‵ (fat full_share X'.mir l₀ 0 (val_x r)))) (frees En (prop (Post (val_x r))))
     leaves bs ps r g lb lp is =
         forget ! 46 refl $ forget ! 48 refl $ forget ! 50 refl $ forget ! 52 refl $ forget ! 54 refl $ forget ! 56 refl $
         move ! (56 ∷ 57 ∷ []) $ free1 ! $ move ! (54 ∷ 55 ∷ []) $ free1 ! $ move ! (52 ∷ 53 ∷ []) $ free1 ! $ move ! (50 ∷ 51 ∷ []) $ free1 ! $ move ! (48 ∷ 49 ∷ []) $ free1 ! $ move ! (46 ∷ 47 ∷ []) $ free1 ! $
@@ -229,16 +229,16 @@ module _ {M : Type 1} {𝓤 : Ura M} (𝓛 : Logic 𝓤) (mem : Memory → SProp
       scaled more = scaled_Fits t.k (length cs) bytes more gc.1
 
       -- after `act`
-      module _ (more : t.k < length cs) (s : Step) (zs : List (List Float)) (es : s ≡ step t₀ fs cs bs₀ ps₀ t) (ez : zs ≡ binsAfter (step t₀ fs cs bs₀ ps₀ t) fs t.bs) (lz : length zs ≡ length t.bs) (g : IsStep s) where
+      module _ (more : t.k < length cs) (s : Step) (zs : List (List Float)) (es : s ≡ step t₀ fs cs bs₀ ps₀ t) (ez : zs ≡ bins_after (step t₀ fs cs bs₀ ps₀ t) fs t.bs) (lz : length zs ≡ length t.bs) (g : IsStep s) where
         next_fits : t.k + 1 < 2 ^ 64
         next_fits = lt_of_le_of_lt (add-one-le more) gc.0
 
         -- the last two statements of a turn
-        steps_on : s.stop ≡ false → (us : List Pulse) → us ≡ pulsesAfter s t.ps → length us ≡ length t.ps
+        steps_on : s.stop ≡ false → (us : List Pulse) → us ≡ pulses_after s t.ps → length us ≡ length t.ps
             → Sq 𝓛 (Stepped t s zs us) (runs C Λ En (after 14 turn-1) (any_q (Turned t)))
         unfolding after_turn next
         steps_on no_stop us eu lu =
-            again-into ! 8 (of_opd ! (part ! 8 refl tt)) refl (typedU 𝓛 s.tables (parts s g).tables) $
+            again-into ! 8 (of_opd ! (part ! 8 refl tt)) refl (typed_u 𝓛 s.tables (parts s g).tables) $
             assigns_last ! (bin ! (cell ! 8 refl) (lit ! tt) (record { fits = next_fits })) (from ! (stop !)) (store ! 42 refl (tt, record { fits = next_fits })) $
             forget ! 38 refl $ again ! Nearer At t (next t₀ fs cs bs₀ ps₀ t more s zs us es ez eu no_stop lz lu (parts s g).tables) (add-one-dec (length cs) t.k more)
 
@@ -281,7 +281,7 @@ module _ {M : Type 1} {𝓤 : Ura M} (𝓛 : Logic 𝓤) (mem : Memory → SProp
             into ! 8 (of_opd ! (part ! 8 refl tt)) refl (tt, tt) $
             first ! $ branches ! (cell ! 8 refl)
             (λ is_stop. calls-plain ! 8 fm (Refuses 𝓛 mem run) refused-known (to-refused 𝓛 mem run t.u s.why t.k) (goes-refused 𝓛 mem run t.u s.why t.k t.good (parts s g).why k-fits)
-            (and_then ! (cell ! 9 refl) (and_then ! (part ! 9 refl tt) (and_then ! (cell ! 9 refl) (no_more !)))) X.the_row valX (LL.tells X.the_type X'.the_laws) (typedX 𝓛) (refused-of 𝓛 mem run t.u s.why t.k) (λ _. id⊢ 𝓤 _) refl (λ r er ir.
+            (and_then ! (cell ! 9 refl) (and_then ! (part ! 9 refl tt) (and_then ! (cell ! 9 refl) (no_more !)))) X.the_row val_x (LL.tells X.the_type X'.the_laws) (typed_x 𝓛) (refused-of 𝓛 mem run t.u s.why t.k) (λ _. id⊢ 𝓤 _) refl (λ r er ir.
             returns_within ! Post refl (look ! 56 refl) $ forget ! 22 refl $ forget ! 38 refl $ forget ! 42 refl $ forget ! 44 refl $
             leaves zs t.ps r ir (lz ∙ t.long-b) t.long-p (rw er (stopped cs t.k t.u fs t.bs t.ps more s zs es ez (is_true s.stop is_stop) ∙ t.left))))
             (λ no_stop. skips ! $ exec ! C Λ En (after 12 turn-1) (any_q (Turned t)) $ forget ! 22 refl $ goes_on (is_false s.stop no_stop))
@@ -301,13 +301,13 @@ module _ {M : Type 1} {𝓤 : Ura M} (𝓛 : Logic 𝓤) (mem : Memory → SProp
           looks_slice ! tt N.the_row (Is N.the_row) (shows 𝓛 N.the_row) (LL.vals N.the_type N'.the_laws) (LL.tells N.the_type N'.the_laws) (LL.copy N.the_type N'.the_copy 𝓛) cs b₀ o₀ (λ q.
           elem_out ! N.the_row (Is N.the_row) (shows 𝓛 N.the_row) (LL.vals N.the_type N'.the_laws) (LL.tells N.the_type N'.the_laws) q cs t.k none b₀ o₀ (more is-more) (λ g.
           -- [commands[k]; what it owns; the others; what shuts; the borrow; res; the slice's fact; shapes; κ₃; bins; κ₁; pulses; κ₂; _24; …]
-          into ! 13 (of_opd ! (load ! (from ! (hop ! (look ! 25 refl) (stop !))) (look_raw ! 0 refl))) refl (typedN 𝓛 c g) $
-          into ! 13 (of_opd ! (cell ! 13 refl)) refl (typedN 𝓛 c g) $
-          elem_back ! N.the_row q cs t.k none (valN c ∷ []) b₀ o₀ (more is-more) $ shuts_slice ! tt N.the_row q cs b₀ o₀ $ move ! (2 ∷ 1 ∷ []) $ fjoin ! $ move ! (2 ∷ 0 ∷ []) $ fjoin ! $
+          into ! 13 (of_opd ! (load ! (from ! (hop ! (look ! 25 refl) (stop !))) (look_raw ! 0 refl))) refl (typed_n 𝓛 c g) $
+          into ! 13 (of_opd ! (cell ! 13 refl)) refl (typed_n 𝓛 c g) $
+          elem_back ! N.the_row q cs t.k none (val_n c ∷ []) b₀ o₀ (more is-more) $ shuts_slice ! tt N.the_row q cs b₀ o₀ $ move ! (2 ∷ 1 ∷ []) $ fjoin ! $ move ! (2 ∷ 0 ∷ []) $ fjoin ! $
           -- `act`, with the bins lent
           into ! 8 (addr ! (from ! (fld ! refl (hop ! (look_in ! 48 (sub ! 0 refl (whole !))) (stop !))))) refl (tt, tt) $
           into ! 8 (agg ! (and_then ! (cell ! 8 refl) (and_then ! (part ! 8 refl tt) (no_more !)))) refl (tt, (tt, (record { fits = gb.0 }, tt))) $
-          move ! (2 ∷ []) $ use1 𝓛 (‵ own_f ⊛ ‵ own_f) ((shr_slice_copy 𝓛 (named 0) κ₃ Numbers).twice refF (slice_val (b₃, o₃) (length fs) ∷ [])) $ split ! $
+          move ! (2 ∷ []) $ use1 𝓛 (‵ own_f ⊛ ‵ own_f) ((shr_slice_copy 𝓛 (named 0) κ₃ Numbers).twice ref_f (slice_val (b₃, o₃) (length fs) ∷ [])) $ split ! $
           -- [shapes, twice; commands; κ₀; κ₃; bins; κ₁; pulses; κ₂; _24; …]
           move ! (5 ∷ 6 ∷ []) $ lends ! tt BinRow b₁ o₁ (length bs₀) κ₁ q₁ γ₁ t.bs t.long-b (λ ν δ.
           -- [ν; bins; what is kept; shapes, twice; commands; κ₀; κ₃; pulses; κ₂; _24; …]
@@ -315,9 +315,9 @@ module _ {M : Type 1} {𝓤 : Ura M} (𝓛 : Logic 𝓤) (mem : Memory → SProp
           use3 𝓛 (raw ((Acts 𝓛 mem run).pre (asked ν δ))) (goes-act 𝓛 mem run b₁ o₁ (length bs₀) ν δ b₃ o₃ κ₃ q₃ γ₃ fs t.u t.bs c (rows.0, t.long-b ∙ rows.1) t.good g) $
           -- [what is asked; what is kept; shapes; commands; κ₀; pulses; κ₂; _24; …]
           calls_at ! fm (Acts 𝓛 mem run) act-known (asked ν δ) (and_then ! (cell ! 7 refl) (and_then ! (cell ! 7 refl) (and_then ! (cell ! 7 refl) (and_then ! (cell ! 7 refl) (no_more !))))) (λ v.
-          use1 𝓛 (later (some (λ (s : Step). ((‵ (flft κ₃ q₃) ⊛ (‵ (flft (ν ∷ []) full_share) ⊛ ‵ ftrue)) ⊛ ‵ ((S.the_row).own_val s (v ∷ []))) ⊛ raw (ensured 𝓛 act.ended (act.clauses 𝓛 mem run) (κ₃, (ν ∷ [], tt)) (t.u, (refF, (lent δ, (c, tt)))) tt s)))) (id⊢ 𝓤 _) $ await ! tt $ pick ! (λ s.
-          split ! $ move ! (1 ∷ []) $ use1 𝓛 (some (λ (zs : Unit {0} × (Unit {0} × (List (List Float) × (Unit {0} × Unit {0})))). ‵ (lasts act.ended (κ₃, (ν ∷ [], tt)) (t.u, (refF, (lent δ, (c, tt)))) zs) ⊛ (raw (fact 𝓤 (s ≡ here)) ⊛ raw (fact 𝓤 (zs.1.1.0 ≡ binsAfter here fs t.bs))))) (id⊢ 𝓤 _) $ pick ! (λ zs.
-          split ! $ move ! (1 ∷ []) $ split ! $ heard ! (s ≡ here) (λ es. heard ! (zs.1.1.0 ≡ binsAfter here fs t.bs) (λ ez.
+          use1 𝓛 (later (some (λ (s : Step). ((‵ (flft κ₃ q₃) ⊛ (‵ (flft (ν ∷ []) full_share) ⊛ ‵ ftrue)) ⊛ ‵ ((S.the_row).own_val s (v ∷ []))) ⊛ raw (ensured 𝓛 act.ended (act.clauses 𝓛 mem run) (κ₃, (ν ∷ [], tt)) (t.u, (ref_f, (lent δ, (c, tt)))) tt s)))) (id⊢ 𝓤 _) $ await ! tt $ pick ! (λ s.
+          split ! $ move ! (1 ∷ []) $ use1 𝓛 (some (λ (zs : Unit {0} × (Unit {0} × (List (List Float) × (Unit {0} × Unit {0})))). ‵ (lasts act.ended (κ₃, (ν ∷ [], tt)) (t.u, (ref_f, (lent δ, (c, tt)))) zs) ⊛ (raw (fact 𝓤 (s ≡ here)) ⊛ raw (fact 𝓤 (zs.1.1.0 ≡ bins_after here fs t.bs))))) (id⊢ 𝓤 _) $ pick ! (λ zs.
+          split ! $ move ! (1 ∷ []) $ split ! $ heard ! (s ≡ here) (λ es. heard ! (zs.1.1.0 ≡ bins_after here fs t.bs) (λ ez.
           fsplit ! $ drop ! $ fsplit ! $ drop ! $ fsplit ! $ fsplit ! $ move ! (1 ∷ []) $ feq_l ! (λ lz. move ! (2 ∷ []) $ split ! $ move ! (1 ∷ []) $
           facts ! S.the_row (Is S.the_row) (shows 𝓛 S.the_row) s (v ∷ []) (λ is.
           -- [κ₃, ν and true; the last list; true; what is kept; shapes; commands; κ₀; pulses; κ₂; _24; …]
@@ -328,7 +328,7 @@ module _ {M : Type 1} {𝓤 : Ura M} (𝓛 : Logic 𝓤) (mem : Memory → SProp
           acts-on (more is-more) s zs.1.1.0 es ez lz (subst (Is S.the_row s) (LL.tells S.the_type S'.the_laws s (v ∷ []) is) is))))))))))))
           (λ no-more-left. jumps ! $ exec ! C Λ En t-11 (at_ret En Post) $ forget ! 22 refl $ forget ! 24 refl $
           calls-plain ! 8 fm (Ends 𝓛 mem run) done-known (to-done 𝓛 mem run t.u t.k) (goes-done 𝓛 mem run t.u t.k t.good k-fits) (and_then ! (cell ! 9 refl) (and_then ! (cell ! 9 refl) (no_more !)))
-          X.the_row valX (LL.tells X.the_type X'.the_laws) (typedX 𝓛) (done-of 𝓛 mem run t.u t.k) (λ _. id⊢ 𝓤 _) refl (λ r er ir.
+          X.the_row val_x (LL.tells X.the_type X'.the_laws) (typed_x 𝓛) (done-of 𝓛 mem run t.u t.k) (λ _. id⊢ 𝓤 _) refl (λ r er ir.
           returns ! (look ! 56 refl) $ forget ! 42 refl $ forget ! 44 refl $
           leaves t.bs t.ps r ir t.long-b t.long-p (rw er (at-end cs t.k t.u fs t.bs t.ps (nltb→le t.k (length cs) no-more-left) ∙ t.left))))
         where
@@ -359,19 +359,19 @@ module _ {M : Type 1} {𝓤 : Ura M} (𝓛 : Logic 𝓤) (mem : Memory → SProp
         (and_then ! (cell ! 9 refl) (and_then ! (cell ! 9 refl) (and_then ! (cell ! 9 refl) (and_then ! (cell ! 9 refl) (no_more !))))) Boolean vbool (λ r vs e. e) (λ r e. (tt, tt)) (fits-of 𝓛 mem run (length cs) (length fs) (length bs₀) (length ps₀)) (λ _. id⊢ 𝓤 _) refl (λ r e _.
         into ! 8 (un ! (cell ! 8 refl) tt) refl (tt, tt) $
         first ! $ branches ! (cell ! 8 refl)
-        (λ wrong. calls-plain ! 8 fm (Misfits 𝓛 mem run) misfit-known (to-misfit 𝓛 mem run t₀) (goes-misfit 𝓛 mem run t₀ gt) (and_then ! (cell ! 9 refl) (no_more !))
-        X.the_row valX (LL.tells X.the_type X'.the_laws) (typedX 𝓛) (misfit-of 𝓛 mem run t₀) (λ _. id⊢ 𝓤 _) refl (λ x ex ix.
+        (λ wrong. calls-plain ! 8 fm (Misfits 𝓛 mem run) misfit-known (to_misfit 𝓛 mem run t₀) (goes_misfit 𝓛 mem run t₀ gt) (and_then ! (cell ! 9 refl) (no_more !))
+        X.the_row val_x (LL.tells X.the_type X'.the_laws) (typed_x 𝓛) (misfit_of 𝓛 mem run t₀) (λ _. id⊢ 𝓤 _) refl (λ x ex ix.
         returns_within ! Post refl (look ! 56 refl) $ forget ! 26 refl $ forget ! 28 refl $ forget ! 30 refl $ forget ! 32 refl $ forget ! 34 refl $ forget ! 36 refl $
         leaves bs₀ ps₀ x ix refl refl (rw ex (misfits r e wrong))))
         (λ right. skips ! $ exec ! C Λ En t-8 (at_ret En Post) $
-        into ! 8 (of_opd ! (cell ! 8 refl)) refl (typedU 𝓛 t₀ gt) $
+        into ! 8 (of_opd ! (cell ! 8 refl)) refl (typed_u 𝓛 t₀ gt) $
         into ! 8 (of_opd ! (lit ! tt)) refl (tt, record { fits = lit< tt }) $ forget ! 26 refl $ forget ! 28 refl $ forget ! 30 refl $ forget ! 32 refl $ forget ! 34 refl $ forget ! 36 refl $
         looped (rows_fit (length cs) (length fs) (length bs₀) (length ps₀) (fits r e right)) (begun t₀ fs cs bs₀ ps₀ gt (fits r e right))))
       where
         fit : Bool
-        fit = sizesFit (length cs) (length fs) (length bs₀) (length ps₀)
+        fit = sizes_fit (length cs) (length fs) (length bs₀) (length ps₀)
 
-        misfits : (r : Bool) → r ≡ fit → T (not r) → ranTo (refusedAt t₀ WrongSize 0) bs₀ ps₀ ≡ executed t₀ fs cs bs₀ ps₀
+        misfits : (r : Bool) → r ≡ fit → T (not r) → ran_to (refused_at t₀ WrongSize 0) bs₀ ps₀ ≡ executed t₀ fs cs bs₀ ps₀
         misfits r e wrong = rw (sym e ∙ is_false r wrong)
 
         fits : (r : Bool) → r ≡ fit → T (not (not r)) → fit ≡ true
@@ -380,12 +380,12 @@ module _ {M : Type 1} {𝓤 : Ura M} (𝓛 : Logic 𝓤) (mem : Memory → SProp
   walk : (𝓣 : Routines 𝓤 H) → Triple 𝓤 (𝓣.C #sizes-fit) (SizesFit 𝓛 mem run) → Triple 𝓤 (𝓣.C #misfit) (Misfits 𝓛 mem run) → Triple 𝓤 (𝓣.C #act) (Acts 𝓛 mem run) → Triple 𝓤 (𝓣.C #refused) (Refuses 𝓛 mem run)
       → Triple 𝓤 (𝓣.C #store) (Stores 𝓛 mem run) → Triple 𝓤 (𝓣.C #ended) (Ends 𝓛 mem run)
       → ent 𝓤 (on_entry 𝓛 f.signature (κ₃, (κ₀, (κ₁, (κ₂, tt)))) (q₃, (q₀, (q₁, (q₂, tt)))) args at)
-      (WpFn 𝓤 H 𝓣.C 𝓣.Λ code.function (valU t₀ ∷ slice_val (b₃, o₃) (length fs) ∷ slice_val (b₀, o₀) (length cs) ∷ slice_val (b₁, o₁) (length bs₀) ∷ slice_val (b₂, o₂) (length ps₀) ∷ []) Post)
+      (WpFn 𝓤 H 𝓣.C 𝓣.Λ code.function (val_u t₀ ∷ slice_val (b₃, o₃) (length fs) ∷ slice_val (b₀, o₀) (length cs) ∷ slice_val (b₁, o₁) (length bs₀) ∷ slice_val (b₂, o₂) (length ps₀) ∷ []) Post)
   walk 𝓣 k₁ k₂ k₃ k₄ k₅ k₆ =
       qed 𝓛 ((‵ (flft κ₃ q₃) ⊛ (‵ (flft κ₀ q₀) ⊛ (‵ (flft κ₁ q₁) ⊛ (‵ (flft κ₂ q₂) ⊛ ‵ ftrue)))) ∷ ‵ (owns (U.the_row ∷ ShrSlice (named 0) κ₃ Numbers ∷ ShrSlice (named 1) κ₀ N.the_row ∷ MutSlice (named 2) κ₁ BinRow ∷ MutSlice (named 3) κ₂ P.the_row ∷ []) args at) ∷ []) ∵
-      enter ! 𝓣.C 𝓣.Λ code.function (valU t₀ ∷ slice_val (b₃, o₃) (length fs) ∷ slice_val (b₀, o₀) (length cs) ∷ slice_val (b₁, o₁) (length bs₀) ∷ slice_val (b₂, o₂) (length ps₀) ∷ []) _ $
+      enter ! 𝓣.C 𝓣.Λ code.function (val_u t₀ ∷ slice_val (b₃, o₃) (length fs) ∷ slice_val (b₀, o₀) (length cs) ∷ slice_val (b₁, o₁) (length bs₀) ∷ slice_val (b₂, o₂) (length ps₀) ∷ []) _ $
       alloc1 ! (λ l₀. alloc1 ! (λ l₁. alloc1 ! (λ l₂. alloc1 ! (λ l₃. alloc1 ! (λ l₄. alloc1 ! (λ l₅. alloc1 ! (λ l₆. alloc1 ! (λ l₇. alloc1 ! (λ l₈. alloc1 ! (λ l₉. alloc1 ! (λ l₁₀. alloc1 ! (λ l₁₁. alloc1 ! (λ l₁₂. alloc1 ! (λ l₁₃. alloc1 ! (λ l₁₄. alloc1 ! (λ l₁₅. alloc1 ! (λ l₁₆. alloc1 ! (λ l₁₇. alloc1 ! (λ l₁₈. alloc1 ! (λ l₁₉. alloc1 ! (λ l₂₀. alloc1 ! (λ l₂₁. alloc1 ! (λ l₂₂. alloc1 ! (λ l₂₃. alloc1 ! (λ l₂₄. alloc0 ! $ params1 ! $
-      pass1 ! (init ! 46 refl (typedU 𝓛 t₀ gt)) $ pass1 ! (init ! 44 refl (tt, (tt, (record { fits = gf.0 }, tt)))) $ pass1 ! (init ! 42 refl (tt, (tt, (record { fits = gc.0 }, tt)))) $ pass1 ! (init ! 40 refl (tt, (tt, (record { fits = gb.0 }, tt)))) $ pass1 ! (init ! 38 refl (tt, (tt, (record { fits = gp.0 }, tt)))) $ pass0 ! $
+      pass1 ! (init ! 46 refl (typed_u 𝓛 t₀ gt)) $ pass1 ! (init ! 44 refl (tt, (tt, (record { fits = gf.0 }, tt)))) $ pass1 ! (init ! 42 refl (tt, (tt, (record { fits = gc.0 }, tt)))) $ pass1 ! (init ! 40 refl (tt, (tt, (record { fits = gb.0 }, tt)))) $ pass1 ! (init ! 38 refl (tt, (tt, (record { fits = gp.0 }, tt)))) $ pass0 ! $
       move ! (50 ∷ 51 ∷ []) $ split ! $ move ! (1 ∷ []) $ split ! $ move ! (1 ∷ []) $ split ! $ move ! (1 ∷ []) $ split ! $ move ! (5 ∷ []) $ fsplit ! $ move ! (1 ∷ []) $ fsplit ! $ move ! (1 ∷ []) $ fsplit ! $ move ! (1 ∷ []) $ fsplit ! $ move ! (1 ∷ []) $ fsplit ! $
       -- [pulses; true; bins; commands; shapes; t's; κ₂; true; κ₁; κ₀; κ₃; _24; …]
       move ! (3 ∷ 9 ∷ 4 ∷ 10 ∷ 2 ∷ 8 ∷ 0 ∷ 6 ∷ []) $ move ! (8 ∷ []) $ drop ! $ move ! (8 ∷ []) $ drop ! $ move ! (8 ∷ []) $ drop ! $

@@ -1,7 +1,7 @@
 -- `commands::play::kind_at` meets its contract. Assumes nothing.
 use mathlib.Core.Path.{ap, ◌∙◌}
 use mathlib.Core.List.{[]}
-use Rattle.pulse.specs.Bin.{noNumbers, kind_of}
+use Rattle.pulse.specs.Bin.{no_numbers, kind_of}
 use Rattle.commands.proofs.Rows.{same-within}
 use borrow.Author.Rules.{rules}
 use Rattle.commands.proofs.play.kind_at.Statement.{statement}
@@ -17,7 +17,7 @@ kind-of-requires : tie.Need-kind-of-requires
 kind-of-requires c κs = search rules
 
 returns : tie.Need-returns
-returns c = let s = c.before.before in c.kind-of.ensures ∙ ap kind_of (same-within s.args.splines.now s.args.k [] noNumbers s.requires)
+returns c = let s = c.before.before in c.kind-of.ensures ∙ ap kind_of (same-within s.args.splines.now s.args.k [] no_numbers s.requires)
 
 pub kind-at-spec : {M : Type 1} → statement M
 kind-at-spec =

@@ -4,7 +4,7 @@ use mathlib.Core.List.{List, [], ◌++◌}
 use lib.Ieee.{Float}
 use Rattle.pulse.specs.Bin.{place_of}
 use Rattle.pulse.proofs.Rows.{place-plain}
-use Rattle.commands.specs.Step.{numbersAt}
+use Rattle.commands.specs.Step.{numbers_at}
 use borrow.Author.Rules.{rules}
 use Rattle.commands.proofs.play.place_with.Statement.{statement}
 use Rattle.commands.proofs.play.place_with.Tie as tie
@@ -40,7 +40,7 @@ returns-2 c =
     let at = c.before.before.before in
     let five = at.well-formed.1.1.0.1.0.1 in
     let plain = c.before.before.if1.false in
-    let numbers = numbersAt at.args.splines.now at.args.spline in
+    let numbers = numbers_at at.args.splines.now at.args.spline in
     let without = place-plain at.args.t3 [] at.args.rows.now five plain in
     c.place2.ensures ∙ without ∙ sym (place-plain at.args.t3 numbers at.args.rows.now five plain)
 

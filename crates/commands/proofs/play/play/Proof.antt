@@ -4,7 +4,7 @@ use native.Mathlib.Omega.{arith}
 use mathlib.Core.Path.{sym, ◌∙◌}
 use Rattle.tables.proofs.Finding.{shape-eight}
 use Rattle.tables.proofs.Sizes.{eight-shapes}
-use Rattle.commands.specs.Play.{playedBy}
+use Rattle.commands.specs.Play.{played_by}
 use borrow.Author.Rules.{rules}
 use Rattle.commands.proofs.play.play.Statement.{statement}
 use Rattle.commands.proofs.play.play.Tie as tie
@@ -36,13 +36,13 @@ stops-requires : tie.Need-stops-requires
 stops-requires c κs = search rules
 
 returns : tie.Need-returns
-unfolding playedBy
+unfolding played_by
 returns c =
     let d = c.before.before.before.before.before in
     rw (c.play-as.ensures, c.before.kind_at.ensures, d.before.before.if1.true, sym d.find-shape.ensures ∙ c.before.before.before.k.given.1)
 
 returns-2 : tie.Need-returns-2
-unfolding playedBy
+unfolding played_by
 returns-2 c =
     let d = c.before.before.before in
     rw (c.stops.ensures, d.before.before.if1.true, sym d.find-shape.ensures ∙ c.before.enum_told.given.1)

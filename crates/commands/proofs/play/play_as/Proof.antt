@@ -6,8 +6,8 @@ use mathlib.Core.Bool.{true, false}
 use lib.Ieee.{lt}
 use Rattle.exact.specs.Doubles.{nought}
 use Rattle.tables.proofs.Finding.{found-eight}
-use Rattle.tables.proofs.Sizes.{eight-channels}
-use Rattle.commands.specs.Play.{plateauOf, playedAt}
+use Rattle.tables.proofs.Sizes.{eight_channels}
+use Rattle.commands.specs.Play.{plateau_of, played_at}
 use borrow.Author.Rules.{rules}
 use Rattle.commands.proofs.play.play_as.Statement.{statement}
 use Rattle.commands.proofs.play.play_as.Tie as tie
@@ -19,10 +19,10 @@ stops-requires : tie.Need-stops-requires
 stops-requires c κs = search rules
 
 returns : tie.Need-returns
-unfolding playedAt
+unfolding played_at
 returns c =
     let a = c.before.before.before.before.args in
-    let low : lt (plateauOf a.p a.span.0) nought ≡ true = rw c.before.before.before.plateau-of.ensures at c.before.if1.true in
+    let low : lt (plateau_of a.p a.span.0) nought ≡ true = rw c.before.before.before.plateau-of.ensures at c.before.if1.true in
     rw (c.stops.ensures, low)
 
 find-requires : tie.Need-find-requires
@@ -37,7 +37,7 @@ module _ (c : tie.After-known-told) where
       let d = c.before.before.before in
       let s = d.before.before.before.before.before in
       let a = s.args in
-      found-eight a.t1 a.p.channel _ (eight-channels a.t1 _ s.well-formed.0) (sym d.find.ensures ∙ c.before.i.given.1)
+      found-eight a.t1 a.p.channel _ (eight_channels a.t1 _ s.well-formed.0) (sym d.find.ensures ∙ c.before.i.given.1)
 
 mul-c : tie.Need-overflow-mul-c
 mul-c c = let below = there c in omega arith
@@ -55,19 +55,19 @@ stops-requires-2 : tie.Need-stops-requires-2
 stops-requires-2 c κs = search rules
 
 returns-2 : tie.Need-returns-2
-unfolding playedAt
+unfolding played_at
 returns-2 c =
     let d = c.before.before.before.before.before in
     let a = d.before.before.before.before.before.args in
-    let low : lt (plateauOf a.p a.span.0) nought ≡ false = rw d.before.before.before.before.plateau-of.ensures at d.before.before.if1.false in
+    let low : lt (plateau_of a.p a.span.0) nought ≡ false = rw d.before.before.before.before.plateau-of.ensures at d.before.before.if1.false in
     rw (c.push.ensures, low, sym d.find.ensures ∙ c.before.before.before.i.given.1)
 
 returns-3 : tie.Need-returns-3
-unfolding playedAt
+unfolding played_at
 returns-3 c =
     let d = c.before.before.before in
     let a = d.before.before.before.before.before.args in
-    let low : lt (plateauOf a.p a.span.0) nought ≡ false = rw d.before.before.before.before.plateau-of.ensures at d.before.before.if1.false in
+    let low : lt (plateau_of a.p a.span.0) nought ≡ false = rw d.before.before.before.before.plateau-of.ensures at d.before.before.if1.false in
     rw (c.stops2.ensures, low, sym d.find.ensures ∙ c.before.enum_told.given.1)
 
 pub play-as-spec : {M : Type 1} → statement M

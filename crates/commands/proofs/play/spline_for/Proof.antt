@@ -1,5 +1,5 @@
 -- `commands::play::spline_for` meets its contract. Assumes nothing.
-use Rattle.commands.specs.Play.{splineFor}
+use Rattle.commands.specs.Play.{spline_for}
 use borrow.Author.Rules.{rules}
 use Rattle.commands.proofs.play.spline_for.Statement.{statement}
 use Rattle.commands.proofs.play.spline_for.Tie as tie
@@ -14,15 +14,15 @@ enum-told-3 : tie.Need-enum-told-3
 enum-told-3 c = search rules
 
 returns : tie.Need-returns
-unfolding splineFor
+unfolding spline_for
 returns c = rw c.enum_told.given.1
 
 returns-2 : tie.Need-returns-2
-unfolding splineFor
+unfolding spline_for
 returns-2 c = rw c.enum-told2.given.1
 
 returns-3 : tie.Need-returns-3
-unfolding splineFor
+unfolding spline_for
 returns-3 c = rw c.enum-told3.given.1
 
 pub spline-for-spec : {M : Type 1} → statement M

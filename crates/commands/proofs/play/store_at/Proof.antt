@@ -1,7 +1,7 @@
 -- `commands::play::store_at` meets its contract. Assumes nothing.
 use borrow.Author.Rules.{rules}
 use Rattle.commands.specs.Play.{stores, stored_at}
-use Rattle.commands.specs.Step.{numbersAt, stops}
+use Rattle.commands.specs.Step.{numbers_at, stops}
 use Rattle.commands.specs.declared.step.Step.{Step}
 use Rattle.pulse.specs.Bin.{place_of}
 use Rattle.quant.specs.declared.refusal.Refusal.TheVariants.{Full}
@@ -12,7 +12,7 @@ use mathlib.Core.List.{◌++◌}
 use mathlib.Core.Path.{◌≡◌, sym, ap, ◌∙◌}
 use Prim.Native.Nat.{ℕ, ◌+◌, ◌*◌, ◌-◌, ◌≤◌}
 use Rattle.commands.proofs.Rows.{most, not_full, place-most, stored_is}
-use Rattle.tables.specs.Tables.{channelAt}
+use Rattle.tables.specs.Tables.{channel_at}
 use Rattle.tables.specs.declared.Channel.{Channel}
 use lib.ListN.{length}
 use native.Mathlib.Omega.{arith}
@@ -30,7 +30,7 @@ module _ (d : tie.After-at-most-64) where
   fit = rw d.at-most-64.ensures (most d.before.args.c.bins)
 
   -- how many, by the tables
-  many_is : let c = channelAt d.before.args.t d.before.args.i in d.at-most-64.result ≡ cond (ltb c.bins 64) c.bins 64
+  many_is : let c = channel_at d.before.args.t d.before.args.i in d.at-most-64.result ≡ cond (ltb c.bins 64) c.bins 64
   many_is = d.at-most-64.ensures ∙ ap (λ (c : Channel). cond (ltb c.bins 64) c.bins 64) d.before.pre.1
 
 add-place-with : tie.Need-overflow-add-place-with
@@ -56,11 +56,11 @@ module _ (d : tie.After-place-with) where
   abbrev many : ℕ
   many = d.before.before.at-most-64.result
 
-  placed : d.place-with.result ≡ place_of (d.before.before.before.args.head ++ numbersAt d.before.before.before.args.splines.now d.before.before.before.args.spline) (take many (drop (64 * d.before.before.before.args.i) d.before.before.before.args.bins.now))
+  placed : d.place-with.result ≡ place_of (d.before.before.before.args.head ++ numbers_at d.before.before.before.args.splines.now d.before.before.before.args.spline) (take many (drop (64 * d.before.before.before.args.i) d.before.before.before.args.bins.now))
   placed =
       let a = d.before.before.before.args in
       let size : 64 * a.i + many - 64 * a.i ≡ many = omega arith in
-      d.place-with.ensures ∙ ap (λ (k : ℕ). place_of (a.head ++ numbersAt a.splines.now a.spline) (take k (drop (64 * a.i) a.bins.now))) size
+      d.place-with.ensures ∙ ap (λ (k : ℕ). place_of (a.head ++ numbers_at a.splines.now a.spline) (take k (drop (64 * a.i) a.bins.now))) size
 
   most-place : d.place-with.result ≤ 64
   most-place =
@@ -72,7 +72,7 @@ module _ (d : tie.After-place-with) where
 
   abbrev full : Bool
   full =
-      let c = channelAt d.before.before.before.args.t d.before.before.before.args.i in
+      let c = channel_at d.before.before.before.args.t d.before.before.before.args.i in
       (leb many d.place-with.result && leb 64 c.bins) || leb 1024 c.pulses
 
   same_full : let c = d.before.before.before.args.c in ((leb many d.place-with.result && leb 64 c.bins) || leb 1024 c.pulses) ≡ full

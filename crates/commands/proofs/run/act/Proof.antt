@@ -4,9 +4,9 @@ use native.Mathlib.Omega.{arith}
 use mathlib.Core.Path.{◌≡◌, sym, ap, subst, ◌∙◌}
 use mathlib.Core.List.{◌++◌}
 use lib.ListN.{set}
-use Rattle.tables.proofs.Sizes.{eight-channels}
+use Rattle.tables.proofs.Sizes.{eight_channels}
 use Rattle.commands.specs.declared.step.Step.{Step}
-use Rattle.commands.specs.Step.{numbersAt, binsAfter}
+use Rattle.commands.specs.Step.{numbers_at, bins_after}
 use Rattle.commands.proofs.Cases.{Within, step-within}
 use borrow.Author.Rules.{rules}
 use Rattle.commands.proofs.run.act.Statement.{statement}
@@ -27,7 +27,7 @@ module _ (c : tie.Then1) where
   inside =
       let s = c.before.before.before in
       let a = s.args in
-      let within = step-within a.t a.splines.now a.bins.now (eight-channels a.t _ s.well-formed.0) a.a in
+      let within = step-within a.t a.splines.now a.bins.now (eight_channels a.t _ s.well-formed.0) a.a in
       (subst Within (sym c.before.step.ensures) within).row c.if1.true
 
 mul-t13 : tie.Need-overflow-mul-t13
@@ -45,9 +45,9 @@ returns c =
     let a = d.before.before.before.args in
     let s = d.before.step.result in
     let eq = d.before.step.ensures in
-    let row : c.row_of.result ≡ s.head ++ numbersAt a.splines.now s.spline = rw (c.row_of.ensures, c.before.before.numbers-at.ensures) in
-    let wrote : set a.bins.now s.at c.row_of.result ≡ binsAfter s a.splines.now a.bins.now = rw (d.if1.true, row) in
-    (eq, wrote ∙ ap (λ (s : Step). binsAfter s a.splines.now a.bins.now) eq)
+    let row : c.row_of.result ≡ s.head ++ numbers_at a.splines.now s.spline = rw (c.row_of.ensures, c.before.before.numbers-at.ensures) in
+    let wrote : set a.bins.now s.at c.row_of.result ≡ bins_after s a.splines.now a.bins.now = rw (d.if1.true, row) in
+    (eq, wrote ∙ ap (λ (s : Step). bins_after s a.splines.now a.bins.now) eq)
 
 same-length-2 : tie.Need-same-length-2
 same-length-2 c = search rules
@@ -56,8 +56,8 @@ returns-2 : tie.Need-returns-2
 returns-2 c =
     let a = c.before.before.before.args in
     let eq = c.before.step.ensures in
-    let stayed : a.bins.now ≡ binsAfter c.before.step.result a.splines.now a.bins.now = rw c.if1.false in
-    (eq, stayed ∙ ap (λ (s : Step). binsAfter s a.splines.now a.bins.now) eq)
+    let stayed : a.bins.now ≡ bins_after c.before.step.result a.splines.now a.bins.now = rw c.if1.false in
+    (eq, stayed ∙ ap (λ (s : Step). bins_after s a.splines.now a.bins.now) eq)
 
 pub act-spec : {M : Type 1} → statement M
 act-spec =

@@ -1,6 +1,6 @@
 -- `commands::step::moved_by` meets its contract. Assumes nothing.
 use borrow.Author.Rules.{rules}
-use Rattle.commands.specs.Step.{movedBy}
+use Rattle.commands.specs.Step.{moved_by}
 use Rattle.commands.proofs.step.moved_by.Statement.{statement}
 use Rattle.commands.proofs.step.moved_by.Tie as tie
 
@@ -47,31 +47,31 @@ unmoved-requires-3 : tie.Need-unmoved-requires-3
 unmoved-requires-3 c κs = search rules
 
 returns : tie.Need-returns
-unfolding movedBy
+unfolding moved_by
 returns c = rw (c.shift-phase.ensures, c.before.before.c.given.1)
 
 returns-2 : tie.Need-returns-2
-unfolding movedBy
+unfolding moved_by
 returns-2 c = rw (c.set-phase.ensures, c.before.before.c2.given.1)
 
 returns-3 : tie.Need-returns-3
-unfolding movedBy
-returns-3 c = rw (c.shift-freq.ensures, c.before.before.c3.given.1)
+unfolding moved_by
+returns-3 c = rw (c.shift_freq.ensures, c.before.before.c3.given.1)
 
 returns-4 : tie.Need-returns-4
-unfolding movedBy
-returns-4 c = rw (c.set-freq.ensures, c.before.before.c4.given.1)
+unfolding moved_by
+returns-4 c = rw (c.set_freq.ensures, c.before.before.c4.given.1)
 
 returns-5 : tie.Need-returns-5
-unfolding movedBy
+unfolding moved_by
 returns-5 c = rw (c.unmoved.ensures, c.before.enum_told.given.1)
 
 returns-6 : tie.Need-returns-6
-unfolding movedBy
+unfolding moved_by
 returns-6 c = rw (c.unmoved2.ensures, c.before.enum-told2.given.1)
 
 returns-7 : tie.Need-returns-7
-unfolding movedBy
+unfolding moved_by
 returns-7 c = rw (c.unmoved3.ensures, c.before.enum-told3.given.1)
 
 pub moved-by-spec : {M : Type 1} → statement M

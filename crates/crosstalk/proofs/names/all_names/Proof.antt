@@ -4,9 +4,9 @@ use Prim.Native.Nat.{◌-◌, ◌≤◌}
 use native.Mathlib.Omega.{arith}
 use mathlib.Core.Path.{◌≡◌, refl, sym, ◌∙◌}
 use lib.ListN.{drop}
-use Rattle.crosstalk.specs.Crosstalk.{namesIn, allNames}
+use Rattle.crosstalk.specs.Crosstalk.{names_in, all_names}
 use Rattle.quant.proofs.Judging.{taken, passed}
-use Rattle.tables.specs.Tables.{noName}
+use Rattle.tables.specs.Tables.{no_name}
 use Rattle.tables.proofs.Finding.{none_left, next-left}
 use Rattle.crosstalk.proofs.Sizes.{eight-names}
 use Rattle.crosstalk.proofs.Scanning.{names-end, names-bad, names-later}
@@ -14,7 +14,7 @@ use Rattle.crosstalk.proofs.names.all_names.Statement.{statement}
 use Rattle.crosstalk.proofs.names.all_names.Tie as tie
 
 abbrev invariant-loop : tie.invariant-loop
-invariant-loop c i₀ i = (i ≤ c.count) × (allNames (drop i (namesIn c)) ≡ allNames (namesIn c))
+invariant-loop c i₀ i = (i ≤ c.count) × (all_names (drop i (names_in c)) ≡ all_names (names_in c))
 
 abbrev decreases-loop : tie.decreases-loop
 decreases-loop c i₀ i = c.count - i
@@ -37,7 +37,7 @@ returns c =
     let a = s.args.t1 in
     let at = c.before.before.before.before.loop in
     let whole = eight-names a _ s.well-formed.0 in
-    let cell = next-left a.names a.count at.i noName (omega arith) (omega (arith, whole)) in
+    let cell = next-left a.names a.count at.i no_name (omega arith) (omega (arith, whole)) in
     sym (names-bad _ _ _ cell (taken _ _ c.before.is_name.ensures c.if1.true)) ∙ at.invariant.1
 
 add-i : tie.Need-overflow-add-i invariant-loop decreases-loop
@@ -52,7 +52,7 @@ loop-again c =
     let a = s.args.t1 in
     let at = c.before.before.before.before.loop in
     let whole = eight-names a _ s.well-formed.0 in
-    let cell = next-left a.names a.count at.i noName (omega arith) (omega (arith, whole)) in
+    let cell = next-left a.names a.count at.i no_name (omega arith) (omega (arith, whole)) in
     (omega arith, names-later _ _ _ cell (passed _ _ c.before.is_name.ensures c.if1.false) ∙ at.invariant.1)
 
 returns-2 : tie.Need-returns-2 invariant-loop decreases-loop

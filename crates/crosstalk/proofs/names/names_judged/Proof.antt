@@ -7,27 +7,27 @@ use mathlib.Core.Path.{◌≡◌, refl, sym, ap, ◌∙◌}
 use mathlib.Core.Bool.{false}
 use mathlib.Core.List.{[]}
 use lib.ListN.{take, drop, get_or}
-use Rattle.naming.specs.Name.{isIn}
+use Rattle.naming.specs.Name.{is_in}
 use Rattle.quant.specs.declared.refusal.Answer.TheVariants.{Done}
 use Rattle.quant.proofs.Judging.{taken, passed}
-use Rattle.tables.specs.Tables.{noName}
+use Rattle.tables.specs.Tables.{no_name}
 use Rattle.tables.proofs.Finding.{none_left, next-left}
-use Rattle.crosstalk.specs.Crosstalk.{namesIn, isKnown, namesJudged}
+use Rattle.crosstalk.specs.Crosstalk.{names_in, is_known, names_judged}
 use Rattle.crosstalk.proofs.Sizes.{eight-names}
-use Rattle.crosstalk.proofs.Scanning.{in_end, in-here, in-later, judged-end, judged-next}
+use Rattle.crosstalk.proofs.Scanning.{in_end, in_here, in_later, judged-end, judged-next}
 use Rattle.crosstalk.proofs.names.names_judged.Statement.{statement}
 use Rattle.crosstalk.proofs.names.names_judged.Tie as tie
 
 abbrev invariant-loop : tie.invariant-loop
 invariant-loop t c answer₀ i k₀ answer k =
-    let n = get_or c.names i noName in
-    (answer ≡ Done 0) × (k ≤ i) × (isIn n (drop k (take i c.names)) ≡ isIn n (take i c.names))
+    let n = get_or c.names i no_name in
+    (answer ≡ Done 0) × (k ≤ i) × (is_in n (drop k (take i c.names)) ≡ is_in n (take i c.names))
 
 abbrev decreases-loop : tie.decreases-loop
 decreases-loop t c answer₀ i k₀ answer k = i - k
 
 abbrev invariant-scan : tie.invariant-scan
-invariant-scan t c answer₀ i₀ answer i = (answer ≡ Done 0) × (i ≤ c.count) × (namesJudged t (take i c.names) (drop i (namesIn c)) ≡ namesJudged t [] (namesIn c))
+invariant-scan t c answer₀ i₀ answer i = (answer ≡ Done 0) × (i ≤ c.count) × (names_judged t (take i c.names) (drop i (names_in c)) ≡ names_judged t [] (names_in c))
 
 abbrev decreases-scan : tie.decreases-scan
 decreases-scan t c answer₀ i₀ answer i = c.count - i
@@ -69,8 +69,8 @@ loop-again c =
     let outer = c.before.before.before.before.before.before.before.scan in
     let at = c.before.before.before.before.before.loop in
     let whole = eight-names a _ s.well-formed.1.0 in
-    let cell = next-left a.names outer.i at.k noName (omega arith) (omega (arith, whole)) in
-    (at.invariant.0, omega arith, in-later _ _ _ cell _ (sym c.before.same.ensures ∙ c.if1.false) ∙ at.invariant.2)
+    let cell = next-left a.names outer.i at.k no_name (omega arith) (omega (arith, whole)) in
+    (at.invariant.0, omega arith, in_later _ _ _ cell _ (sym c.before.same.ensures ∙ c.if1.false) ∙ at.invariant.2)
 
 mul-find : tie.Need-overflow-mul-find invariant-loop decreases-loop invariant-scan decreases-scan
 mul-find c = search rules
@@ -96,7 +96,7 @@ scan-less c = search rules
 -- no name before i is name i
 new : (c : tie.After-loop invariant-loop decreases-loop invariant-scan decreases-scan)
     → let a = c.before.before.before.before.args.t2 in
-    let i = c.before.before.before.scan.i in isIn (get_or a.names i noName) (take i a.names) ≡ false
+    let i = c.before.before.before.scan.i in is_in (get_or a.names i no_name) (take i a.names) ≡ false
 new c =
     let a = c.before.before.before.before.args.t2 in
     let at = c.before.loop in
@@ -109,7 +109,7 @@ scan-again c =
     let outer = c.before.before.before.before.before.before.before.scan in
     let at = c.before.before.before.before.before.loop in
     let whole = eight-names a _ s.well-formed.1.0 in
-    let known = ap isKnown (sym c.before.before.find.ensures) ∙ passed _ _ c.before.is_Known.ensures c.if2.false in
+    let known = ap is_known (sym c.before.before.find.ensures) ∙ passed _ _ c.before.is_Known.ensures c.if2.false in
     let next = rw (new c.before.before.before.before, known) at (judged-next s.args.t a.names a.count outer.i (omega arith) (omega (arith, whole))) in
     (at.invariant.0, omega arith, sym next ∙ outer.invariant.2)
 
@@ -127,8 +127,8 @@ returns-2 c =
     let outer = c.before.before.before.before.before.before.before.scan in
     let at = c.before.before.before.before.before.loop in
     let whole = eight-names a _ s.well-formed.1.0 in
-    let cell = next-left a.names outer.i at.k noName (omega arith) (omega (arith, whole)) in
-    let stood = sym at.invariant.2 ∙ in-here _ _ _ cell _ (sym c.before.same.ensures ∙ c.if1.true) in
+    let cell = next-left a.names outer.i at.k no_name (omega arith) (omega (arith, whole)) in
+    let stood = sym at.invariant.2 ∙ in_here _ _ _ cell _ (sym c.before.same.ensures ∙ c.if1.true) in
     let next = rw stood at (judged-next s.args.t a.names a.count outer.i (omega arith) (omega (arith, whole))) in
     sym next ∙ outer.invariant.2
 
@@ -138,7 +138,7 @@ returns-3 c =
     let a = s.args.t2 in
     let outer = c.before.before.before.before.before.before.before.scan in
     let whole = eight-names a _ s.well-formed.1.0 in
-    let unknown = ap isKnown (sym c.before.before.find.ensures) ∙ taken _ _ c.before.is_Known.ensures c.if2.true in
+    let unknown = ap is_known (sym c.before.before.find.ensures) ∙ taken _ _ c.before.is_Known.ensures c.if2.true in
     let next = rw (new c.before.before.before.before, unknown) at (judged-next s.args.t a.names a.count outer.i (omega arith) (omega (arith, whole))) in
     sym next ∙ outer.invariant.2
 

@@ -4,8 +4,8 @@ use Prim.Native.Nat.{◌-◌, ◌≤◌}
 use native.Mathlib.Omega.{arith}
 use mathlib.Core.Path.{◌≡◌, refl, sym, ◌∙◌}
 use lib.ListN.{drop}
-use Rattle.crosstalk.specs.Crosstalk.{namesIn, rowFrom, row_of}
-use Rattle.tables.specs.Tables.{noName}
+use Rattle.crosstalk.specs.Crosstalk.{names_in, row_from, row_of}
+use Rattle.tables.specs.Tables.{no_name}
 use Rattle.tables.proofs.Finding.{none_left, next-left}
 use Rattle.crosstalk.proofs.Sizes.{eight-names}
 use Rattle.crosstalk.proofs.Scanning.{row-end, row_here, row-later}
@@ -13,7 +13,7 @@ use Rattle.crosstalk.proofs.names.row_of.Statement.{statement}
 use Rattle.crosstalk.proofs.names.row_of.Tie as tie
 
 abbrev invariant-loop : tie.invariant-loop
-invariant-loop channel c i₀ i = (i ≤ c.count) × (rowFrom i channel (drop i (namesIn c)) ≡ row_of channel (namesIn c))
+invariant-loop channel c i₀ i = (i ≤ c.count) × (row_from i channel (drop i (names_in c)) ≡ row_of channel (names_in c))
 
 abbrev decreases-loop : tie.decreases-loop
 decreases-loop channel c i₀ i = c.count - i
@@ -36,7 +36,7 @@ returns c =
     let a = s.args.t1 in
     let at = c.before.before.before.before.loop in
     let whole = eight-names a _ s.well-formed.0 in
-    let cell = next-left a.names a.count at.i noName (omega arith) (omega (arith, whole)) in
+    let cell = next-left a.names a.count at.i no_name (omega arith) (omega (arith, whole)) in
     sym (row_here _ _ _ cell at.i s.args.channel (sym c.before.same.ensures ∙ c.if1.true)) ∙ at.invariant.1
 
 add-i : tie.Need-overflow-add-i invariant-loop decreases-loop
@@ -51,7 +51,7 @@ loop-again c =
     let a = s.args.t1 in
     let at = c.before.before.before.before.loop in
     let whole = eight-names a _ s.well-formed.0 in
-    let cell = next-left a.names a.count at.i noName (omega arith) (omega (arith, whole)) in
+    let cell = next-left a.names a.count at.i no_name (omega arith) (omega (arith, whole)) in
     (omega arith, row-later _ _ _ cell at.i s.args.channel (sym c.before.same.ensures ∙ c.if1.false) ∙ at.invariant.1)
 
 returns-2 : tie.Need-returns-2 invariant-loop decreases-loop

@@ -5,7 +5,7 @@ use native.Mathlib.Omega.{arith}
 use native.Mathlib.Nat.{le_trans}
 use mathlib.Core.Path.{◌≡◌, sym, ◌∙◌}
 use Rattle.crosstalk.specs.Crosstalk.{parts_at}
-use Rattle.crosstalk.proofs.Fitting.{square-64, row_below, row_within}
+use Rattle.crosstalk.proofs.Fitting.{square_64, row_below, row_within}
 use Rattle.crosstalk.proofs.parts.parts_for.Statement.{statement}
 use Rattle.crosstalk.proofs.parts.parts_for.Tie as tie
 
@@ -22,13 +22,13 @@ within c =
     row_within _ _ (row_below a.c a.channel _ (sym c.before.before.before.row_of.ensures ∙ c.before.row.given.1))
 
 mul-from : tie.Need-overflow-mul-from
-mul-from c = let in-it = within c in let small = square-64 c.before.before.before.before.before.requires.0 in record { fits = omega arith }
+mul-from c = let in-it = within c in let small = square_64 c.before.before.before.before.before.requires.0 in record { fits = omega arith }
 
 add-row-parts : tie.Need-overflow-add-row-parts
-add-row-parts c = let in-it = within c in let small = square-64 c.before.before.before.before.before.requires.0 in record { fits = omega arith }
+add-row-parts c = let in-it = within c in let small = square_64 c.before.before.before.before.before.requires.0 in record { fits = omega arith }
 
 mul-row-parts : tie.Need-overflow-mul-row-parts
-mul-row-parts c = let in-it = within c in let small = square-64 c.before.before.before.before.before.requires.0 in record { fits = omega arith }
+mul-row-parts c = let in-it = within c in let small = square_64 c.before.before.before.before.before.requires.0 in record { fits = omega arith }
 
 sub-row-parts : tie.Need-overflow-sub-row-parts
 sub-row-parts c = search rules

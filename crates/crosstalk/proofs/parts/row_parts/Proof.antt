@@ -5,7 +5,7 @@ use Prim.Native.Nat.{◌+◌, ◌-◌, ◌≤◌, ◌<◌}
 use native.Mathlib.Omega.{arith}
 use mathlib.Core.Path.{◌≡◌, refl}
 use lib.ListN.{length, drop, get_or}
-use Rattle.crosstalk.specs.Crosstalk.{namesIn}
+use Rattle.crosstalk.specs.Crosstalk.{names_in}
 use mathlib.Core.List.{[], ◌∷◌}
 use mathlib.Core.Logic.{⊎_elim}
 use Rattle.tables.proofs.Finding.{none_left, next-left}
@@ -13,14 +13,14 @@ use borrow.Author.Tests.{not-true, not-false}
 use native.Mathlib.Numerals.{add-one}
 use lib.Ieee.{nan, ne}
 use lib.Seq.{drop-cons}
-use Rattle.tables.specs.Tables.{noName}
+use Rattle.tables.specs.Tables.{no_name}
 use Rattle.crosstalk.proofs.Sizes.{eight-names}
 use Rattle.crosstalk.proofs.Pushing.{Turn, turn-count, turn_end, turn-skip, turn-with}
 use Rattle.crosstalk.proofs.parts.row_parts.Statement.{statement}
 use Rattle.crosstalk.proofs.parts.row_parts.Tie as tie
 
 abbrev invariant-loop : tie.invariant-loop
-invariant-loop t row c taking₀ k₀ taking k = (k ≤ length row) × Turn t (namesIn c) row k taking
+invariant-loop t row c taking₀ k₀ taking k = (k ≤ length row) × Turn t (names_in c) row k taking
 
 abbrev decreases-loop : tie.decreases-loop
 decreases-loop t row c taking₀ k₀ taking k = length row - k
@@ -74,7 +74,7 @@ loop-again c =
     let at = c.before.before.before.loop in
     let whole = eight-names a _ s.well-formed.1.0 in
     let there : at.k < length row = omega arith in
-    let named = next-left a.names a.count at.k noName (omega (arith, s.requires.1)) (omega (arith, whole, s.requires.0, s.requires.1)) in
+    let named = next-left a.names a.count at.k no_name (omega (arith, s.requires.1)) (omega (arith, whole, s.requires.0, s.requires.1)) in
     let on : drop at.k row ≡ get_or row at.k nan ∷ drop (at.k + 1) row = rw (add-one at.k) (drop-cons row at.k nan there) in (
       omega arith,
       ⊎_elim

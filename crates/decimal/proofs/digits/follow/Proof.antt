@@ -6,13 +6,13 @@ use native.Mathlib.Numerals.{add-one}
 use native.Mathlib.Omega.{arith}
 use borrow.Author.Rules.{rules}
 use lib.ListN.{length, get_or, drop}
-use Rattle.decimal.specs.Digits.{digitOf, digitsFrom}
+use Rattle.decimal.specs.Digits.{digit_of, digits_from}
 use Rattle.decimal.proofs.Figures.{one_more, no_digit, no_more, room-now, room_next}
 use Rattle.decimal.proofs.digits.follow.Statement.{statement}
 use Rattle.decimal.proofs.digits.follow.Tie as tie
 
 abbrev invariant-loop : tie.invariant-loop
-invariant-loop base start text n₀ i₀ n i = (i ≤ length text) × ((n + 1) * base ^ (length text - i) ≤ 2 ^ 64) × (digitsFrom base n (drop i text) ≡ digitsFrom base start text)
+invariant-loop base start text n₀ i₀ n i = (i ≤ length text) × ((n + 1) * base ^ (length text - i) ≤ 2 ^ 64) × (digits_from base n (drop i text) ≡ digits_from base start text)
 
 abbrev decreases-loop : tie.decreases-loop
 decreases-loop base start text n₀ i₀ n i = length text - i
@@ -31,7 +31,7 @@ returns c =
     let d = c.before in
     let at = d.before.before.before.loop in
     let args = d.before.before.before.before.before.args in
-    let no : args.base ≤ digitOf (get_or args.text.now at.i 0) = omega (arith, c.if1.true, d.digit.ensures) in
+    let no : args.base ≤ digit_of (get_or args.text.now at.i 0) = omega (arith, c.if1.true, d.digit.ensures) in
     sym (sym at.invariant.2 ∙ no_digit args.base at.n args.text.now at.i (omega arith) no)
 
 -- a digit more has room
@@ -43,7 +43,7 @@ module _ (c : tie.Else1 invariant-loop decreases-loop) where
   at = c.before.before.before.before
 
   abbrev b : ℕ
-  b = digitOf (get_or start.args.text.now at.loop.i 0)
+  b = digit_of (get_or start.args.text.now at.loop.i 0)
 
   abbrev left : ℕ
   left = length start.args.text.now - (at.loop.i + 1)

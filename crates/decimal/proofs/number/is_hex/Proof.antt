@@ -2,7 +2,7 @@
 use mathlib.Core.Path.{sym}
 use native.Mathlib.Omega.{arith}
 use borrow.Author.Rules.{rules}
-use Rattle.decimal.proofs.Hexing.{hex-short, hex-else, hex-small, hex-capital}
+use Rattle.decimal.proofs.Hexing.{hex-short, hex-else, hex-small, hex_capital}
 use Rattle.decimal.proofs.number.is_hex.Statement.{statement}
 use Rattle.decimal.proofs.number.is_hex.Tie as tie
 
@@ -25,7 +25,7 @@ shared-slice-read-result : tie.Need-shared-slice-read-result
 shared-slice-read-result c = search rules
 
 returns-4 : tie.Need-returns-4
-returns-4 c = sym (hex-capital _ (omega arith) c.before.before.before.if2.false c.before.if3.false)
+returns-4 c = sym (hex_capital _ (omega arith) c.before.before.before.if2.false c.before.if3.false)
 
 pub is-hex-spec : {M : Type 1} → statement M
 is-hex-spec =

@@ -5,7 +5,7 @@ use mathlib.Core.Bool.{true, false}
 use native.Mathlib.Omega.{arith}
 use borrow.Author.Rules.{rules}
 use lib.ListN.{length}
-use Rattle.decimal.specs.Number.{isHex, unsignedOf}
+use Rattle.decimal.specs.Number.{is_hex, unsigned_of}
 use Rattle.decimal.proofs.Hexing.{hex-long}
 use Rattle.decimal.proofs.Places.{rest_part}
 use Rattle.decimal.proofs.number.unsigned.Statement.{statement}
@@ -31,21 +31,21 @@ hex-sized-requires : tie.Need-hex-sized-requires
 hex-sized-requires c κs = search rules
 
 returns : tie.Need-returns
-unfolding unsignedOf
+unfolding unsigned_of
 returns c =
     let s = c.before.before.before.before.before in
     let text = s.args.text.now in
-    let yes : isHex text ≡ true = sym c.before.before.before.is-hex.ensures ∙ c.before.before.if1.true in
+    let yes : is_hex text ≡ true = sym c.before.before.before.is-hex.ensures ∙ c.before.before.if1.true in
     rw (yes, ← rest_part text 2) c.hex-sized.ensures
 
 sized-requires : tie.Need-sized-requires
 sized-requires c κs = search rules
 
 returns-2 : tie.Need-returns-2
-unfolding unsignedOf
+unfolding unsigned_of
 returns-2 c =
     let s = c.before.before.before.before in
-    let no : isHex s.args.text.now ≡ false = sym c.before.before.is-hex.ensures ∙ c.before.if1.false in
+    let no : is_hex s.args.text.now ≡ false = sym c.before.before.is-hex.ensures ∙ c.before.if1.false in
     rw no c.sized.ensures
 
 pub unsigned-spec : {M : Type 1} → statement M

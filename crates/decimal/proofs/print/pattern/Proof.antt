@@ -3,7 +3,7 @@ use mathlib.Core.Path.{sym, subst}
 use lib.Dec.{T}
 use lib.Ieee.{to_bits}
 use lib.Ieee.Compare.{differs_from_itself}
-use Rattle.exact.proofs.Truth.{number-if-same}
+use Rattle.exact.proofs.Truth.{number_if_same}
 use borrow.Author.Rules.{rules}
 use Rattle.decimal.proofs.print.pattern.Statement.{statement}
 use Rattle.decimal.proofs.print.pattern.Tie as tie
@@ -13,7 +13,7 @@ unfolding to_bits
 returns c = rw (differs_from_itself c.before.args.x (subst T (sym c.if1.true) tt))
 
 float-to-bits-result : tie.Need-float-to-bits-result
-float-to-bits-result c = number-if-same _ c.if1.false
+float-to-bits-result c = number_if_same _ c.if1.false
 
 returns-2 : tie.Need-returns-2
 returns-2 c = search rules

@@ -1,4 +1,4 @@
--- `decimal::print::put_double` meets its contract. `hex::write` of the pattern. Assumes nothing.
+-- `decimal::print::put_double` meets its contract. `hexadecimal::write` of the pattern. Assumes nothing.
 use borrow.Author.Rules.{rules}
 use Rattle.decimal.proofs.print.put_double.Statement.{statement}
 use Rattle.decimal.proofs.print.put_double.Tie as tie

@@ -5,14 +5,14 @@ use native.Mathlib.Numerals.{add-one}
 use native.Mathlib.Omega.{arith}
 use borrow.Author.Rules.{rules}
 use lib.ListN.{length, get_or, drop}
-use Rattle.decimal.specs.Digits.{digitOf}
-use Rattle.decimal.specs.Ways.{figuresIn}
+use Rattle.decimal.specs.Digits.{digit_of}
+use Rattle.decimal.specs.Ways.{figures_in}
 use Rattle.decimal.proofs.Moving.{figures-go-on, figures-end, figures-done}
 use Rattle.decimal.proofs.scale.all_figures.Statement.{statement}
 use Rattle.decimal.proofs.scale.all_figures.Tie as tie
 
 abbrev invariant-loop : tie.invariant-loop
-invariant-loop text i₀ i = figuresIn (drop i text) ≡ figuresIn text
+invariant-loop text i₀ i = figures_in (drop i text) ≡ figures_in text
 
 abbrev decreases-loop : tie.decreases-loop
 decreases-loop text i₀ i = length text - i
@@ -30,7 +30,7 @@ returns : tie.Need-returns invariant-loop decreases-loop
 returns c =
     let at = c.before.before.before.before.loop in
     let text = c.before.before.before.before.before.before.args.text.now in
-    let no : 10 ≤ digitOf (get_or text at.i 0) = omega (arith, c.if1.true, c.before.digit.ensures) in
+    let no : 10 ≤ digit_of (get_or text at.i 0) = omega (arith, c.if1.true, c.before.digit.ensures) in
     sym (sym at.invariant ∙ figures-end text at.i (omega arith) no)
 
 add-i : tie.Need-overflow-add-i invariant-loop decreases-loop
@@ -43,7 +43,7 @@ loop-again : tie.Need-loop-preserved invariant-loop decreases-loop
 loop-again c =
     let at = c.before.before.before.before.loop in
     let text = c.before.before.before.before.before.before.args.text.now in
-    let yes : digitOf (get_or text at.i 0) < 10 = omega (arith, c.if1.false, c.before.digit.ensures) in
+    let yes : digit_of (get_or text at.i 0) < 10 = omega (arith, c.if1.false, c.before.digit.ensures) in
     rw (add-one at.i) (sym (figures-go-on text at.i (omega arith) yes) ∙ at.invariant)
 
 returns-2 : tie.Need-returns-2 invariant-loop decreases-loop

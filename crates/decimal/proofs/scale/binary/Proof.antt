@@ -4,7 +4,7 @@ use mathlib.Core.Path.{ap, ◌∙◌}
 use borrow.Author.Tests.{le-leb, lt-leb}
 use borrow.Author.Rules.{rules}
 use lib.Ieee.{binary64, round}
-use Rattle.decimal.specs.Number.{scaledBy}
+use Rattle.decimal.specs.Number.{scaled_by}
 use Rattle.decimal.proofs.Twos.{alone, twos_up, twos-down}
 use Rattle.decimal.proofs.scale.binary.Statement.{statement}
 use Rattle.decimal.proofs.scale.binary.Tie as tie
@@ -22,7 +22,7 @@ nearest-double-requires : tie.Need-nearest-double-requires
 nearest-double-requires c κs = search rules
 
 returns : tie.Need-returns
-unfolding scaledBy
+unfolding scaled_by
 returns c =
     let l = c.before in
     let s = l.before.before in
@@ -48,7 +48,7 @@ nearest-double-requires-2 : tie.Need-nearest-double-requires-2
 nearest-double-requires-2 c κs = search rules
 
 returns-2 : tie.Need-returns-2
-unfolding scaledBy
+unfolding scaled_by
 returns-2 c =
     let l = c.before in
     let s = l.before.before in

@@ -8,18 +8,18 @@ use lib.Dec.{leb, lit≤}
 use lib.Ieee.{Float}
 use Rattle.decimal.specs.declared.number.Number.TheVariants.{Double, Bad}
 use Rattle.decimal.specs.declared.significand.Significand.TheVariants as significand
-use Rattle.decimal.specs.Number.{scaledBy, significandOf}
-use Rattle.decimal.specs.Ways.{quickBy}
+use Rattle.decimal.specs.Number.{scaled_by, significand_of}
+use Rattle.decimal.specs.Ways.{quick_by}
 use Rattle.decimal.proofs.Reading.{few-small, few-whole}
 use Rattle.decimal.proofs.scale.decimal_scaled.Statement.{statement}
 use Rattle.decimal.proofs.scale.decimal_scaled.Tie as tie
 
 -- the quick way's double is the one that is defined
-quick-is : (s : Bool) (n up down : ℕ) (x : Float) → quickBy s n up down ≡ Double x → Double x ≡ Double (scaledBy s 10 n up down)
-unfolding quickBy
+quick-is : (s : Bool) (n up down : ℕ) (x : Float) → quick_by s n up down ≡ Double x → Double x ≡ Double (scaled_by s 10 n up down)
+unfolding quick_by
 quick-is s n up down x e = by (leb (up - down) 22 && leb (down - up) 22) e
   where
-    by : (t : Bool) → cond t (Double (scaledBy s 10 n up down)) Bad ≡ Double x → Double x ≡ Double (scaledBy s 10 n up down)
+    by : (t : Bool) → cond t (Double (scaled_by s 10 n up down)) Bad ≡ Double x → Double x ≡ Double (scaled_by s 10 n up down)
     by true e = sym e
     by false e = cc
 
@@ -72,10 +72,10 @@ returns-3 c =
     let s = f.before.before in
     let n = k.before.short.given.0.0 in
     let fraction = k.before.short.given.0.1.0 in
-    let whole : significandOf 10 s.args.text.now ≡ significand.Whole n fraction = few-whole 10 s.args.text.now 15 n fraction (sym f.few.ensures ∙ k.before.short.given.1) in
+    let whole : significand_of 10 s.args.text.now ≡ significand.Whole n fraction = few-whole 10 s.args.text.now 15 n fraction (sym f.few.ensures ∙ k.before.short.given.1) in
     rw whole
     (quick-is s.args.minus n s.args.up (s.args.down + fraction) o.once.given.0.0 (sym q.quick.ensures ∙ o.once.given.1)
-    ∙ ap (λ (x : ℕ). Double (scaledBy s.args.minus 10 n s.args.up (s.args.down + x))) (one fraction))
+    ∙ ap (λ (x : ℕ). Double (scaled_by s.args.minus 10 n s.args.up (s.args.down + x))) (one fraction))
   where
     one : (n : ℕ) → n ≡ 1 * n
     one n = omega arith

@@ -7,7 +7,7 @@ use borrow.Author.Tests.{le-leb, lt-leb}
 use borrow.Author.Rules.{rules}
 use lib.ListN.{length, take, drop}
 use Rattle.decimal.specs.Digits.{place_of}
-use Rattle.decimal.specs.Ways.{figuresIn, pointedIn}
+use Rattle.decimal.specs.Ways.{figures_in, pointed_in}
 use Rattle.decimal.proofs.Cutting.{reach, front, front-part, back-part, count}
 use Rattle.decimal.proofs.Moving.{figures-both}
 use Rattle.decimal.proofs.Places.{rest_part}
@@ -25,7 +25,7 @@ add-if1 : tie.Need-overflow-add-if1
 add-if1 c = search rules
 
 returns : tie.Need-returns
-unfolding pointedIn
+unfolding pointed_in
 returns c =
     let b = c.before in
     let s = b.before.before in
@@ -35,8 +35,8 @@ returns c =
 
 -- with one digit at least, both parts decide
 module _ (c : tie.Else1) where
-  both : pointedIn c.before.before.before.args.text.now ≡ figuresIn (take c.before.before.before.args.point c.before.before.before.args.text.now) && figuresIn (drop c.before.behind.result c.before.before.before.args.text.now)
-  unfolding pointedIn
+  both : pointed_in c.before.before.before.args.text.now ≡ figures_in (take c.before.before.before.args.point c.before.before.before.args.text.now) && figures_in (drop c.before.behind.result c.before.before.before.args.text.now)
+  unfolding pointed_in
   both =
       let b = c.before in
       let s = b.before.before in

@@ -5,14 +5,14 @@ use native.Mathlib.Omega.{arith}
 use borrow.Author.Tests.{le-leb, lt-leb}
 use borrow.Author.Rules.{rules}
 use Rattle.decimal.specs.declared.number.Number.TheVariants.{Double}
-use Rattle.decimal.specs.Number.{scaledBy}
-use Rattle.decimal.specs.Ways.{quickBy}
+use Rattle.decimal.specs.Number.{scaled_by}
+use Rattle.decimal.specs.Ways.{quick_by}
 use Rattle.decimal.proofs.Powers.{product-once, quotient-once}
 use Rattle.decimal.proofs.scale.quick.Statement.{statement}
 use Rattle.decimal.proofs.scale.quick.Tie as tie
 
 returns : tie.Need-returns
-unfolding quickBy
+unfolding quick_by
 returns c = simp (lt-leb _ _ c.if2.true)
 
 signed-requires : tie.Need-signed-requires
@@ -22,7 +22,7 @@ ten-to-requires : tie.Need-ten-to-requires
 ten-to-requires c κs = search rules
 
 returns-2 : tie.Need-returns-2
-unfolding quickBy scaledBy
+unfolding quick_by scaled_by
 returns-2 c =
     let args = c.before.before.before.before.args in
     let none : args.down - args.up ≤ 22 = omega arith in
@@ -33,7 +33,7 @@ sub-if3 : tie.Need-overflow-sub-if3
 sub-if3 c = search rules
 
 returns-3 : tie.Need-returns-3
-unfolding quickBy
+unfolding quick_by
 returns-3 c =
     let args = c.before.before.args in
     let none : args.up - args.down ≤ 22 = omega arith in
@@ -49,7 +49,7 @@ ten-to-requires-2 : tie.Need-ten-to-requires-2
 ten-to-requires-2 c κs = search rules
 
 returns-4 : tie.Need-returns-4
-unfolding quickBy scaledBy
+unfolding quick_by scaled_by
 returns-4 c =
     let args = c.before.before.before.before.args in
     let none : args.up - args.down ≤ 22 = omega arith in

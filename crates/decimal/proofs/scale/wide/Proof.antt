@@ -7,8 +7,8 @@ use borrow.Author.Rules.{rules}
 use lib.ListN.{length, drop}
 use Rattle.wide_decimal.specs.Figures.{worth, without}
 use Rattle.decimal.specs.declared.number.Number.TheVariants.{Double}
-use Rattle.decimal.specs.Number.{scaledBy}
-use Rattle.decimal.specs.Ways.{pointedIn}
+use Rattle.decimal.specs.Number.{scaled_by}
+use Rattle.decimal.specs.Ways.{pointed_in}
 use Rattle.decimal.proofs.Cutting.{reach}
 use Rattle.wide_decimal.proofs.Truths.{denied, granted}
 use Rattle.decimal.proofs.Pointing.{not-pointed, is-pointed}
@@ -25,7 +25,7 @@ returns : tie.Need-returns
 returns c =
     let p = c.before in
     let s = p.before.before.before in
-    let no : pointedIn s.args.text.now ≡ false = sym p.pointed.ensures ∙ denied _ c.if1.true in
+    let no : pointed_in s.args.text.now ≡ false = sym p.pointed.ensures ∙ denied _ c.if1.true in
     rw (not-pointed s.args.text.now no)
 
 placed-requires : tie.Need-placed-requires
@@ -40,9 +40,9 @@ returns-2 c =
     let q = p.before in
     let s = q.before.before in
     let text = s.args.text.now in
-    let yes : pointedIn text ≡ true = sym p.pointed.ensures ∙ granted _ c.before.if1.false in
+    let yes : pointed_in text ≡ true = sym p.pointed.ensures ∙ granted _ c.before.if1.false in
     rw (is-pointed text q.place.result q.place.ensures yes)
-    (ap Double (c.placed.ensures ∙ ap (λ (x : ℕ). scaledBy s.args.minus 10 (worth (without q.place.result text)) s.args.up (s.args.down + x)) (one (length (drop (suc q.place.result) text)))))
+    (ap Double (c.placed.ensures ∙ ap (λ (x : ℕ). scaled_by s.args.minus 10 (worth (without q.place.result text)) s.args.up (s.args.down + x)) (one (length (drop (suc q.place.result) text)))))
   where
     one : (n : ℕ) → n ≡ 1 * n
     one n = omega arith

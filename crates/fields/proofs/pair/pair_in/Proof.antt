@@ -1,6 +1,6 @@
 -- `fields::pair::pair_in` meets its contract. By what each of the two was read as. Assumes nothing.
 use mathlib.Core.Path.{sym, ◌∙◌}
-use Rattle.fields.specs.Value.{pairField}
+use Rattle.fields.specs.Value.{pair_field}
 use borrow.Author.Rules.{rules}
 use Rattle.fields.proofs.pair.pair_in.Statement.{statement}
 use Rattle.fields.proofs.pair.pair_in.Tie as tie
@@ -15,7 +15,7 @@ enum_told : tie.Need-enum-told
 enum_told c = search rules
 
 returns : tie.Need-returns
-unfolding pairField
+unfolding pair_field
 returns c = rw (sym c.before.before.number_in.ensures ∙ c.enum_told.given.1)
 
 number-in-requires-2 : tie.Need-number-in-requires-2
@@ -28,7 +28,7 @@ enum-told-2 : tie.Need-enum-told-2
 enum-told-2 c = search rules
 
 returns-2 : tie.Need-returns-2
-unfolding pairField
+unfolding pair_field
 returns-2 c =
     let c2 = c.before.before in
     let c4 = c2.before.before in
@@ -36,7 +36,7 @@ returns-2 c =
     rw (sym c6.number_in.ensures ∙ c4.a.given.1, sym c2.number-in2.ensures ∙ c.enum-told2.given.1)
 
 returns-3 : tie.Need-returns-3
-unfolding pairField
+unfolding pair_field
 returns-3 c =
     let c3 = c.before.before.before in
     let c5 = c3.before.before in

@@ -1,7 +1,7 @@
 -- `fields::value::name_in` meets its contract. By whether the value was found. Assumes nothing.
 use native.Mathlib.Omega.{arith}
 use Rattle.fields.proofs.Values.{found_none, found-value, found_inside}
-use Rattle.fields.specs.Value.{nameField}
+use Rattle.fields.specs.Value.{name_field}
 use mathlib.Core.Path.{ap}
 use Rattle.fields.specs.declared.value.Called.TheVariants.{Name}
 use borrow.Author.Rules.{rules}
@@ -51,7 +51,7 @@ enum_told : tie.Need-enum-told
 enum_told c = search rules
 
 returns : tie.Need-returns
-unfolding nameField
+unfolding name_field
 returns c =
     let c3 = c.before.before.before in
     let c5 = c3.before.before in
@@ -60,7 +60,7 @@ returns c =
     c3.value.given.0.0 c3.value.given.0.1.0 c3.value.given.1) (ap Name c.name_of.ensures)
 
 returns-2 : tie.Need-returns-2
-unfolding nameField
+unfolding name_field
 returns-2 c =
     let c2 = c.before.before in
     let c5 = c2.before.before.before in

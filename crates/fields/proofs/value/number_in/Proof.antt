@@ -1,7 +1,7 @@
 -- `fields::value::number_in` meets its contract. By whether the value was found. Assumes nothing.
 use native.Mathlib.Omega.{arith}
 use Rattle.fields.proofs.Values.{found_none, found-value, found_inside}
-use Rattle.fields.specs.Value.{numberField}
+use Rattle.fields.specs.Value.{number_field}
 use borrow.Author.Rules.{rules}
 use Rattle.fields.proofs.value.number_in.Statement.{statement}
 use Rattle.fields.proofs.value.number_in.Tie as tie
@@ -49,7 +49,7 @@ enum_told : tie.Need-enum-told
 enum_told c = search rules
 
 returns : tie.Need-returns
-unfolding numberField
+unfolding number_field
 returns c =
     let c3 = c.before.before.before in
     let c5 = c3.before.before in
@@ -58,7 +58,7 @@ returns c =
     c3.value.given.0.0 c3.value.given.0.1.0 c3.value.given.1) c.read.ensures
 
 returns-2 : tie.Need-returns-2
-unfolding numberField
+unfolding number_field
 returns-2 c =
     let c2 = c.before.before in
     let c5 = c2.before.before.before in

@@ -1,7 +1,7 @@
 -- `fields::value::shape_in` meets its contract. By whether the value was found. Assumes nothing.
 use native.Mathlib.Omega.{arith}
 use Rattle.fields.proofs.Values.{found_none, found-value, found_inside, some-exactly}
-use Rattle.fields.specs.Value.{shapeField}
+use Rattle.fields.specs.Value.{shape_field}
 use borrow.Author.Rules.{rules}
 use Rattle.fields.proofs.value.shape_in.Statement.{statement}
 use Rattle.fields.proofs.value.shape_in.Tie as tie
@@ -49,7 +49,7 @@ enum_told : tie.Need-enum-told
 enum_told c = search rules
 
 returns : tie.Need-returns
-unfolding shapeField
+unfolding shape_field
 returns c =
     let c3 = c.before.before.before in
     let c5 = c3.before.before in
@@ -65,7 +65,7 @@ returns c =
     )
 
 returns-2 : tie.Need-returns-2
-unfolding shapeField
+unfolding shape_field
 returns-2 c =
     let c2 = c.before.before in
     let c5 = c2.before.before.before in

@@ -5,7 +5,7 @@ use native.Mathlib.Omega.{arith}
 use borrow.Author.Rules.{rules}
 use native.Mathlib.Numerals.{add-one}
 use lib.ListN.{length, get_or, drop}
-use Rattle.fields.specs.Words.{words_of, blankOf}
+use Rattle.fields.specs.Words.{words_of, blank_of}
 use Rattle.fields.proofs.Splitting.{blank-most, counts-on, counts-last}
 use Rattle.fields.proofs.words.count.Statement.{statement}
 use Rattle.fields.proofs.words.count.Tie as tie
@@ -30,7 +30,7 @@ add-blanks c =
     let at = c.before.before.before.loop in
     let line = c.before.before.before.before.before.args.line.now in
     let most = blank-most (get_or line at.i 0) in
-    let is : c.blank.result ≡ blankOf (get_or line at.i 0) = c.blank.ensures in
+    let is : c.blank.result ≡ blank_of (get_or line at.i 0) = c.blank.ensures in
     omega arith
 
 add-i : tie.Need-overflow-add-i invariant-loop decreases-loop
@@ -44,8 +44,8 @@ loop-again c =
     let at = c.before.before.before.loop in
     let line = c.before.before.before.before.before.args.line.now in
     let most = blank-most (get_or line at.i 0) in
-    let is : c.blank.result ≡ blankOf (get_or line at.i 0) = c.blank.ensures in
-    let on : length (words_of (drop at.i line)) ≡ blankOf (get_or line at.i 0) + length (words_of (drop (suc at.i) line)) =
+    let is : c.blank.result ≡ blank_of (get_or line at.i 0) = c.blank.ensures in
+    let on : length (words_of (drop at.i line)) ≡ blank_of (get_or line at.i 0) + length (words_of (drop (suc at.i) line)) =
     counts-on line at.i (omega arith) in
     (omega arith, omega arith, rw add-one (omega arith))
 

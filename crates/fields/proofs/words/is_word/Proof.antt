@@ -1,6 +1,6 @@
 -- `fields::words::is_word` meets its contract. Nothing stands behind the key exactly where its place is empty. Assumes nothing.
 use Rattle.fields.proofs.Values.{found_none, found-value, found_inside, bare-exactly}
-use Rattle.fields.specs.Words.{isWord}
+use Rattle.fields.specs.Words.{is_word}
 use borrow.Author.Rules.{rules}
 use Rattle.fields.proofs.words.is_word.Statement.{statement}
 use Rattle.fields.proofs.words.is_word.Tie as tie
@@ -15,7 +15,7 @@ enum_told : tie.Need-enum-told
 enum_told c = search rules
 
 returns : tie.Need-returns
-unfolding isWord
+unfolding is_word
 returns c =
     let c3 = c.before.before.before in
     let c6 = c3.before.before.before in
@@ -26,7 +26,7 @@ returns c =
     c.before.value.given.0.0 c.before.value.given.0.1.0 inside.0 inside.1)
 
 returns-2 : tie.Need-returns-2
-unfolding isWord
+unfolding is_word
 returns-2 c =
     let c2 = c.before.before in
     let c5 = c2.before.before.before in

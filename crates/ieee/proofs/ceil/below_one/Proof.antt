@@ -6,7 +6,7 @@ use lib.Ieee.Fits.{neg-fits}
 use lib.Ieee.Exact.{HasValue}
 use lib.Ieee.Bits.{of_bits-fits}
 use borrow.Author.Tests.{lt-leb}
-use Rattle.ieee.specs.Ceiling.{wholeAbove, wholeToward, ceiling}
+use Rattle.ieee.specs.Ceiling.{whole_above, whole_toward, ceiling}
 use Rattle.ieee.proofs.Bits.{BelowOne, below_one}
 use Rattle.ieee.proofs.Fractions.{above-rest}
 use Rattle.ieee.proofs.Ceiling.{is-ceiling, whole-fixed}
@@ -26,12 +26,12 @@ minus-zero : HasValue (neg (of_bits binary64 0)) true 0 1
 unfolding neg of_bits
 minus-zero = (refl, refl)
 
-above-is-one : (u d : ℕ) → 0 < u → u < d → wholeAbove u d ≡ 1
+above-is-one : (u d : ℕ) → 0 < u → u < d → whole_above u d ≡ 1
 above-is-one u d h k = above-rest u d (lt_trans h k) (subst (λ (z : ℕ). 0 < z) (sym (mod-eq_of_lt k)) h) ∙ ap suc (div-eq_of_lt k)
 
 -- with the sign known
 module _ (b : ℕ) (k : BelowOne b) (s : Bool) (e : leb (2 ^ 63) b ≡ s) where
-  answer : (y : Float) → T (fits binary64 y) → HasValue y s (wholeToward s k.u (2 ^ 1074)) 1 → y ≡ ceiling (of_bits binary64 b)
+  answer : (y : Float) → T (fits binary64 y) → HasValue y s (whole_toward s k.u (2 ^ 1074)) 1 → y ≡ ceiling (of_bits binary64 b)
   answer y f w = is-ceiling (of_bits binary64 b) y s k.u (2 ^ 1074) (pow_pos 1074) (of_bits-fits binary64 b) f (subst (λ (t : Bool). HasValue (of_bits binary64 b) t k.u (2 ^ 1074)) e k.value) w
 
 not-zero : (b : ℕ) → b < 2 ^ 63 → (b ≡ 0 → ⊥) → b % 2 ^ 63 ≡ 0 → ⊥

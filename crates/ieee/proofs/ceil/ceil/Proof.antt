@@ -5,7 +5,7 @@ use lib.Bits.{bit_and}
 use lib.Ieee.{Float, nan, inf, binary64, of_fields, of_bits, to_bits}
 use lib.Ieee.Compare.{differs_from_itself}
 use lib.Ieee.Bits.{of_bits-to_bits, of_bits-fits}
-use Rattle.exact.proofs.Truth.{number-if-same}
+use Rattle.exact.proofs.Truth.{number_if_same}
 use Rattle.ieee.specs.Ceiling.{ceiling}
 use Rattle.ieee.proofs.Bits.{bits_are, value-normal, field}
 use Rattle.ieee.proofs.Ceiling.{whole-fixed}
@@ -68,7 +68,7 @@ returns c =
     e ∙ sym (ap ceiling e ∙ of_nan)
 
 float-to-bits-bits : tie.Need-float-to-bits-bits
-float-to-bits-bits c = number-if-same c.before.args.x c.if1.false
+float-to-bits-bits c = number_if_same c.before.args.x c.if1.false
 
 returns-2 : tie.Need-returns-2
 returns-2 c =

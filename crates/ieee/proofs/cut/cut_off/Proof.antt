@@ -10,8 +10,8 @@ use Rattle.ieee.proofs.Cutting.{index-within, index-above, index_below}
 use Rattle.ieee.proofs.cut.cut_off.Statement.{statement}
 use Rattle.ieee.proofs.cut.cut_off.Tie as tie
 
-abbrev minusOne : Float
-minusOne = fin true 1 (pos 0)
+abbrev minus_one : Float
+minus_one = fin true 1 (pos 0)
 
 abbrev end : Float
 end = fin false 1 (pos 64)
@@ -40,7 +40,7 @@ positive a b B h = omega (arith, ltb-false 0 (a + b) h)
 uncapped : (w : ℕ) → w < 2 ^ 64 → min w (2 ^ 64 - 1) ≡ w
 uncapped w h = omega arith
 
-within : (x : Float) → lt minusOne x ≡ true → lt x end ≡ true → Index (to_unsigned 64 x) ≡ cut_of x
+within : (x : Float) → lt minus_one x ≡ true → lt x end ≡ true → Index (to_unsigned 64 x) ≡ cut_of x
 unfolding lt to_unsigned cut_of
 within nan h k = absurd (true≢false (sym h))
 within (inf true) h k = absurd (true≢false (sym h))
@@ -48,7 +48,7 @@ within (inf false) h k = absurd (true≢false (sym k))
 within (fin true m e) h k = ap (index_of true) (sym (below_one m e h))
 within (fin false m e) h k = ap Index (uncapped (m * up e / down e) (below_end m e k)) ∙ sym (index-within (m * up e / down e) (below_end m e k))
 
-over : (x : Float) → lt minusOne x ≡ true → lt x end ≡ false → Above ≡ cut_of x
+over : (x : Float) → lt minus_one x ≡ true → lt x end ≡ false → Above ≡ cut_of x
 unfolding lt cut_of
 over nan h k = absurd (true≢false (sym h))
 over (inf true) h k = absurd (true≢false (sym h))
@@ -56,7 +56,7 @@ over (inf false) h k = refl
 over (fin true m e) h k = absurd (positive (m * up e * 1) (2 ^ 64 * down e) (mul-pos (pow_pos 64) (down_pos e)) k)
 over (fin false m e) h k = sym (index-above (m * up e / down e) (from_end m e k))
 
-under : (x : Float) → ne x x ≡ false → lt minusOne x ≡ false → Below ≡ cut_of x
+under : (x : Float) → ne x x ≡ false → lt minus_one x ≡ false → Below ≡ cut_of x
 unfolding lt ne cut_of
 under nan n h = absurd (true≢false n)
 under (inf true) n h = refl

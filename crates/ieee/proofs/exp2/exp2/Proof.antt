@@ -9,9 +9,9 @@ use lib.Ieee.Bits.{of_bits-fits}
 use borrow.Author.Tests.{lt-leb}
 use Rattle.exact.proofs.Value.{rescale, unique}
 use Rattle.exact.proofs.Truth.{below, not-below}
-use Rattle.ieee.specs.Exp2.{exp2Of, Exponent}
+use Rattle.ieee.specs.Exp2.{exp2_of, Exponent}
 use Rattle.ieee.proofs.Bits.{no_nan, value_low, value-normal}
-use Rattle.ieee.proofs.Powers.{places, places-are, value, exp2-fits, underflow, overflow}
+use Rattle.ieee.proofs.Powers.{places, places-are, value, exp2_fits, underflow, overflow}
 use Rattle.ieee.proofs.exp2.exp2.Statement.{statement}
 use Rattle.ieee.proofs.exp2.exp2.Tie as tie
 
@@ -74,11 +74,11 @@ module _ (k : ℕ) (l : 52 ≤ k) (h : k < 2098) where
       (value-normal b (k - 52) 0 field_is digits_are under))
 
 -- ---- that is 2 ^ n
-is-power : (n : ℤ) → Exponent n → (k : ℕ) → n +ℤ pos 1074 ≡ pos k → (b : ℕ) → HasValue (of_bits binary64 b) false (2 ^ k) (2 ^ 1074) → of_bits binary64 b ≡ exp2Of n
+is-power : (n : ℤ) → Exponent n → (k : ℕ) → n +ℤ pos 1074 ≡ pos k → (b : ℕ) → HasValue (of_bits binary64 b) false (2 ^ k) (2 ^ 1074) → of_bits binary64 b ≡ exp2_of n
 is-power n h k e b v =
     let p = places n h in
     let q : 2 ^ k * down n ≡ up n * 2 ^ 1074 = ap (λ (z : ℕ). 2 ^ z * down n) (sym (places-are n p k e)) ∙ sym p.power in
-    unique (of_bits binary64 b) (exp2Of n) false (up n) (down n) (down_pos n) (of_bits-fits binary64 b) (exp2-fits n)
+    unique (of_bits binary64 b) (exp2_of n) false (up n) (down n) (down_pos n) (of_bits-fits binary64 b) (exp2_fits n)
     (rescale (of_bits binary64 b) false (2 ^ k) (2 ^ 1074) (up n) (down n) (pow_pos 1074) (sym q) v)
     (value n h)
 
@@ -87,8 +87,8 @@ module _ (s : tie.Start) where
   abbrev z : ℤ
   z = to_z w32 (of_z w32 s.args.n)
 
-  back : exp2Of z ≡ exp2Of s.args.n
-  back = ap exp2Of (to_z-of_z w32 s.args.n s.fits.n)
+  back : exp2_of z ≡ exp2_of s.args.n
+  back = ap exp2_of (to_z-of_z w32 s.args.n s.fits.n)
 
 returns : tie.Need-returns
 returns c = zero ∙ sym (underflow (z c.before) (below c.if1.true)) ∙ back c.before
@@ -117,7 +117,7 @@ module _ (c : tie.After-places) where
   k_lt : k < 2098
   k_lt = let p = places (z start) exponent in subst (λ (j : ℕ). j < 2098) (places-are (z start) p k c.places.ensures) p.small
 
-  made : (b : ℕ) → HasValue (of_bits binary64 b) false (2 ^ k) (2 ^ 1074) → of_bits binary64 b ≡ exp2Of start.args.n
+  made : (b : ℕ) → HasValue (of_bits binary64 b) false (2 ^ k) (2 ^ 1074) → of_bits binary64 b ≡ exp2_of start.args.n
   made b v = is-power (z start) exponent k c.places.ensures b v ∙ back start
 
 shl-result : tie.Need-overflow-shl-result

@@ -10,12 +10,12 @@ use lib.Ieee.{Float, eq}
 use Rattle.exact.specs.Doubles.{one}
 use Rattle.quant.specs.declared.refusal.Answer.TheVariants.{Refused}
 use Rattle.quant.specs.declared.refusal.Refusal.TheVariants.{WrongA0}
-use Rattle.iir.specs.Section.{a0At, a0sFrom}
+use Rattle.iir.specs.Section.{a0_at, a0s_from}
 use Rattle.iir.proofs.biquad.a0s_judged.Statement.{statement}
 use Rattle.iir.proofs.biquad.a0s_judged.Tie as tie
 
 abbrev invariant-loop : tie.invariant-loop
-invariant-loop numbers count k₀ k = (k ≤ count) × (a0sFrom numbers count 0 ≡ a0sFrom numbers (count - k) k)
+invariant-loop numbers count k₀ k = (k ≤ count) × (a0s_from numbers count 0 ≡ a0s_from numbers (count - k) k)
 
 abbrev decreases-loop : tie.decreases-loop
 decreases-loop numbers count k₀ k = count - k
@@ -27,8 +27,8 @@ loop-holds c =
     (search rules, rw e)
 
 -- one section more, with what is found of its a0
-next : (l : List Float) (n k : ℕ) (right : Bool) → k < n → eq (a0At l k) one ≡ right → a0sFrom l (n - k) k ≡ cond right (a0sFrom l (n - (k + 1)) (k + 1)) (Refused WrongA0 k)
-unfolding a0sFrom
+next : (l : List Float) (n k : ℕ) (right : Bool) → k < n → eq (a0_at l k) one ≡ right → a0s_from l (n - k) k ≡ cond right (a0s_from l (n - (k + 1)) (k + 1)) (Refused WrongA0 k)
+unfolding a0s_from
 next l n k right h e =
     let left : n - k ≡ suc (n - (k + 1)) = omega arith in
     let more : k + 1 ≡ suc k = omega arith in
@@ -65,12 +65,12 @@ returns c =
     sym (at.loop.invariant.1 ∙ next l (length l / 6) at.loop.k false (omega arith) c.if1.false)
 
 returns-2 : tie.Need-returns-2 invariant-loop decreases-loop
-unfolding a0sFrom
+unfolding a0s_from
 returns-2 c =
     let at = c.before.loop in
     let l = c.before.before.args.numbers.now in
     let none : length l / 6 - at.k ≡ 0 = omega (arith, c.loop-test.false) in
-    sym (at.invariant.1 ∙ ap (λ (n : ℕ). a0sFrom l n at.k) none)
+    sym (at.invariant.1 ∙ ap (λ (n : ℕ). a0s_from l n at.k) none)
 
 pub a0s-judged-spec : {M : Type 1} → statement M
 a0s-judged-spec =

@@ -6,7 +6,7 @@ use mathlib.Core.List.{List}
 use borrow.Author.Tests.{lt-leb, ne_eqb}
 use lib.ListN.{length}
 use lib.Ieee.{Float}
-use Rattle.iir.specs.Section.{sectionsFrom, sectionsOf}
+use Rattle.iir.specs.Section.{sections_from, sections_of}
 use Rattle.iir.specs.Filter.{cascade, filtered}
 use Rattle.iir.proofs.Sections.{count-from}
 use Rattle.iir.proofs.Pipeline.{alone}
@@ -14,14 +14,14 @@ use borrow.Author.Rules.{rules}
 use Rattle.iir.proofs.filter.filter.Statement.{statement}
 use Rattle.iir.proofs.filter.filter.Tie as tie
 
-many : (l xs : List Float) → 4 < length l / 6 → filtered (sectionsOf l) xs ≡ cascade (sectionsOf l) xs
+many : (l xs : List Float) → 4 < length l / 6 → filtered (sections_of l) xs ≡ cascade (sections_of l) xs
 many l xs h =
     let n = length l / 6 in
     let some : n ≡ 0 → ⊥ = λ e. omega arith in
     simp (count-from l n 0, ne_eqb n 0 some, lt-leb n 4 h)
 
 returns : tie.Need-returns
-unfolding sectionsFrom
+unfolding sections_from
 returns c = rw c.if1.true
 
 section-requires : tie.Need-section-requires
@@ -51,7 +51,7 @@ same-length-2 : tie.Need-same-length-2
 same-length-2 c = search rules
 
 returns-3 : tie.Need-returns-3
-unfolding sectionsFrom
+unfolding sections_from
 returns-3 c = rw (c.before.before.pipeline-of-two.ensures, c.before.before.before.section3.ensures, c.before.before.before.before.section2.ensures, c.before.before.before.before.before.before.if3.true)
 
 section-requires-4 : tie.Need-section-requires-4
@@ -70,7 +70,7 @@ same-length-3 : tie.Need-same-length-3
 same-length-3 c = search rules
 
 returns-4 : tie.Need-returns-4
-unfolding sectionsFrom
+unfolding sections_from
 returns-4 c =
     rw (c.before.before.pipeline-of-three.ensures, c.before.before.before.section6.ensures, c.before.before.before.before.section5.ensures, c.before.before.before.before.before.section4.ensures, c.before.before.before.before.before.before.before.if4.true)
 
@@ -93,7 +93,7 @@ same-length-4 : tie.Need-same-length-4
 same-length-4 c = search rules
 
 returns-5 : tie.Need-returns-5
-unfolding sectionsFrom
+unfolding sections_from
 returns-5 c =
     rw (c.before.before.pipeline-of-four.ensures, c.before.before.before.section10.ensures, c.before.before.before.before.section9.ensures, c.before.before.before.before.before.section8.ensures, c.before.before.before.before.before.before.section7.ensures, c.before.before.before.before.before.before.before.before.if5.true)
 

@@ -7,7 +7,7 @@ use mathlib.Core.Path.{◌≡◌, refl, sym, ap, ◌∙◌}
 use mathlib.Core.List.{List, [], ◌∷◌}
 use lib.ListN.{length}
 use Rattle.iir.specs.declared.biquad.Biquad.{Biquad}
-use Rattle.iir.specs.Section.{sectionAt, sectionsFrom}
+use Rattle.iir.specs.Section.{section_at, sections_from}
 use Rattle.iir.specs.Filter.{cascade}
 use Rattle.iir.proofs.Sections.{all_from, four-from}
 use Rattle.iir.proofs.Cascade.{parts}
@@ -15,7 +15,7 @@ use Rattle.iir.proofs.filter.in_cascade.Statement.{statement}
 use Rattle.iir.proofs.filter.in_cascade.Tie as tie
 
 abbrev invariant-loop : tie.invariant-loop
-invariant-loop row₀ numbers count k₀ row k = (k ≤ count) × (length row ≡ length row₀) × (cascade (sectionsFrom numbers (count - k) k) row ≡ cascade (sectionsFrom numbers count 0) row₀)
+invariant-loop row₀ numbers count k₀ row k = (k ≤ count) × (length row ≡ length row₀) × (cascade (sections_from numbers (count - k) k) row ≡ cascade (sections_from numbers count 0) row₀)
 
 abbrev decreases-loop : tie.decreases-loop
 decreases-loop row₀ numbers count k₀ row k = count - k
@@ -69,7 +69,7 @@ loop-again c =
       more,
       c.before.row.given ∙ at.invariant.1,
       rw (c.before.before.four.ensures, c.before.before.before.section4.ensures, c.before.before.before.before.section3.ensures, c.before.before.before.before.before.section2.ensures, c.before.before.before.before.before.before.section.ensures)
-          (sym (parts (sectionAt l k ∷ sectionAt l (k + 1) ∷ sectionAt l (k + 2) ∷ sectionAt l (k + 3) ∷ []) (sectionsFrom l (n - (k + 4)) (k + 4)) at.row)
+          (sym (parts (section_at l k ∷ section_at l (k + 1) ∷ section_at l (k + 2) ∷ section_at l (k + 3) ∷ []) (sections_from l (n - (k + 4)) (k + 4)) at.row)
           ∙ ap (λ (bs : List Biquad). cascade bs at.row) (sym (four-from l n k more))
           ∙ at.invariant.2),
     )

@@ -2,16 +2,16 @@
 use native.Mathlib.Omega.{arith}
 use mathlib.Core.Path.{◌≡◌, sym}
 use mathlib.Core.List.{[], ◌∷◌}
-use Rattle.iir.specs.Section.{sectionAt, sectionsFrom}
+use Rattle.iir.specs.Section.{section_at, sections_from}
 use Rattle.iir.proofs.Sections.{two_from, three-from}
-use Rattle.iir.proofs.Cascade.{in-turn}
+use Rattle.iir.proofs.Cascade.{in_turn}
 use borrow.Author.Rules.{rules}
 use Rattle.iir.proofs.filter.rest_in_cascade.Statement.{statement}
 use Rattle.iir.proofs.filter.rest_in_cascade.Tie as tie
 
 returns : tie.Need-returns
-unfolding sectionsFrom
-returns c = rw c.if1.true (sym (in-turn [] c.before.before.before.args.row.now))
+unfolding sections_from
+returns c = rw c.if1.true (sym (in_turn [] c.before.before.before.args.row.now))
 
 section-requires : tie.Need-section-requires
 section-requires c κs = search rules
@@ -23,11 +23,11 @@ same_length : tie.Need-same-length
 same_length c = search rules
 
 returns-2 : tie.Need-returns-2
-unfolding sectionsFrom
+unfolding sections_from
 returns-2 c =
     let a = c.before.before.before.before.before.before.before.before.before.args in
     rw (c.before.before.one.ensures, c.before.before.before.section.ensures, c.before.before.before.before.before.if2.true)
-    (sym (in-turn (sectionAt a.numbers.now a.k ∷ []) a.row.now))
+    (sym (in_turn (section_at a.numbers.now a.k ∷ []) a.row.now))
 
 section-requires-2 : tie.Need-section-requires-2
 section-requires-2 c κs = search rules

@@ -4,7 +4,7 @@ use native.Mathlib.Omega.{arith}
 use mathlib.Core.Path.{sym}
 use mathlib.Core.List.{[], ◌∷◌}
 use Rattle.iir.proofs.Cascade.{parts}
-use Rattle.iir.proofs.Flights.{four-launched}
+use Rattle.iir.proofs.Flights.{four_launched}
 use borrow.Author.Rules.{rules}
 use Rattle.iir.proofs.flight.four.Statement.{statement}
 use Rattle.iir.proofs.flight.four.Tie as tie
@@ -61,7 +61,7 @@ returns-2 : tie.Need-returns-2
 returns-2 c =
     let start = c.before.before.before.before.before.before.before.before.before.before.before.before.before.before.before in
     rw (c.before.before.four-in-flight.ensures, c.before.before.before.before.run6.ensures, c.before.before.before.before.before.before.run5.ensures, c.before.before.before.before.before.before.before.run4.ensures, c.before.before.before.before.before.before.before.before.before.run3.ensures, c.before.before.before.before.before.before.before.before.before.before.run2.ensures, c.before.before.before.before.before.before.before.before.before.before.before.run.ensures)
-    (four-launched start.args.a start.args.b start.args.c start.args.d start.args.row.now (omega (arith, c.before.before.before.before.before.before.before.before.before.before.before.before.before.if1.false)))
+    (four_launched start.args.a start.args.b start.args.c start.args.d start.args.row.now (omega (arith, c.before.before.before.before.before.before.before.before.before.before.before.before.before.if1.false)))
 
 pub four-spec : {M : Type 1} → statement M
 four-spec =

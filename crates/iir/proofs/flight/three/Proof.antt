@@ -4,7 +4,7 @@ use native.Mathlib.Omega.{arith}
 use mathlib.Core.Path.{sym}
 use mathlib.Core.List.{[], ◌∷◌}
 use Rattle.iir.proofs.Cascade.{first}
-use Rattle.iir.proofs.Flights.{three-launched}
+use Rattle.iir.proofs.Flights.{three_launched}
 use borrow.Author.Rules.{rules}
 use Rattle.iir.proofs.flight.three.Statement.{statement}
 use Rattle.iir.proofs.flight.three.Tie as tie
@@ -49,7 +49,7 @@ returns-2 : tie.Need-returns-2
 returns-2 c =
     let start = c.before.before.before.before.before.before.before.before.before.before.before in
     rw (c.before.before.three-in-flight.ensures, c.before.before.before.before.run3.ensures, c.before.before.before.before.before.before.run2.ensures, c.before.before.before.before.before.before.before.run.ensures)
-    (three-launched start.args.a start.args.b start.args.c start.args.row.now (omega (arith, c.before.before.before.before.before.before.before.before.before.if1.false)))
+    (three_launched start.args.a start.args.b start.args.c start.args.row.now (omega (arith, c.before.before.before.before.before.before.before.before.before.if1.false)))
 
 pub three-spec : {M : Type 1} → statement M
 three-spec =

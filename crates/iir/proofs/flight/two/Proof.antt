@@ -1,7 +1,7 @@
 -- `iir::flight::two` meets its contract: of no sample nothing comes, and otherwise the first is on its way. Assumes nothing.
 use borrow.Author.Rules.{rules}
 use native.Mathlib.Omega.{arith}
-use Rattle.iir.proofs.Flights.{none-through, two-launched}
+use Rattle.iir.proofs.Flights.{none-through, two_launched}
 use Rattle.iir.proofs.flight.two.Statement.{statement}
 use Rattle.iir.proofs.flight.two.Tie as tie
 
@@ -24,7 +24,7 @@ returns-2 : tie.Need-returns-2
 returns-2 c =
     let start = c.before.before.before.before.before.before.before.before in
     rw (c.before.before.two-in-flight.ensures, c.before.before.before.before.run.ensures)
-    (two-launched start.args.a start.args.b start.args.row.now (omega arith))
+    (two_launched start.args.a start.args.b start.args.row.now (omega arith))
 
 pub two-spec : {M : Type 1} → statement M
 two-spec =

@@ -1,6 +1,6 @@
 -- `job::command::barrier` meets its contract. Field by field: each answer of a call picks the case of the definition. Assumes nothing.
 use mathlib.Core.Path.{sym, ◌∙◌}
-use Rattle.job.specs.Command.{barrierOf}
+use Rattle.job.specs.Command.{barrier_of}
 use Rattle.job.proofs.Counting.{differs, equals}
 use borrow.Author.Rules.{rules}
 use Rattle.job.proofs.command.barrier.Statement.{statement}
@@ -10,7 +10,7 @@ count-requires : tie.Need-count-requires
 count-requires c κs = search rules
 
 returns : tie.Need-returns
-unfolding barrierOf
+unfolding barrier_of
 returns c =
     rw (differs c.before.count.ensures c.if1.true)
 
@@ -30,19 +30,19 @@ enum_told : tie.Need-enum-told
 enum_told c = search rules
 
 returns-2 : tie.Need-returns-2
-unfolding barrierOf
+unfolding barrier_of
 returns-2 c =
     rw (
       equals c.before.before.before.before.before.before.before.count.ensures c.before.before.before.before.before.before.if1.false,
-      sym c.before.before.before.pair-in.ensures ∙ c.before.times.given.1,
+      sym c.before.before.before.pair_in.ensures ∙ c.before.times.given.1,
     )
 
 returns-3 : tie.Need-returns-3
-unfolding barrierOf
+unfolding barrier_of
 returns-3 c =
     rw (
       equals c.before.before.before.before.before.before.count.ensures c.before.before.before.before.before.if1.false,
-      sym c.before.before.pair-in.ensures ∙ c.enum_told.given.1,
+      sym c.before.before.pair_in.ensures ∙ c.enum_told.given.1,
     )
 
 pub barrier-spec : {M : Type 1} → statement M

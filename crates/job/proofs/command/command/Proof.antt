@@ -1,6 +1,6 @@
 -- `job::command::command` meets its contract. By the first word. Assumes nothing.
 use mathlib.Core.Path.{sym, ◌∙◌}
-use Rattle.job.specs.Command.{commandOf}
+use Rattle.job.specs.Command.{command_of}
 use borrow.Author.Rules.{rules}
 use Rattle.job.proofs.command.command.Statement.{statement}
 use Rattle.job.proofs.command.command.Tie as tie
@@ -15,7 +15,7 @@ play-requires : tie.Need-play-requires
 play-requires c κs = search rules
 
 returns : tie.Need-returns
-unfolding commandOf
+unfolding command_of
 returns c =
     rw (sym c.before.before.is_IsWord.ensures ∙ c.before.if1.true) c.play.ensures
 
@@ -29,7 +29,7 @@ swap-requires : tie.Need-swap-requires
 swap-requires c κs = search rules
 
 returns-2 : tie.Need-returns-2
-unfolding commandOf
+unfolding command_of
 returns-2 c =
     rw (
       sym c.before.before.before.before.before.is_IsWord.ensures ∙ c.before.before.before.before.if1.false,
@@ -46,7 +46,7 @@ barrier-requires : tie.Need-barrier-requires
 barrier-requires c κs = search rules
 
 returns-3 : tie.Need-returns-3
-unfolding commandOf
+unfolding command_of
 returns-3 c =
     rw (
       sym c.before.before.before.before.before.before.before.before.is_IsWord.ensures ∙ c.before.before.before.before.before.before.before.if1.false,
@@ -58,7 +58,7 @@ step-requires : tie.Need-step-requires
 step-requires c κs = search rules
 
 returns-4 : tie.Need-returns-4
-unfolding commandOf
+unfolding command_of
 returns-4 c =
     rw (
       sym c.before.before.before.before.before.before.before.before.is_IsWord.ensures ∙ c.before.before.before.before.before.before.before.if1.false,

@@ -1,6 +1,6 @@
 -- `job::command::play` meets its contract. Field by field: each answer of a call picks the case of the definition. Assumes nothing.
 use mathlib.Core.Path.{sym, ◌∙◌}
-use Rattle.job.specs.Command.{playOf}
+use Rattle.job.specs.Command.{play_of}
 use Rattle.job.proofs.Counting.{differs, equals}
 use borrow.Author.Rules.{rules}
 use Rattle.job.proofs.command.play.Statement.{statement}
@@ -10,7 +10,7 @@ count-requires : tie.Need-count-requires
 count-requires c κs = search rules
 
 returns : tie.Need-returns
-unfolding playOf
+unfolding play_of
 returns c =
     rw (differs c.before.count.ensures c.if1.true)
 
@@ -27,7 +27,7 @@ enum_told : tie.Need-enum-told
 enum_told c = search rules
 
 returns-2 : tie.Need-returns-2
-unfolding playOf
+unfolding play_of
 returns-2 c =
     rw (
       equals c.before.before.before.before.before.count.ensures c.before.before.before.before.if1.false,
@@ -47,7 +47,7 @@ enum-told-2 : tie.Need-enum-told-2
 enum-told-2 c = search rules
 
 returns-3 : tie.Need-returns-3
-unfolding playOf
+unfolding play_of
 returns-3 c =
     let c2 = c.before.before in
     let c5 = c2.before.before.before in
@@ -57,7 +57,7 @@ returns-3 c =
     rw (
       equals c10.count.ensures c9.if1.false,
       sym c7.name_in.ensures ∙ c5.named.given.1,
-      sym c2.shape-in.ensures ∙ c.enum-told2.given.1,
+      sym c2.shape_in.ensures ∙ c.enum-told2.given.1,
     )
 
 slice-aggregate-pair-in : tie.Need-slice-aggregate-pair-in
@@ -76,7 +76,7 @@ enum-told-3 : tie.Need-enum-told-3
 enum-told-3 c = search rules
 
 returns-4 : tie.Need-returns-4
-unfolding playOf
+unfolding play_of
 returns-4 c =
     let c2 = c.before.before in
     let c6 = c2.before.before.before.before in
@@ -88,8 +88,8 @@ returns-4 c =
     rw (
       equals c16.count.ensures c15.if1.false,
       sym c13.name_in.ensures ∙ c11.named.given.1,
-      sym c8.shape-in.ensures ∙ c6.form.given.1,
-      sym c2.pair-in.ensures ∙ c.enum-told3.given.1,
+      sym c8.shape_in.ensures ∙ c6.form.given.1,
+      sym c2.pair_in.ensures ∙ c.enum-told3.given.1,
     )
 
 slice-aggregate-pair-in-3 : tie.Need-slice-aggregate-pair-in-3
@@ -108,7 +108,7 @@ enum-told-4 : tie.Need-enum-told-4
 enum-told-4 c = search rules
 
 returns-5 : tie.Need-returns-5
-unfolding playOf
+unfolding play_of
 returns-5 c =
     let c2 = c.before.before in
     let c6 = c2.before.before.before.before in
@@ -122,8 +122,8 @@ returns-5 c =
     rw (
       equals c22.count.ensures c21.if1.false,
       sym c19.name_in.ensures ∙ c17.named.given.1,
-      sym c14.shape-in.ensures ∙ c12.form.given.1,
-      sym c8.pair-in.ensures ∙ c6.sizes.given.1,
+      sym c14.shape_in.ensures ∙ c12.form.given.1,
+      sym c8.pair_in.ensures ∙ c6.sizes.given.1,
       sym c2.pair-in2.ensures ∙ c.enum-told4.given.1,
     )
 
@@ -143,7 +143,7 @@ enum-told-5 : tie.Need-enum-told-5
 enum-told-5 c = search rules
 
 returns-6 : tie.Need-returns-6
-unfolding playOf
+unfolding play_of
 returns-6 c =
     let c2 = c.before.before in
     let c6 = c2.before.before.before.before in
@@ -159,8 +159,8 @@ returns-6 c =
     rw (
       equals c28.count.ensures c27.if1.false,
       sym c25.name_in.ensures ∙ c23.named.given.1,
-      sym c20.shape-in.ensures ∙ c18.form.given.1,
-      sym c14.pair-in.ensures ∙ c12.sizes.given.1,
+      sym c20.shape_in.ensures ∙ c18.form.given.1,
+      sym c14.pair_in.ensures ∙ c12.sizes.given.1,
       sym c8.pair-in2.ensures ∙ c6.rest.given.1,
       sym c2.pair-in3.ensures ∙ c.enum-told5.given.1,
     )
@@ -178,7 +178,7 @@ enum-told-6 : tie.Need-enum-told-6
 enum-told-6 c = search rules
 
 returns-7 : tie.Need-returns-7
-unfolding playOf
+unfolding play_of
 returns-7 c =
     let c2 = c.before.before in
     let c5 = c2.before.before.before in
@@ -196,11 +196,11 @@ returns-7 c =
     rw (
       equals c33.count.ensures c32.if1.false,
       sym c30.name_in.ensures ∙ c28.named.given.1,
-      sym c25.shape-in.ensures ∙ c23.form.given.1,
-      sym c19.pair-in.ensures ∙ c17.sizes.given.1,
+      sym c25.shape_in.ensures ∙ c23.form.given.1,
+      sym c19.pair_in.ensures ∙ c17.sizes.given.1,
       sym c13.pair-in2.ensures ∙ c11.rest.given.1,
       sym c7.pair-in3.ensures ∙ c5.own.given.1,
-      sym c2.flag-in.ensures ∙ c.enum-told6.given.1,
+      sym c2.flag_in.ensures ∙ c.enum-told6.given.1,
     )
 
 slice-aggregate-pair-in-7 : tie.Need-slice-aggregate-pair-in-7
@@ -219,7 +219,7 @@ enum-told-7 : tie.Need-enum-told-7
 enum-told-7 c = search rules
 
 returns-8 : tie.Need-returns-8
-unfolding playOf
+unfolding play_of
 returns-8 c =
     let c2 = c.before.before in
     let c6 = c2.before.before.before.before in
@@ -239,16 +239,16 @@ returns-8 c =
     rw (
       equals c39.count.ensures c38.if1.false,
       sym c36.name_in.ensures ∙ c34.named.given.1,
-      sym c31.shape-in.ensures ∙ c29.form.given.1,
-      sym c25.pair-in.ensures ∙ c23.sizes.given.1,
+      sym c31.shape_in.ensures ∙ c29.form.given.1,
+      sym c25.pair_in.ensures ∙ c23.sizes.given.1,
       sym c19.pair-in2.ensures ∙ c17.rest.given.1,
       sym c13.pair-in3.ensures ∙ c11.own.given.1,
-      sym c8.flag-in.ensures ∙ c6.flex.given.1,
+      sym c8.flag_in.ensures ∙ c6.flex.given.1,
       sym c2.pair-in4.ensures ∙ c.enum-told7.given.1,
     )
 
 returns-9 : tie.Need-returns-9
-unfolding playOf
+unfolding play_of
 returns-9 c =
     let c3 = c.before.before.before in
     let c7 = c3.before.before.before.before in
@@ -268,11 +268,11 @@ returns-9 c =
     rw (
       equals c40.count.ensures c39.if1.false,
       sym c37.name_in.ensures ∙ c35.named.given.1,
-      sym c32.shape-in.ensures ∙ c30.form.given.1,
-      sym c26.pair-in.ensures ∙ c24.sizes.given.1,
+      sym c32.shape_in.ensures ∙ c30.form.given.1,
+      sym c26.pair_in.ensures ∙ c24.sizes.given.1,
       sym c20.pair-in2.ensures ∙ c18.rest.given.1,
       sym c14.pair-in3.ensures ∙ c12.own.given.1,
-      sym c9.flag-in.ensures ∙ c7.flex.given.1,
+      sym c9.flag_in.ensures ∙ c7.flex.given.1,
       sym c3.pair-in4.ensures ∙ c.before.times.given.1,
     )
 

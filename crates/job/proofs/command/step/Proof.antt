@@ -1,6 +1,6 @@
 -- `job::command::step` meets its contract. By the first word. Assumes nothing.
 use mathlib.Core.Path.{sym, ap, ◌∙◌}
-use Rattle.job.specs.Command.{shiftPhaseBy, setPhaseBy, shiftFreqBy, setFreqBy, step_of}
+use Rattle.job.specs.Command.{shift_phase_by, set_phase_by, shift_freq_by, set_freq_by, step_of}
 use borrow.Author.Rules.{rules}
 use Rattle.job.proofs.command.step.Statement.{statement}
 use Rattle.job.proofs.command.step.Tie as tie
@@ -23,7 +23,7 @@ shift-phase-requires c κs = search rules
 returns : tie.Need-returns
 unfolding step_of
 returns c =
-    rw (sym c.before.before.before.before.is_IsWord.ensures ∙ c.before.before.before.if1.true) (c.shift-phase.ensures ∙ ap shiftPhaseBy c.before.turn_by.ensures)
+    rw (sym c.before.before.before.before.is_IsWord.ensures ∙ c.before.before.before.if1.true) (c.shift-phase.ensures ∙ ap shift_phase_by c.before.turn_by.ensures)
 
 slice-aggregate-is-word-2 : tie.Need-slice-aggregate-is-word-2
 slice-aggregate-is-word-2 c = search rules
@@ -46,7 +46,7 @@ returns-2 c =
     rw (
       sym c.before.before.before.before.before.before.before.is_IsWord.ensures ∙ c.before.before.before.before.before.before.if1.false,
       sym c.before.before.before.before.is-word2.ensures ∙ c.before.before.before.if2.true,
-    ) (c.set-phase.ensures ∙ ap setPhaseBy c.before.turn-by2.ensures)
+    ) (c.set-phase.ensures ∙ ap set_phase_by c.before.turn-by2.ensures)
 
 slice-aggregate-is-word-3 : tie.Need-slice-aggregate-is-word-3
 slice-aggregate-is-word-3 c = search rules
@@ -76,7 +76,7 @@ returns-3 c =
       sym c10.is_IsWord.ensures ∙ c9.if1.false,
       sym c7.is-word2.ensures ∙ c6.if2.false,
       sym c4.is-word3.ensures ∙ c3.if3.true,
-    ) (c.shift-freq.ensures ∙ ap shiftFreqBy c.before.turn-by3.ensures)
+    ) (c.shift_freq.ensures ∙ ap shift_freq_by c.before.turn-by3.ensures)
 
 slice-aggregate-is-word-4 : tie.Need-slice-aggregate-is-word-4
 slice-aggregate-is-word-4 c = search rules
@@ -109,7 +109,7 @@ returns-4 c =
       sym c10.is-word2.ensures ∙ c9.if2.false,
       sym c7.is-word3.ensures ∙ c6.if3.false,
       sym c4.is-word4.ensures ∙ c3.if4.true,
-    ) (c.set-freq.ensures ∙ ap setFreqBy c.before.turn-by4.ensures)
+    ) (c.set_freq.ensures ∙ ap set_freq_by c.before.turn-by4.ensures)
 
 list-line-requires : tie.Need-list-line-requires
 list-line-requires c κs = search rules

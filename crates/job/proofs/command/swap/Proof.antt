@@ -1,6 +1,6 @@
 -- `job::command::swap` meets its contract. Field by field: each answer of a call picks the case of the definition. Assumes nothing.
 use mathlib.Core.Path.{sym, ◌∙◌}
-use Rattle.job.specs.Command.{swapOf}
+use Rattle.job.specs.Command.{swap_of}
 use Rattle.job.proofs.Counting.{differs, equals}
 use borrow.Author.Rules.{rules}
 use Rattle.job.proofs.command.swap.Statement.{statement}
@@ -10,7 +10,7 @@ count-requires : tie.Need-count-requires
 count-requires c κs = search rules
 
 returns : tie.Need-returns
-unfolding swapOf
+unfolding swap_of
 returns c =
     rw (differs c.before.count.ensures c.if1.true)
 
@@ -27,7 +27,7 @@ enum_told : tie.Need-enum-told
 enum_told c = search rules
 
 returns-2 : tie.Need-returns-2
-unfolding swapOf
+unfolding swap_of
 returns-2 c =
     rw (
       equals c.before.before.before.before.before.count.ensures c.before.before.before.before.if1.false,
@@ -47,7 +47,7 @@ enum-told-2 : tie.Need-enum-told-2
 enum-told-2 c = search rules
 
 returns-3 : tie.Need-returns-3
-unfolding swapOf
+unfolding swap_of
 returns-3 c =
     let c2 = c.before.before in
     let c5 = c2.before.before.before in
@@ -76,7 +76,7 @@ enum-told-3 : tie.Need-enum-told-3
 enum-told-3 c = search rules
 
 returns-4 : tie.Need-returns-4
-unfolding swapOf
+unfolding swap_of
 returns-4 c =
     let c2 = c.before.before in
     let c6 = c2.before.before.before.before in
@@ -89,11 +89,11 @@ returns-4 c =
       equals c16.count.ensures c15.if1.false,
       sym c13.name_in.ensures ∙ c11.first.given.1,
       sym c8.name-in2.ensures ∙ c6.second.given.1,
-      sym c2.pair-in.ensures ∙ c.enum-told3.given.1,
+      sym c2.pair_in.ensures ∙ c.enum-told3.given.1,
     )
 
 returns-5 : tie.Need-returns-5
-unfolding swapOf
+unfolding swap_of
 returns-5 c =
     let c3 = c.before.before.before in
     let c7 = c3.before.before.before.before in
@@ -106,7 +106,7 @@ returns-5 c =
       equals c17.count.ensures c16.if1.false,
       sym c14.name_in.ensures ∙ c12.first.given.1,
       sym c9.name-in2.ensures ∙ c7.second.given.1,
-      sym c3.pair-in.ensures ∙ c.before.times.given.1,
+      sym c3.pair_in.ensures ∙ c.before.times.given.1,
     )
 
 pub swap_spec : {M : Type 1} → statement M

@@ -1,6 +1,6 @@
 -- `job::line::action` meets its contract. By the first word. Assumes nothing.
 use mathlib.Core.Path.{sym, ◌∙◌}
-use Rattle.job.specs.Line.{actionOf}
+use Rattle.job.specs.Line.{action_of}
 use Rattle.job.proofs.Counting.{differs, equals}
 use borrow.Author.Rules.{rules}
 use Rattle.job.proofs.line.action.Statement.{statement}
@@ -13,7 +13,7 @@ command-requires : tie.Need-command-requires
 command-requires c κs = search rules
 
 returns : tie.Need-returns
-unfolding actionOf
+unfolding action_of
 returns c =
     rw (differs c.before.before.count.ensures c.before.if1.true) c.command.ensures
 
@@ -24,7 +24,7 @@ is-word-requires : tie.Need-is-word-requires
 is-word-requires c κs = search rules
 
 returns-2 : tie.Need-returns-2
-unfolding actionOf
+unfolding action_of
 returns-2 c =
     rw (
       equals c.before.before.before.before.count.ensures c.before.before.before.if1.false,
@@ -38,7 +38,7 @@ is-word-requires-2 : tie.Need-is-word-requires-2
 is-word-requires-2 c κs = search rules
 
 returns-3 : tie.Need-returns-3
-unfolding actionOf
+unfolding action_of
 returns-3 c =
     rw (
       equals c.before.before.before.before.before.before.before.count.ensures c.before.before.before.before.before.before.if1.false,
@@ -53,7 +53,7 @@ is-word-requires-3 : tie.Need-is-word-requires-3
 is-word-requires-3 c κs = search rules
 
 returns-4 : tie.Need-returns-4
-unfolding actionOf
+unfolding action_of
 returns-4 c =
     let c3 = c.before.before.before in
     let c4 = c3.before in
@@ -72,7 +72,7 @@ command-requires-2 : tie.Need-command-requires-2
 command-requires-2 c κs = search rules
 
 returns-5 : tie.Need-returns-5
-unfolding actionOf
+unfolding action_of
 returns-5 c =
     let c2 = c.before.before in
     let c4 = c2.before.before in

@@ -1,6 +1,6 @@
 -- `job::line::channel` meets its contract. Field by field: each answer of a call picks the case of the definition. Assumes nothing.
 use mathlib.Core.Path.{sym, ◌∙◌}
-use Rattle.job.specs.Line.{channelOf}
+use Rattle.job.specs.Line.{channel_of}
 use Rattle.job.proofs.Counting.{differs, equals}
 use borrow.Author.Rules.{rules}
 use Rattle.job.proofs.line.channel.Statement.{statement}
@@ -10,7 +10,7 @@ count-requires : tie.Need-count-requires
 count-requires c κs = search rules
 
 returns : tie.Need-returns
-unfolding channelOf
+unfolding channel_of
 returns c =
     rw (differs c.before.count.ensures c.if1.true)
 
@@ -27,7 +27,7 @@ enum_told : tie.Need-enum-told
 enum_told c = search rules
 
 returns-2 : tie.Need-returns-2
-unfolding channelOf
+unfolding channel_of
 returns-2 c =
     rw (
       equals c.before.before.before.before.before.count.ensures c.before.before.before.before.if1.false,
@@ -50,7 +50,7 @@ enum-told-2 : tie.Need-enum-told-2
 enum-told-2 c = search rules
 
 returns-3 : tie.Need-returns-3
-unfolding channelOf
+unfolding channel_of
 returns-3 c =
     let c2 = c.before.before in
     let c6 = c2.before.before.before.before in
@@ -60,7 +60,7 @@ returns-3 c =
     rw (
       equals c11.count.ensures c10.if1.false,
       sym c8.name_in.ensures ∙ c6.named.given.1,
-      sym c2.pair-in.ensures ∙ c.enum-told2.given.1,
+      sym c2.pair_in.ensures ∙ c.enum-told2.given.1,
     )
 
 slice-aggregate-number-in : tie.Need-slice-aggregate-number-in
@@ -76,7 +76,7 @@ enum-told-3 : tie.Need-enum-told-3
 enum-told-3 c = search rules
 
 returns-4 : tie.Need-returns-4
-unfolding channelOf
+unfolding channel_of
 returns-4 c =
     let c2 = c.before.before in
     let c5 = c2.before.before.before in
@@ -88,12 +88,12 @@ returns-4 c =
     rw (
       equals c16.count.ensures c15.if1.false,
       sym c13.name_in.ensures ∙ c11.named.given.1,
-      sym c7.pair-in.ensures ∙ c5.frequencies.given.1,
+      sym c7.pair_in.ensures ∙ c5.frequencies.given.1,
       sym c2.number_in.ensures ∙ c.enum-told3.given.1,
     )
 
 returns-5 : tie.Need-returns-5
-unfolding channelOf
+unfolding channel_of
 returns-5 c =
     let c3 = c.before.before.before in
     let c6 = c3.before.before.before in
@@ -105,7 +105,7 @@ returns-5 c =
     rw (
       equals c17.count.ensures c16.if1.false,
       sym c14.name_in.ensures ∙ c12.named.given.1,
-      sym c8.pair-in.ensures ∙ c6.frequencies.given.1,
+      sym c8.pair_in.ensures ∙ c6.frequencies.given.1,
       sym c3.number_in.ensures ∙ c.before.turns.given.1,
     )
 

@@ -1,13 +1,13 @@
 -- `job::line::read` meets its contract. By the first byte. Assumes nothing.
 use native.Mathlib.Omega.{arith}
-use Rattle.job.proofs.Reading.{nothing-in, remark, says}
+use Rattle.job.proofs.Reading.{nothing_in, remark, says}
 use mathlib.Core.Path.{sym}
 use borrow.Author.Rules.{rules}
 use Rattle.job.proofs.line.read.Statement.{statement}
 use Rattle.job.proofs.line.read.Tie as tie
 
 returns : tie.Need-returns
-returns c = sym (nothing-in _ (omega arith))
+returns c = sym (nothing_in _ (omega arith))
 
 shared-slice-read-if2 : tie.Need-shared-slice-read-if2
 shared-slice-read-if2 c = search rules

@@ -4,7 +4,7 @@ use lib.IntN.{ℤ}
 use mir.Syntax.{w32}
 use mir.ValLaws.{to_z-of_z}
 use Rattle.job.specs.declared.line.Line.TheVariants.{Sample}
-use Rattle.job.specs.Line.{sampleOf}
+use Rattle.job.specs.Line.{sample_of}
 use Rattle.job.proofs.Counting.{differs, equals}
 use borrow.Author.Rules.{rules}
 use Rattle.job.proofs.line.sample.Statement.{statement}
@@ -14,7 +14,7 @@ count-requires : tie.Need-count-requires
 count-requires c κs = search rules
 
 returns : tie.Need-returns
-unfolding sampleOf
+unfolding sample_of
 returns c =
     rw (differs c.before.count.ensures c.if1.true)
 
@@ -31,7 +31,7 @@ enum_told : tie.Need-enum-told
 enum_told c = search rules
 
 returns-2 : tie.Need-returns-2
-unfolding sampleOf
+unfolding sample_of
 returns-2 c =
     rw (
       equals c.before.before.before.before.before.count.ensures c.before.before.before.before.if1.false,
@@ -54,7 +54,7 @@ enum-told-2 : tie.Need-enum-told-2
 enum-told-2 c = search rules
 
 returns-3 : tie.Need-returns-3
-unfolding sampleOf
+unfolding sample_of
 returns-3 c =
     let c2 = c.before.before in
     let c6 = c2.before.before.before.before in
@@ -64,7 +64,7 @@ returns-3 c =
     rw (
       equals c11.count.ensures c10.if1.false,
       sym c8.name_in.ensures ∙ c6.named.given.1,
-      sym c2.pair-in.ensures ∙ c.enum-told2.given.1,
+      sym c2.pair_in.ensures ∙ c.enum-told2.given.1,
     )
 
 slice-aggregate-level-in : tie.Need-slice-aggregate-level-in
@@ -80,7 +80,7 @@ enum-told-3 : tie.Need-enum-told-3
 enum-told-3 c = search rules
 
 returns-4 : tie.Need-returns-4
-unfolding sampleOf
+unfolding sample_of
 returns-4 c =
     let c2 = c.before.before in
     let c5 = c2.before.before.before in
@@ -92,12 +92,12 @@ returns-4 c =
     rw (
       equals c16.count.ensures c15.if1.false,
       sym c13.name_in.ensures ∙ c11.named.given.1,
-      sym c7.pair-in.ensures ∙ c5.clock.given.1,
+      sym c7.pair_in.ensures ∙ c5.clock.given.1,
       sym c2.level_in.ensures ∙ c.enum-told3.given.1,
     )
 
 returns-5 : tie.Need-returns-5
-unfolding sampleOf
+unfolding sample_of
 returns-5 c =
     let c3 = c.before.before.before in
     let c6 = c3.before.before.before in
@@ -109,7 +109,7 @@ returns-5 c =
     rw (
       equals c17.count.ensures c16.if1.false,
       sym c14.name_in.ensures ∙ c12.named.given.1,
-      sym c8.pair-in.ensures ∙ c6.clock.given.1,
+      sym c8.pair_in.ensures ∙ c6.clock.given.1,
       sym c3.level_in.ensures ∙ c.before.aligned.given.1,
     )
     (ap (λ (z : ℤ). Sample (record {

@@ -34,7 +34,7 @@ unfolding tables_of
 returns-2 c =
     rw (
       equals c.before.before.before.before.before.before.count.ensures c.before.before.before.before.before.if1.false,
-      sym c.before.before.pair-in.ensures ∙ c.enum_told.given.1,
+      sym c.before.before.pair_in.ensures ∙ c.enum_told.given.1,
     )
 
 slice-aggregate-flag-in : tie.Need-slice-aggregate-flag-in
@@ -59,8 +59,8 @@ returns-3 c =
     let c11 = c10.before in
     rw (
       equals c11.count.ensures c10.if1.false,
-      sym c7.pair-in.ensures ∙ c5.tolerances.given.1,
-      sym c2.flag-in.ensures ∙ c.enum-told2.given.1,
+      sym c7.pair_in.ensures ∙ c5.tolerances.given.1,
+      sym c2.flag_in.ensures ∙ c.enum-told2.given.1,
     )
 
 returns-4 : tie.Need-returns-4
@@ -73,8 +73,8 @@ returns-4 c =
     let c12 = c11.before in
     rw (
       equals c12.count.ensures c11.if1.false,
-      sym c8.pair-in.ensures ∙ c6.tolerances.given.1,
-      sym c3.flag-in.ensures ∙ c.before.oversize.given.1,
+      sym c8.pair_in.ensures ∙ c6.tolerances.given.1,
+      sym c3.flag_in.ensures ∙ c.before.oversize.given.1,
     )
 
 pub tables-spec : {M : Type 1} → statement M

@@ -5,13 +5,13 @@ use native.Mathlib.Omega.{arith}
 use borrow.Author.Rules.{rules}
 use lib.ListN.{length, drop}
 use Rattle.fields.specs.Words.{words_of}
-use Rattle.job.specs.List.{allNumbers, numbersFrom}
+use Rattle.job.specs.List.{all_numbers, numbers_from}
 use Rattle.job.proofs.Listing.{numbers-stop, numbers-last, numbers_on, end-within}
 use Rattle.job.proofs.list.all_numbers.Statement.{statement}
 use Rattle.job.proofs.list.all_numbers.Tie as tie
 
 abbrev invariant-loop : tie.invariant-loop
-invariant-loop line k at₀ left₀ at left = (at ≤ length line) × (allNumbers (drop left (words_of (drop at line))) ≡ numbersFrom k (words_of line))
+invariant-loop line k at₀ left₀ at left = (at ≤ length line) × (all_numbers (drop left (words_of (drop at line))) ≡ numbers_from k (words_of line))
 
 abbrev decreases-loop : tie.decreases-loop
 decreases-loop line k at₀ left₀ at left = length line + 1 - at
@@ -20,7 +20,7 @@ never : (a n : ℕ) → a ≤ n → n < a → ⊥
 never a n h k = omega arith
 
 loop-holds : tie.Need-loop-init invariant-loop decreases-loop
-unfolding numbersFrom
+unfolding numbers_from
 loop-holds c = (omega arith, refl)
 
 sub-place : tie.Need-overflow-sub-place invariant-loop decreases-loop

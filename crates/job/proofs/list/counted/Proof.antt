@@ -1,6 +1,6 @@
 -- `job::list::counted` meets its contract. Field by field: each answer of a call picks the case of the definition. Assumes nothing.
 use mathlib.Core.Path.{sym, ◌∙◌}
-use Rattle.job.specs.List.{countedOf}
+use Rattle.job.specs.List.{counted_of}
 use Rattle.job.proofs.Counting.{enough, fewer, rest-differs, rest-equals}
 use Rattle.quant.proofs.Judging.{passed, taken}
 use borrow.Author.Rules.{rules}
@@ -11,7 +11,7 @@ count-requires : tie.Need-count-requires
 count-requires c κs = search rules
 
 returns : tie.Need-returns
-unfolding countedOf
+unfolding counted_of
 returns c =
     rw (fewer c.before.count.ensures c.if1.true)
 
@@ -28,7 +28,7 @@ enum_told : tie.Need-enum-told
 enum_told c = search rules
 
 returns-2 : tie.Need-returns-2
-unfolding countedOf
+unfolding counted_of
 returns-2 c =
     rw (
       enough c.before.before.before.before.before.count.ensures c.before.before.before.before.if1.false,
@@ -42,7 +42,7 @@ sub-if2 : tie.Need-overflow-sub-if2
 sub-if2 c = search rules
 
 returns-3 : tie.Need-returns-3
-unfolding countedOf
+unfolding counted_of
 returns-3 c =
     rw (
       enough c.before.before.before.before.before.before.before.before.count.ensures c.before.before.before.before.before.before.before.if1.false,
@@ -54,7 +54,7 @@ all-numbers-requires : tie.Need-all-numbers-requires
 all-numbers-requires c κs = search rules
 
 returns-4 : tie.Need-returns-4
-unfolding countedOf
+unfolding counted_of
 returns-4 c =
     let c2 = c.before.before in
     let c3 = c2.before in
@@ -70,7 +70,7 @@ returns-4 c =
     )
 
 returns-5 : tie.Need-returns-5
-unfolding countedOf
+unfolding counted_of
 returns-5 c =
     let c2 = c.before.before in
     let c3 = c2.before in

@@ -2,7 +2,7 @@
 use native.Mathlib.Omega.{arith}
 use Rattle.job.proofs.Listing.{square}
 use mathlib.Core.Path.{sym, ◌∙◌}
-use Rattle.job.specs.List.{crosstalkOf}
+use Rattle.job.specs.List.{crosstalk_of}
 use borrow.Author.Tests.{le-ltb, lt-ltb}
 use Rattle.job.proofs.Counting.{differs, equals}
 use Rattle.quant.proofs.Judging.{passed, taken}
@@ -23,12 +23,12 @@ enum_told : tie.Need-enum-told
 enum_told c = search rules
 
 returns : tie.Need-returns
-unfolding crosstalkOf
+unfolding crosstalk_of
 returns c =
     rw (sym c.before.before.whole_in.ensures ∙ c.enum_told.given.1)
 
 returns-2 : tie.Need-returns-2
-unfolding crosstalkOf
+unfolding crosstalk_of
 returns-2 c =
     rw (
       sym c.before.before.before.before.whole_in.ensures ∙ c.before.before.said.given.1,
@@ -48,7 +48,7 @@ add-if2-2 : tie.Need-overflow-add-if2-2
 add-if2-2 c = omega (arith, square c.before.before.before.said.given.0.0 c.before.if1.false)
 
 returns-3 : tie.Need-returns-3
-unfolding crosstalkOf
+unfolding crosstalk_of
 returns-3 c =
     rw (
       sym c.before.before.before.before.before.before.whole_in.ensures ∙ c.before.before.before.before.said.given.1,
@@ -63,7 +63,7 @@ all-numbers-requires : tie.Need-all-numbers-requires
 all-numbers-requires c κs = search rules
 
 returns-4 : tie.Need-returns-4
-unfolding crosstalkOf
+unfolding crosstalk_of
 returns-4 c =
     rw (
       sym c.before.before.before.before.before.before.before.before.whole_in.ensures ∙ c.before.before.before.before.before.before.said.given.1,
@@ -73,7 +73,7 @@ returns-4 c =
     )
 
 returns-5 : tie.Need-returns-5
-unfolding crosstalkOf
+unfolding crosstalk_of
 returns-5 c =
     rw (
       sym c.before.before.before.before.before.before.before.before.whole_in.ensures ∙ c.before.before.before.before.before.before.said.given.1,

@@ -1,6 +1,6 @@
 -- `job::list::list_line` meets its contract. By the first word. Assumes nothing.
 use mathlib.Core.Path.{sym, ap, ◌∙◌}
-use Rattle.job.specs.List.{iirBy, firBy, list_of}
+use Rattle.job.specs.List.{iir_by, fir_by, list_of}
 use borrow.Author.Rules.{rules}
 use Rattle.job.proofs.list.list_line.Statement.{statement}
 use Rattle.job.proofs.list.list_line.Tie as tie
@@ -43,7 +43,7 @@ returns-2 c =
     rw (
       sym c6.is_IsWord.ensures ∙ c5.if1.false,
       sym c3.is-word2.ensures ∙ c2.if2.true,
-    ) (c.iir.ensures ∙ ap iirBy c.before.counted.ensures)
+    ) (c.iir.ensures ∙ ap iir_by c.before.counted.ensures)
 
 slice-aggregate-is-word-3 : tie.Need-slice-aggregate-is-word-3
 slice-aggregate-is-word-3 c = search rules
@@ -70,7 +70,7 @@ returns-3 c =
       sym c9.is_IsWord.ensures ∙ c8.if1.false,
       sym c6.is-word2.ensures ∙ c5.if2.false,
       sym c3.is-word3.ensures ∙ c2.if3.true,
-    ) (c.fir.ensures ∙ ap firBy c.before.counted2.ensures)
+    ) (c.fir.ensures ∙ ap fir_by c.before.counted2.ensures)
 
 slice-aggregate-is-word-4 : tie.Need-slice-aggregate-is-word-4
 slice-aggregate-is-word-4 c = search rules

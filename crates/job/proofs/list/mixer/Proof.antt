@@ -1,5 +1,5 @@
 -- `job::list::mixer` meets its contract. Field by field: each answer of a call picks the case of the definition. Assumes nothing.
-use Rattle.job.specs.List.{mixerOf}
+use Rattle.job.specs.List.{mixer_of}
 use Rattle.job.proofs.Counting.{differs, equals}
 use Rattle.quant.proofs.Judging.{passed, taken}
 use borrow.Author.Rules.{rules}
@@ -10,7 +10,7 @@ count-requires : tie.Need-count-requires
 count-requires c κs = search rules
 
 returns : tie.Need-returns
-unfolding mixerOf
+unfolding mixer_of
 returns c =
     rw (differs c.before.count.ensures c.if1.true)
 
@@ -18,7 +18,7 @@ all-numbers-requires : tie.Need-all-numbers-requires
 all-numbers-requires c κs = search rules
 
 returns-2 : tie.Need-returns-2
-unfolding mixerOf
+unfolding mixer_of
 returns-2 c =
     rw (
       equals c.before.before.before.count.ensures c.before.before.if1.false,
@@ -26,7 +26,7 @@ returns-2 c =
     )
 
 returns-3 : tie.Need-returns-3
-unfolding mixerOf
+unfolding mixer_of
 returns-3 c =
     rw (
       equals c.before.before.before.count.ensures c.before.before.if1.false,

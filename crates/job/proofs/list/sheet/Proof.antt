@@ -1,6 +1,6 @@
 -- `job::list::sheet` meets its contract. Field by field: each answer of a call picks the case of the definition. Assumes nothing.
 use mathlib.Core.Path.{sym, ◌∙◌}
-use Rattle.job.specs.List.{sheetOf}
+use Rattle.job.specs.List.{sheet_of}
 use Rattle.job.proofs.Counting.{differs, equals}
 use borrow.Author.Rules.{rules}
 use Rattle.job.proofs.list.sheet.Statement.{statement}
@@ -10,7 +10,7 @@ count-requires : tie.Need-count-requires
 count-requires c κs = search rules
 
 returns : tie.Need-returns
-unfolding sheetOf
+unfolding sheet_of
 returns c =
     rw (differs c.before.count.ensures c.if1.true)
 
@@ -27,7 +27,7 @@ enum_told : tie.Need-enum-told
 enum_told c = search rules
 
 returns-2 : tie.Need-returns-2
-unfolding sheetOf
+unfolding sheet_of
 returns-2 c =
     rw (
       equals c.before.before.before.before.before.before.count.ensures c.before.before.before.before.before.if1.false,
@@ -35,7 +35,7 @@ returns-2 c =
     )
 
 returns-3 : tie.Need-returns-3
-unfolding sheetOf
+unfolding sheet_of
 returns-3 c =
     rw (
       equals c.before.before.before.before.before.count.ensures c.before.before.before.before.if1.false,

@@ -1,6 +1,6 @@
 -- `job::list::spline` meets its contract. Field by field: each answer of a call picks the case of the definition. Assumes nothing.
 use mathlib.Core.Path.{sym, ◌∙◌}
-use Rattle.job.specs.List.{splineOf}
+use Rattle.job.specs.List.{spline_of}
 use Rattle.job.proofs.Counting.{enough, fewer, short-of, parts-differ, parts-equal}
 use Rattle.quant.proofs.Judging.{passed, taken}
 use borrow.Author.Rules.{rules}
@@ -11,7 +11,7 @@ count-requires : tie.Need-count-requires
 count-requires c κs = search rules
 
 returns : tie.Need-returns
-unfolding splineOf
+unfolding spline_of
 returns c =
     rw (fewer c.before.count.ensures c.if1.true)
 
@@ -28,7 +28,7 @@ enum_told : tie.Need-enum-told
 enum_told c = search rules
 
 returns-2 : tie.Need-returns-2
-unfolding splineOf
+unfolding spline_of
 returns-2 c =
     let c2 = c.before.before in
     let c4 = c2.before.before in
@@ -51,7 +51,7 @@ enum-told-2 : tie.Need-enum-told-2
 enum-told-2 c = search rules
 
 returns-3 : tie.Need-returns-3
-unfolding splineOf
+unfolding spline_of
 returns-3 c =
     let c2 = c.before.before in
     let c5 = c2.before.before.before in
@@ -77,7 +77,7 @@ enum-told-3 : tie.Need-enum-told-3
 enum-told-3 c = search rules
 
 returns-4 : tie.Need-returns-4
-unfolding splineOf
+unfolding spline_of
 returns-4 c =
     let c2 = c.before.before in
     let c5 = c2.before.before.before in
@@ -106,7 +106,7 @@ enum-told-4 : tie.Need-enum-told-4
 enum-told-4 c = search rules
 
 returns-5 : tie.Need-returns-5
-unfolding splineOf
+unfolding spline_of
 returns-5 c =
     let c2 = c.before.before in
     let c5 = c2.before.before.before in
@@ -132,7 +132,7 @@ sub-left : tie.Need-overflow-sub-left
 sub-left c = search rules
 
 returns-6 : tie.Need-returns-6
-unfolding splineOf
+unfolding spline_of
 returns-6 c =
     let c3 = c.before.before.before in
     let c5 = c3.before.before in
@@ -154,7 +154,7 @@ returns-6 c =
     )
 
 returns-7 : tie.Need-returns-7
-unfolding splineOf
+unfolding spline_of
 returns-7 c =
     let c2 = c.before.before in
     let c4 = c2.before.before in
@@ -180,7 +180,7 @@ all-numbers-requires : tie.Need-all-numbers-requires
 all-numbers-requires c κs = search rules
 
 returns-8 : tie.Need-returns-8
-unfolding splineOf
+unfolding spline_of
 returns-8 c =
     let c2 = c.before.before in
     let c3 = c2.before in
@@ -206,7 +206,7 @@ returns-8 c =
     )
 
 returns-9 : tie.Need-returns-9
-unfolding splineOf
+unfolding spline_of
 returns-9 c =
     let c2 = c.before.before in
     let c3 = c2.before in

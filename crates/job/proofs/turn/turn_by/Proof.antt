@@ -81,7 +81,7 @@ returns-4 c =
       equals c15.count.ensures c14.if1.false,
       sym c12.name_in.ensures ∙ c10.named.given.1,
       sym c8.number_in.ensures ∙ c6.number.given.1,
-      sym c2.pair-in.ensures ∙ c.enum-told3.given.1,
+      sym c2.pair_in.ensures ∙ c.enum-told3.given.1,
     )
 
 returns-5 : tie.Need-returns-5
@@ -98,7 +98,7 @@ returns-5 c =
       equals c16.count.ensures c15.if1.false,
       sym c13.name_in.ensures ∙ c11.named.given.1,
       sym c9.number_in.ensures ∙ c7.number.given.1,
-      sym c3.pair-in.ensures ∙ c.before.times.given.1,
+      sym c3.pair_in.ensures ∙ c.before.times.given.1,
     )
 
 pub turn-by-spec : {M : Type 1} → statement M

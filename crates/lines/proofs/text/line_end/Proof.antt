@@ -5,13 +5,13 @@ use native.Mathlib.Omega.{arith}
 use native.Mathlib.Numerals.{add-one}
 use borrow.Author.Rules.{rules}
 use lib.ListN.{length, drop}
-use Rattle.lines.specs.Text.{lineLength}
+use Rattle.lines.specs.Text.{line_length}
 use Rattle.lines.proofs.Lines.{ends-here, ends_last, goes_on}
 use Rattle.lines.proofs.text.line_end.Statement.{statement}
 use Rattle.lines.proofs.text.line_end.Tie as tie
 
 abbrev invariant-loop : tie.invariant-loop
-invariant-loop text at i₀ i = i + lineLength (drop i text) ≡ at + lineLength (drop at text)
+invariant-loop text at i₀ i = i + line_length (drop i text) ≡ at + line_length (drop at text)
 
 abbrev decreases-loop : tie.decreases-loop
 decreases-loop text at i₀ i = length text - i
@@ -26,7 +26,7 @@ returns : tie.Need-returns invariant-loop decreases-loop
 returns c =
     let i = c.before.before.before.loop.i in
     let text = c.before.before.before.before.args.text.now in
-    let none : lineLength (drop i text) ≡ 0 = ends-here text i (omega arith) c.if1.true in
+    let none : line_length (drop i text) ≡ 0 = ends-here text i (omega arith) c.if1.true in
     omega arith
 
 add-i : tie.Need-overflow-add-i invariant-loop decreases-loop
@@ -39,14 +39,14 @@ loop-again : tie.Need-loop-preserved invariant-loop decreases-loop
 loop-again c =
     let i = c.before.before.before.loop.i in
     let text = c.before.before.before.before.args.text.now in
-    let one : lineLength (drop i text) ≡ suc (lineLength (drop (suc i) text)) = goes_on text i (omega arith) c.if1.false in
+    let one : line_length (drop i text) ≡ suc (line_length (drop (suc i) text)) = goes_on text i (omega arith) c.if1.false in
     rw add-one (omega arith)
 
 returns-2 : tie.Need-returns-2 invariant-loop decreases-loop
 returns-2 c =
     let i = c.before.loop.i in
     let text = c.before.before.args.text.now in
-    let none : lineLength (drop i text) ≡ 0 = ends_last text i (omega arith) in
+    let none : line_length (drop i text) ≡ 0 = ends_last text i (omega arith) in
     omega arith
 
 pub line-end-spec : {M : Type 1} → statement M

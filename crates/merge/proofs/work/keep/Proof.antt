@@ -9,31 +9,31 @@ use borrow.Author.Tests.{lt-ltb, le-ltb}
 use lib.Ieee.{Float}
 use lib.ListN.{get_or, set}
 use Rattle.pulse.specs.declared.list.Pulse.{Pulse}
-use Rattle.merge.specs.Sum.{plusP, togetherInBin}
-use Rattle.merge.specs.Work.{rowOfPulse, mark_of, laid}
-use Rattle.merge.specs.Keep.{pulseIn, keptIn}
+use Rattle.merge.specs.Sum.{plus_p, together_in_bin}
+use Rattle.merge.specs.Work.{row_of_pulse, mark_of, laid}
+use Rattle.merge.specs.Keep.{pulse_in, kept_in}
 use Rattle.merge.proofs.work.keep.Statement.{statement}
 use Rattle.merge.proofs.work.keep.Tie as tie
 
 -- the three ways; k is the pulse of the last row, and b whether p falls onto it
 module _ (l : List (List Float)) (ms : List ℕ) (from at : ℕ) (p : Pulse) (t : Float) where
   abbrev last : Pulse
-  last = pulseIn (get_or l (at - 1) []) (get_or ms (at - 1) 0)
+  last = pulse_in (get_or l (at - 1) []) (get_or ms (at - 1) 0)
 
-  module _ (k : Pulse) (b : Bool) (less : from < at) (ek : k ≡ last) (eb : b ≡ togetherInBin t k p) where
-    falls-on : togetherInBin t last p ≡ b
+  module _ (k : Pulse) (b : Bool) (less : from < at) (ek : k ≡ last) (eb : b ≡ together_in_bin t k p) where
+    falls-on : together_in_bin t last p ≡ b
     falls-on = sym (rw ek at eb)
 
-    added : (s : Pulse) (row : List Float) → s ≡ plusP k p → row ≡ rowOfPulse s → b ≡ true → laid (set l (at - 1) row) ms at ≡ keptIn from t p (laid l ms at)
-    unfolding keptIn
+    added : (s : Pulse) (row : List Float) → s ≡ plus_p k p → row ≡ row_of_pulse s → b ≡ true → laid (set l (at - 1) row) ms at ≡ kept_in from t p (laid l ms at)
+    unfolding kept_in
     added s row es er is = rw (er, es, ek, lt-ltb from at less, falls-on ∙ is)
 
-    apart : (row : List Float) → row ≡ rowOfPulse p → b ≡ false → laid (set l at row) (set ms at (mark_of p)) (at + 1) ≡ keptIn from t p (laid l ms at)
-    unfolding keptIn
+    apart : (row : List Float) → row ≡ row_of_pulse p → b ≡ false → laid (set l at row) (set ms at (mark_of p)) (at + 1) ≡ kept_in from t p (laid l ms at)
+    unfolding kept_in
     apart row er not_so = rw (er, lt-ltb from at less, falls-on ∙ not_so)
 
-  fresh : (row : List Float) → row ≡ rowOfPulse p → at ≤ from → laid (set l at row) (set ms at (mark_of p)) (at + 1) ≡ keptIn from t p (laid l ms at)
-  unfolding keptIn
+  fresh : (row : List Float) → row ≡ row_of_pulse p → at ≤ from → laid (set l at row) (set ms at (mark_of p)) (at + 1) ≡ kept_in from t p (laid l ms at)
+  unfolding kept_in
   fresh row er h = rw (er, le-ltb from at h)
 
 sub-last : tie.Need-overflow-sub-last

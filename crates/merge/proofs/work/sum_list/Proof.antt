@@ -1,5 +1,5 @@
 -- `merge::work::sum_list` meets its contract: a walk of its MIR by hand, a loop over the records in which each goes to the covered `keep`, with
--- the rows and the marks lent. What is left is always `keptAll` of the records from k on (`proofs/Turns.antt`), and at the end the list summed.
+-- the rows and the marks lent. What is left is always `kept_all` of the records from k on (`proofs/Turns.antt`), and at the end the list summed.
 -- Outside a call each slice is held whole with its lifetime's token. Assumes nothing.
 use mathlib.Core.Path.{◌≡◌, refl, sym, ap, subst}
 use Prim.Native.Nat.{ℕ, ◌<◌, ◌≤◌, ◌^◌, ◌+◌, ◌-◌, ◌*◌}
@@ -58,9 +58,9 @@ use Rattle.pulse.proofs.Walk.{word, after, cell, part, into}
 use Rattle.pulse.specs.contracts.list.Pulse as P
 use Rattle.pulse.proofs.list.Pulse.TheLaws as P'
 use Rattle.merge.specs.Sum.{summed}
-use Rattle.merge.specs.Work.{laid, laidOn}
-use Rattle.merge.specs.Keep.{keptIn}
-use Rattle.merge.proofs.Callees.{Rows, slicesP, refW, sliceW, refM, sliceM, valQ, IsTime, typedQ, has-time, Keeps, to-keep, goes-keep}
+use Rattle.merge.specs.Work.{laid, laid_on}
+use Rattle.merge.specs.Keep.{kept_in}
+use Rattle.merge.proofs.Callees.{Rows, slices_p, ref_w, slice_w, ref_m, slice_m, val_q, IsTime, typed_q, has-time, Keeps, to-keep, goes-keep}
 use Rattle.merge.proofs.Lending.{lends_both, come-both}
 use Rattle.merge.proofs.Turns.{Upto, begin, next, at-end}
 use Rattle.merge.specs.contracts.work.keep as keep
@@ -92,40 +92,40 @@ module _ {M : Type 1} {𝓤 : Ura M} (𝓛 : Logic 𝓤) (mem : Memory → SProp
     (γ₀ γ₁ γ₂ : GName)
     (ps : List Pulse) (from count : ℕ) (t : Time) (ws : Rows) (marks : List ℕ) (at : ℕ) (gp : Room P.the_row (length ps)) (gf : from < 2 ^ 64) (gc : count < 2 ^ 64) (gt : IsTime t)
     (gw : Room Row (length ws)) (gm : Room usize (length marks)) (ga : at < 2 ^ 64)
-    (in-pulses : from + count ≤ length ps) (in-work : at + count ≤ length ws) (in-marks : at + count ≤ length marks) where
+    (in_pulses : from + count ≤ length ps) (in-work : at + count ≤ length ws) (in_marks : at + count ≤ length marks) where
   open 𝓛 use {H}
 
-  abbrev refP : MutBor (List Pulse)
-  refP = record { ref_ptr = (b₀, o₀); ghost_name = γ₀; now = ps }
+  abbrev ref_p : MutBor (List Pulse)
+  ref_p = record { ref_ptr = (b₀, o₀); ghost_name = γ₀; now = ps }
 
   abbrev args : Bor (List Pulse) × (ℕ × (ℕ × (Time × (Bor Rows × (Bor (List ℕ) × (ℕ × Unit {0}))))))
-  args = (refP, (from, (count, (t, (record { ref_ptr = (b₁, o₁); ghost_name = γ₁; now = ws }, (record { ref_ptr = (b₂, o₂); ghost_name = γ₂; now = marks }, (at, tt)))))))
+  args = (ref_p, (from, (count, (t, (record { ref_ptr = (b₁, o₁); ghost_name = γ₁; now = ws }, (record { ref_ptr = (b₂, o₂); ghost_name = γ₂; now = marks }, (at, tt)))))))
 
   abbrev vals : Vals f.signature (κ₀, (κ₁, (κ₂, tt)))
   vals = (
     slice_val (b₀, o₀) (length ps) ∷ [],
     (
       vint w64 from ∷ [],
-      (vint w64 count ∷ [], (valQ t ∷ [], (slice_val (b₁, o₁) (length ws) ∷ [], (slice_val (b₂, o₂) (length marks) ∷ [], (vint w64 at ∷ [], tt))))),
+      (vint w64 count ∷ [], (val_q t ∷ [], (slice_val (b₁, o₁) (length ws) ∷ [], (slice_val (b₂, o₂) (length marks) ∷ [], (vint w64 at ∷ [], tt))))),
     ),
   )
 
-  abbrev ownP : Fml
-  ownP = (ShrSlice (named 0) κ₀ P.the_row).own_val refP (slice_val (b₀, o₀) (length ps) ∷ [])
+  abbrev own_p : Fml
+  own_p = (ShrSlice (named 0) κ₀ P.the_row).own_val ref_p (slice_val (b₀, o₀) (length ps) ∷ [])
 
-  abbrev ownW : Rows → Fml
-  ownW l = Own Row b₁ o₁ (length ws) κ₁ γ₁ l
+  abbrev own_w : Rows → Fml
+  own_w l = Own Row b₁ o₁ (length ws) κ₁ γ₁ l
 
-  abbrev ownM : List ℕ → Fml
-  ownM l = Own usize b₂ o₂ (length marks) κ₂ γ₂ l
+  abbrev own_m : List ℕ → Fml
+  own_m l = Own usize b₂ o₂ (length marks) κ₂ γ₂ l
 
   abbrev Post : Val → SProp 𝓤
   Post = (walk_of 𝓛 f.ended stayed (f.clauses 𝓛 mem run)).post (((κ₀, (κ₁, (κ₂, tt))), (q₀, (q₁, (q₂, tt))), tt, args, vals), tt)
 
-  exits : (r : ℕ) (zs : Rows) (us : List ℕ) → r < 2 ^ 64 → length zs ≡ length ws → length us ≡ length marks → laid zs us r ≡ laidOn (summed t.0 (take count (drop from ps))) at ws marks
-      → ent 𝓤 (⋆ 𝓛 (‵ ownP ∷ ‵ (flft κ₀ q₀) ∷ ‵ (ownW zs) ∷ ‵ (flft κ₁ q₁) ∷ ‵ (ownM us) ∷ ‵ (flft κ₂ q₂) ∷ [])) (Post (vint w64 r))
+  exits : (r : ℕ) (zs : Rows) (us : List ℕ) → r < 2 ^ 64 → length zs ≡ length ws → length us ≡ length marks → laid zs us r ≡ laid_on (summed t.0 (take count (drop from ps))) at ws marks
+      → ent 𝓤 (⋆ 𝓛 (‵ own_p ∷ ‵ (flft κ₀ q₀) ∷ ‵ (own_w zs) ∷ ‵ (flft κ₁ q₁) ∷ ‵ (own_m us) ∷ ‵ (flft κ₂ q₂) ∷ [])) (Post (vint w64 r))
   exits r zs us gr lz lu is =
-      qed 𝓛 (‵ ownP ∷ ‵ (flft κ₀ q₀) ∷ ‵ (ownW zs) ∷ ‵ (flft κ₁ q₁) ∷ ‵ (ownM us) ∷ ‵ (flft κ₂ q₂) ∷ []) ∵
+      qed 𝓛 (‵ own_p ∷ ‵ (flft κ₀ q₀) ∷ ‵ (own_w zs) ∷ ‵ (flft κ₁ q₁) ∷ ‵ (own_m us) ∷ ‵ (flft κ₂ q₂) ∷ []) ∵
       suffices ! _ (ends_at 𝓛 f.ended stayed (f.clauses 𝓛 mem run) (((κ₀, (κ₁, (κ₂, tt))), (q₀, (q₁, (q₂, tt))), tt, args, vals), tt) (vint w64 r) r
       (tt, (tt, (tt, (tt, (zs, (us, (tt, tt))))))) (tt, (tt, (tt, (tt, (lz, (lu, (tt, tt)))))))) $ says ! is $
       nothing ! $ move ! (6 ∷ 0 ∷ []) $ join ! $ move ! (4 ∷ 0 ∷ []) $ join ! $ move ! (2 ∷ 0 ∷ []) $ join ! $ frame ! $
@@ -153,22 +153,22 @@ module _ {M : Type 1} {𝓤 : Ura M} (𝓛 : Logic 𝓤) (mem : Memory → SProp
     fm = fm_of 𝓤 H 𝓛.laws 𝓣
 
     abbrev En : Env 𝓤 H
-    En = (word, l₀) ∷ (slicesP (named 0), l₁) ∷ (word, l₂) ∷ (word, l₃) ∷ (Q'.mir, l₄) ∷ (sliceW (named 1), l₅) ∷ (sliceM (named 2), l₆) ∷ (word, l₇) ∷ (word, l₈) ∷ (word, l₉) ∷ (word, l₁₀)
-        ∷ (P'.mir, l₁₁) ∷ (ty_bool, l₁₂) ∷ (word, l₁₃) ∷ (ty_ptr, l₁₄) ∷ (P'.mir, l₁₅) ∷ (refW, l₁₆) ∷ (slice_ty refW, l₁₇) ∷ (refM, l₁₈) ∷ (slice_ty refM, l₁₉) ∷ []
+    En = (word, l₀) ∷ (slices_p (named 0), l₁) ∷ (word, l₂) ∷ (word, l₃) ∷ (Q'.mir, l₄) ∷ (slice_w (named 1), l₅) ∷ (slice_m (named 2), l₆) ∷ (word, l₇) ∷ (word, l₈) ∷ (word, l₉) ∷ (word, l₁₀)
+        ∷ (P'.mir, l₁₁) ∷ (ty_bool, l₁₂) ∷ (word, l₁₃) ∷ (ty_ptr, l₁₄) ∷ (P'.mir, l₁₅) ∷ (ref_w, l₁₆) ∷ (slice_ty ref_w, l₁₇) ∷ (ref_m, l₁₈) ∷ (slice_ty ref_m, l₁₉) ∷ []
 
     -- [pulses; κ₀; work; κ₁; marks; κ₂; _19; …; _0; …]
     abbrev At : Up → List (Item 𝓤)
-    At u = ‵ ownP ∷ ‵ (flft κ₀ q₀) ∷ ‵ (ownW u.ys) ∷ ‵ (flft κ₁ q₁) ∷ ‵ (ownM u.ms) ∷ ‵ (flft κ₂ q₂)
-        ∷ ‵ (froom (slice_ty refM) l₁₉ 0) ∷ ‵ (fdies (slice_ty refM) l₁₉) ∷ ‵ (froom refM l₁₈ 0) ∷ ‵ (fdies refM l₁₈) ∷ ‵ (froom (slice_ty refW) l₁₇ 0) ∷ ‵ (fdies (slice_ty refW) l₁₇)
-        ∷ ‵ (froom refW l₁₆ 0) ∷ ‵ (fdies refW l₁₆) ∷ ‵ (froom P'.mir l₁₅ 0) ∷ ‵ (fdies P'.mir l₁₅) ∷ ‵ (froom ty_ptr l₁₄ 0) ∷ ‵ (fdies ty_ptr l₁₄)
+    At u = ‵ own_p ∷ ‵ (flft κ₀ q₀) ∷ ‵ (own_w u.ys) ∷ ‵ (flft κ₁ q₁) ∷ ‵ (own_m u.ms) ∷ ‵ (flft κ₂ q₂)
+        ∷ ‵ (froom (slice_ty ref_m) l₁₉ 0) ∷ ‵ (fdies (slice_ty ref_m) l₁₉) ∷ ‵ (froom ref_m l₁₈ 0) ∷ ‵ (fdies ref_m l₁₈) ∷ ‵ (froom (slice_ty ref_w) l₁₇ 0) ∷ ‵ (fdies (slice_ty ref_w) l₁₇)
+        ∷ ‵ (froom ref_w l₁₆ 0) ∷ ‵ (fdies ref_w l₁₆) ∷ ‵ (froom P'.mir l₁₅ 0) ∷ ‵ (fdies P'.mir l₁₅) ∷ ‵ (froom ty_ptr l₁₄ 0) ∷ ‵ (fdies ty_ptr l₁₄)
         ∷ ‵ (froom word l₁₃ 0) ∷ ‵ (fdies word l₁₃) ∷ ‵ (froom ty_bool l₁₂ 0) ∷ ‵ (fdies ty_bool l₁₂) ∷ ‵ (froom P'.mir l₁₁ 0) ∷ ‵ (fdies P'.mir l₁₁)
         ∷ ‵ (fat full_share word l₁₀ 0 (vint w64 u.used)) ∷ ‵ (fdies word l₁₀) ∷ ‵ (fat full_share word l₉ 0 (vint w64 u.k)) ∷ ‵ (fdies word l₉)
         ∷ ‵ (fat full_share word l₈ 0 (vint w64 (from + count))) ∷ ‵ (fdies word l₈)
-        ∷ ‵ (fat full_share word l₇ 0 (vint w64 at)) ∷ ‵ (fdies word l₇) ∷ ‵ (fat full_share (sliceM (named 2)) l₆ 0 (slice_val (b₂, o₂) (length marks))) ∷ ‵ (fdies (sliceM (named 2)) l₆)
-        ∷ ‵ (fat full_share (sliceW (named 1)) l₅ 0 (slice_val (b₁, o₁) (length ws))) ∷ ‵ (fdies (sliceW (named 1)) l₅)
-        ∷ ‵ (fat full_share Q'.mir l₄ 0 (valQ t)) ∷ ‵ (fdies Q'.mir l₄) ∷ ‵ (fat full_share word l₃ 0 (vint w64 count)) ∷ ‵ (fdies word l₃) ∷ ‵ (fat full_share word l₂ 0 (vint w64 from))
+        ∷ ‵ (fat full_share word l₇ 0 (vint w64 at)) ∷ ‵ (fdies word l₇) ∷ ‵ (fat full_share (slice_m (named 2)) l₆ 0 (slice_val (b₂, o₂) (length marks))) ∷ ‵ (fdies (slice_m (named 2)) l₆)
+        ∷ ‵ (fat full_share (slice_w (named 1)) l₅ 0 (slice_val (b₁, o₁) (length ws))) ∷ ‵ (fdies (slice_w (named 1)) l₅)
+        ∷ ‵ (fat full_share Q'.mir l₄ 0 (val_q t)) ∷ ‵ (fdies Q'.mir l₄) ∷ ‵ (fat full_share word l₃ 0 (vint w64 count)) ∷ ‵ (fdies word l₃) ∷ ‵ (fat full_share word l₂ 0 (vint w64 from))
         ∷ ‵ (fdies word l₂)
-        ∷ ‵ (fat full_share (slicesP (named 0)) l₁ 0 (slice_val (b₀, o₀) (length ps))) ∷ ‵ (fdies (slicesP (named 0)) l₁) ∷ ‵ (froom word l₀ 0) ∷ ‵ (fdies word l₀) ∷ []
+        ∷ ‵ (fat full_share (slices_p (named 0)) l₁ 0 (slice_val (b₀, o₀) (length ps))) ∷ ‵ (fdies (slices_p (named 0)) l₁) ∷ ‵ (froom word l₀ 0) ∷ ‵ (fdies word l₀) ∷ []
 
     -- a turn ends nearer to the end, or the loop is left and the rest of the body runs
     abbrev Turned : Up → Out → SProp 𝓤
@@ -206,8 +206,8 @@ module _ {M : Type 1} {𝓤 : Ura M} (𝓛 : Logic 𝓤) (mem : Memory → SProp
         use1 𝓛 (later (some (λ (r : ℕ). ((‵ (flft (ν₁ ∷ []) full_share) ⊛ (‵ (flft (ν₂ ∷ []) full_share) ⊛ ‵ ftrue)) ⊛ ‵ (usize.own_val r (v ∷ [])))
         ⊛ raw (ensured 𝓛 keep.ended (keep.clauses 𝓛 mem run) (ν₁ ∷ [], (ν₂ ∷ [], tt)) (given δ₁ δ₂) tt r)))) (id⊢ 𝓤 _) $ await ! tt $ pick ! (λ r.
         split ! $ move ! (1 ∷ []) $ use1 𝓛 (some (λ (zs : Rows × (List ℕ × (Unit {0} × (Unit {0} × (Unit {0} × (Unit {0} × Unit {0})))))). ‵
-        (lasts keep.ended (ν₁ ∷ [], (ν₂ ∷ [], tt)) (given δ₁ δ₂) zs) ⊛ raw (fact 𝓤 (laid zs.0 zs.1.0 r ≡ keptIn at t.0 p (laid u.ys u.ms u.used))))) (id⊢ 𝓤 _) $ pick ! (λ zs.
-        split ! $ move ! (1 ∷ []) $ heard ! (laid zs.0 zs.1.0 r ≡ keptIn at t.0 p (laid u.ys u.ms u.used)) (λ e.
+        (lasts keep.ended (ν₁ ∷ [], (ν₂ ∷ [], tt)) (given δ₁ δ₂) zs) ⊛ raw (fact 𝓤 (laid zs.0 zs.1.0 r ≡ kept_in at t.0 p (laid u.ys u.ms u.used))))) (id⊢ 𝓤 _) $ pick ! (λ zs.
+        split ! $ move ! (1 ∷ []) $ heard ! (laid zs.0 zs.1.0 r ≡ kept_in at t.0 p (laid u.ys u.ms u.used)) (λ e.
         fsplit ! $ fsplit ! $ move ! (1 ∷ []) $ feq_l ! (λ lz. move ! (1 ∷ []) $ fsplit ! $ fsplit ! $ move ! (1 ∷ []) $ feq_l ! (λ lu.
         -- [the last marks; true; the last rows; the tokens and the result; what is kept, twice; pulses; κ₀; _19; …]
         move ! (3 ∷ []) $ split ! $ move ! (1 ∷ []) $ facts ! usize (Is usize) (shows 𝓛 usize) r (v ∷ []) (λ is.
@@ -219,7 +219,7 @@ module _ {M : Type 1} {𝓤 : Ura M} (𝓛 : Logic 𝓤) (mem : Memory → SProp
         move ! (6 ∷ 7 ∷ 0 ∷ 1 ∷ 2 ∷ 3 ∷ []) $ move ! (6 ∷ []) $ leave ! $ move ! (6 ∷ []) $ leave ! $
         assigns_last ! (bin ! (cell ! 6 refl) (lit ! tt) (record { fits = next_fits is-more })) (from-local ! (stop !)) (store ! 26 refl (tt, record { fits = next_fits is-more })) $
         forget ! 6 refl $ forget ! 8 refl $ forget ! 10 refl $ forget ! 12 refl $ forget ! 14 refl $ forget ! 16 refl $ forget ! 18 refl $ forget ! 20 refl $ forget ! 22 refl $
-        again ! Nearer At u (next ps from count t.0 ws marks at in-pulses u r zs.0 zs.1.0 (more is-more) lz lu e) (add-one-dec (from + count) u.k (more is-more)))))))))))))
+        again ! Nearer At u (next ps from count t.0 ws marks at in_pulses u r zs.0 zs.1.0 (more is-more) lz lu e) (add-one-dec (from + count) u.k (more is-more)))))))))))))
         (λ no-more-left. jumps ! $ exec ! C Λ En t-5 (at_ret En Post) $
         into ! 6 (of_opd ! (cell ! 6 refl)) refl (tt, record { fits = used-fits }) $
         returns ! (look ! 44 refl) $ forget ! 20 refl $ forget ! 24 refl $ forget ! 26 refl $ forget ! 28 refl $ forget ! 30 refl $ forget ! 32 refl $ forget ! 34 refl $ forget ! 36 refl $
@@ -267,24 +267,24 @@ module _ {M : Type 1} {𝓤 : Ura M} (𝓛 : Logic 𝓤) (mem : Memory → SProp
     looped u = first ! $ blocks ! $ loops ! 𝓣 Nearer Nearer-wf At turns u
 
   end_fits : from + count < 2 ^ 64
-  end_fits = lt_of_le_of_lt in-pulses gp.0
+  end_fits = lt_of_le_of_lt in_pulses gp.0
 
   walk : (𝓣 : Routines 𝓤 H) → Triple 𝓤 (𝓣.C #keep) (Keeps 𝓛 mem run)
       → ent 𝓤 (on_entry 𝓛 f.signature (κ₀, (κ₁, (κ₂, tt))) (q₀, (q₁, (q₂, tt))) args vals)
-      (WpFn 𝓤 H 𝓣.C 𝓣.Λ code.function (slice_val (b₀, o₀) (length ps) ∷ vint w64 from ∷ vint w64 count ∷ valQ t ∷ slice_val (b₁, o₁) (length ws) ∷ slice_val (b₂, o₂) (length marks) ∷ vint w64 at
+      (WpFn 𝓤 H 𝓣.C 𝓣.Λ code.function (slice_val (b₀, o₀) (length ps) ∷ vint w64 from ∷ vint w64 count ∷ val_q t ∷ slice_val (b₁, o₁) (length ws) ∷ slice_val (b₂, o₂) (length marks) ∷ vint w64 at
       ∷ []) Post)
   unfolding begin
   walk 𝓣 known =
       qed 𝓛 ((‵ (flft κ₀ q₀) ⊛ (‵ (flft κ₁ q₁) ⊛ (‵ (flft κ₂ q₂) ⊛ ‵ ftrue)))
       ∷ ‵ (owns (ShrSlice (named 0) κ₀ P.the_row ∷ usize ∷ usize ∷ Q.the_row ∷ MutSlice (named 1) κ₁ Row ∷ MutSlice (named 2) κ₂ usize ∷ usize ∷ []) args vals) ∷ []) ∵
-      enter ! 𝓣.C 𝓣.Λ code.function (slice_val (b₀, o₀) (length ps) ∷ vint w64 from ∷ vint w64 count ∷ valQ t ∷ slice_val (b₁, o₁) (length ws) ∷ slice_val (b₂, o₂) (length marks) ∷ vint w64 at
+      enter ! 𝓣.C 𝓣.Λ code.function (slice_val (b₀, o₀) (length ps) ∷ vint w64 from ∷ vint w64 count ∷ val_q t ∷ slice_val (b₁, o₁) (length ws) ∷ slice_val (b₂, o₂) (length marks) ∷ vint w64 at
       ∷ []) _ $
       alloc1 ! (λ l₀. alloc1 ! (λ l₁. alloc1 ! (λ l₂. alloc1 !
       (λ l₃. alloc1 ! (λ l₄. alloc1 ! (λ l₅. alloc1 ! (λ l₆. alloc1 !
       (λ l₇. alloc1 ! (λ l₈. alloc1 ! (λ l₉. alloc1 ! (λ l₁₀. alloc1 !
       (λ l₁₁. alloc1 ! (λ l₁₂. alloc1 ! (λ l₁₃. alloc1 ! (λ l₁₄. alloc1 ! (λ l₁₅. alloc1 ! (λ l₁₆. alloc1 ! (λ l₁₇. alloc1 ! (λ l₁₈. alloc1 ! (λ l₁₉. alloc0 ! $ params1 ! $
       pass1 ! (init ! 36 refl (tt, (tt, (record { fits = gp.0 }, tt)))) $ pass1 ! (init ! 34 refl (tt, record { fits = gf })) $ pass1 ! (init ! 32 refl (tt, record { fits = gc })) $
-      pass1 ! (init ! 30 refl (typedQ 𝓛 t gt)) $
+      pass1 ! (init ! 30 refl (typed_q 𝓛 t gt)) $
       pass1 ! (init ! 28 refl (tt, (tt, (record { fits = gw.0 }, tt)))) $ pass1 ! (init ! 26 refl (tt, (tt, (record { fits = gm.0 }, tt)))) $ pass1 ! (init ! 24 refl (tt, record { fits = ga })) $
       pass0 ! $
       move ! (40 ∷ 41 ∷ []) $ split ! $ move ! (1 ∷ []) $ split ! $ move ! (1 ∷ []) $ split ! $ move ! (4 ∷ []) $ fsplit ! $ move ! (1 ∷ []) $ fsplit ! $ move ! (1 ∷ []) $ fsplit ! $
@@ -294,7 +294,7 @@ module _ {M : Type 1} {𝓤 : Ura M} (𝓛 : Logic 𝓤) (mem : Memory → SProp
       into ! 6 (bin ! (cell ! 6 refl) (cell ! 6 refl) (record { fits = end_fits })) refl (tt, record { fits = end_fits }) $
       into ! 6 (of_opd ! (cell ! 6 refl)) refl (tt, record { fits = gf }) $
       into ! 6 (of_opd ! (cell ! 6 refl)) refl (tt, record { fits = ga }) $
-      looped 𝓣 known l₀ l₁ l₂ l₃ l₄ l₅ l₆ l₇ l₈ l₉ l₁₀ l₁₁ l₁₂ l₁₃ l₁₄ l₁₅ l₁₆ l₁₇ l₁₈ l₁₉ (begin ps from count t.0 ws marks at in-pulses in-work in-marks)))))))))))))))))))))
+      looped 𝓣 known l₀ l₁ l₂ l₃ l₄ l₅ l₆ l₇ l₈ l₉ l₁₀ l₁₁ l₁₂ l₁₃ l₁₄ l₁₅ l₁₆ l₁₇ l₁₈ l₁₉ (begin ps from count t.0 ws marks at in_pulses in-work in_marks)))))))))))))))))))))
 
 module _ {M : Type 1} {𝓤 : Ura M} (𝓛 : Logic 𝓤) (mem : Memory → SProp 𝓤) (run : Routine → Fun 𝓤) (𝓣 : Routines 𝓤 𝓛.H)
     (known : Triple 𝓤 (𝓣.C #keep) (Keeps 𝓛 mem run)) where

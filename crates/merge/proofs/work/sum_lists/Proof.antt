@@ -55,17 +55,17 @@ use Rattle.pulse.specs.contracts.list.Pulse as P
 use Rattle.tables.specs.declared.Tables.{Tables}
 use Rattle.tables.specs.contracts.Tables as U
 use Rattle.tables.proofs.Tables.TheLaws as U'
-use Rattle.tables.proofs.Walked.{valU, IsTables, typedU, has-tables}
+use Rattle.tables.proofs.Walked.{val_u, IsTables, typed_u, has-tables}
 use Rattle.merge.specs.declared.taking.Taking.{Taking}
 use Rattle.merge.specs.declared.work.Ends.{Ends}
 use Rattle.merge.specs.declared.work.Span.{Span}
 use Rattle.merge.specs.Sum.{summed}
 use Rattle.merge.specs.Taking.{parts_in}
-use Rattle.merge.specs.Work.{Laid, laid, laidOn, sizesFit, noEnds, gathered, gatheredOf}
-use Rattle.merge.specs.Keep.{listsIn, span_of, withEnd}
-use Rattle.merge.proofs.Callees.{Rows, slicesP, refW, sliceW, refM, sliceM, valL, val_e, val_s, IsTaking, IsEnds, IsSpan, typedL, typedE, typedS, has-taking, has-ends, from-fits, count_fits, time-of, eight-places, eight-factors, NoEnds, SizesFit, Counts, Finds, Notes, Sums, none_told, fit-told, count-told, span-told, end-told, to_none, Goes-none as goes-none-ends, to-fit, goes-fit, to-count, goes-count, to-find, goes-find, to-note, goes-note, to-sum, goes-sum}
+use Rattle.merge.specs.Work.{Laid, laid, laid_on, sizes_fit, no_ends, gathered, gathered_of}
+use Rattle.merge.specs.Keep.{lists_in, span_of, with_end}
+use Rattle.merge.proofs.Callees.{Rows, slices_p, ref_w, slice_w, ref_m, slice_m, val_l, val_e, val_s, IsTaking, IsEnds, IsSpan, typed_l, typed_e, typed_s, has-taking, has-ends, from-fits, count_fits, time-of, eight-places, eight-factors, NoEnds, SizesFit, Counts, Finds, Notes, Sums, none_told, fit-told, count-told, span-told, end-told, to_none, Goes-none as goes-none-ends, to-fit, goes-fit, to-count, goes-count, to-find, goes-find, to-note, goes-note, to-sum, goes-sum}
 use Rattle.merge.proofs.Lending.{lends_both, come-both}
-use Rattle.merge.proofs.Lists.{Sizes, sizes, at-most-8, Upto, begun, place, over-all, Asked, asked, next}
+use Rattle.merge.proofs.Lists.{Sizes, sizes, at-most_8, Upto, begun, place, over-all, Asked, asked, next}
 use Rattle.merge.specs.contracts.taking.Taking as L
 use Rattle.merge.proofs.taking.Taking.TheLaws as L'
 use Rattle.merge.specs.contracts.work.Ends as E
@@ -117,31 +117,31 @@ module _ {M : Type 1} {𝓤 : Ura M} (𝓛 : Logic 𝓤) (mem : Memory → SProp
     (t : Tables) (taking : Taking) (ps : List Pulse) (ws : Rows) (marks : List ℕ) (gt : IsTables t) (gl : IsTaking taking) (gp : Room P.the_row (length ps)) (gw : Room Row (length ws)) (gm : Room usize (length marks)) where
   open 𝓛 use {H}
 
-  abbrev refP : MutBor (List Pulse)
-  refP = record { ref_ptr = (b₀, o₀); ghost_name = γ₀; now = ps }
+  abbrev ref_p : MutBor (List Pulse)
+  ref_p = record { ref_ptr = (b₀, o₀); ghost_name = γ₀; now = ps }
 
   abbrev args : Tables × (Taking × (Bor (List Pulse) × (Bor Rows × (Bor (List ℕ) × Unit {0}))))
-  args = (t, (taking, (refP, (record { ref_ptr = (b₁, o₁); ghost_name = γ₁; now = ws }, (record { ref_ptr = (b₂, o₂); ghost_name = γ₂; now = marks }, tt)))))
+  args = (t, (taking, (ref_p, (record { ref_ptr = (b₁, o₁); ghost_name = γ₁; now = ws }, (record { ref_ptr = (b₂, o₂); ghost_name = γ₂; now = marks }, tt)))))
 
   abbrev vals : Vals f.signature (κ₀, (κ₁, (κ₂, tt)))
-  vals = (valU t ∷ [], (valL taking ∷ [], (slice_val (b₀, o₀) (length ps) ∷ [], (slice_val (b₁, o₁) (length ws) ∷ [], (slice_val (b₂, o₂) (length marks) ∷ [], tt)))))
+  vals = (val_u t ∷ [], (val_l taking ∷ [], (slice_val (b₀, o₀) (length ps) ∷ [], (slice_val (b₁, o₁) (length ws) ∷ [], (slice_val (b₂, o₂) (length marks) ∷ [], tt)))))
 
-  abbrev ownP : Fml
-  ownP = (ShrSlice (named 0) κ₀ P.the_row).own_val refP (slice_val (b₀, o₀) (length ps) ∷ [])
+  abbrev own_p : Fml
+  own_p = (ShrSlice (named 0) κ₀ P.the_row).own_val ref_p (slice_val (b₀, o₀) (length ps) ∷ [])
 
-  abbrev ownW : Rows → Fml
-  ownW l = Own Row b₁ o₁ (length ws) κ₁ γ₁ l
+  abbrev own_w : Rows → Fml
+  own_w l = Own Row b₁ o₁ (length ws) κ₁ γ₁ l
 
-  abbrev ownM : List ℕ → Fml
-  ownM l = Own usize b₂ o₂ (length marks) κ₂ γ₂ l
+  abbrev own_m : List ℕ → Fml
+  own_m l = Own usize b₂ o₂ (length marks) κ₂ γ₂ l
 
   abbrev Post : Val → SProp 𝓤
   Post = (walk_of 𝓛 f.ended stayed (f.clauses 𝓛 mem run)).post (((κ₀, (κ₁, (κ₂, tt))), (q₀, (q₁, (q₂, tt))), tt, args, vals), tt)
 
-  exits : (r : Ends) (zs : Rows) (us : List ℕ) → IsEnds r → length zs ≡ length ws → length us ≡ length marks → gathered zs us r ≡ gatheredOf t (parts_in taking) ps ws marks
-      → ent 𝓤 (⋆ 𝓛 (‵ ownP ∷ ‵ (flft κ₀ q₀) ∷ ‵ (ownW zs) ∷ ‵ (flft κ₁ q₁) ∷ ‵ (ownM us) ∷ ‵ (flft κ₂ q₂) ∷ [])) (Post (val_e r))
+  exits : (r : Ends) (zs : Rows) (us : List ℕ) → IsEnds r → length zs ≡ length ws → length us ≡ length marks → gathered zs us r ≡ gathered_of t (parts_in taking) ps ws marks
+      → ent 𝓤 (⋆ 𝓛 (‵ own_p ∷ ‵ (flft κ₀ q₀) ∷ ‵ (own_w zs) ∷ ‵ (flft κ₁ q₁) ∷ ‵ (own_m us) ∷ ‵ (flft κ₂ q₂) ∷ [])) (Post (val_e r))
   exits r zs us g lz lu is =
-      qed 𝓛 (‵ ownP ∷ ‵ (flft κ₀ q₀) ∷ ‵ (ownW zs) ∷ ‵ (flft κ₁ q₁) ∷ ‵ (ownM us) ∷ ‵ (flft κ₂ q₂) ∷ []) ∵
+      qed 𝓛 (‵ own_p ∷ ‵ (flft κ₀ q₀) ∷ ‵ (own_w zs) ∷ ‵ (flft κ₁ q₁) ∷ ‵ (own_m us) ∷ ‵ (flft κ₂ q₂) ∷ []) ∵
       suffices ! _ (ends_at 𝓛 f.ended stayed (f.clauses 𝓛 mem run) (((κ₀, (κ₁, (κ₂, tt))), (q₀, (q₁, (q₂, tt))), tt, args, vals), tt) (val_e r) r (tt, (tt, (tt, (zs, (us, tt))))) (tt, (tt, (tt, (lz, (lu, tt)))))) $ says ! is $
       nothing ! $ move ! (6 ∷ 0 ∷ []) $ join ! $ move ! (4 ∷ 0 ∷ []) $ join ! $ move ! (2 ∷ 0 ∷ []) $ join ! $ frame ! $
       -- [what is owned of the records, rows and marks]
@@ -151,10 +151,10 @@ module _ {M : Type 1} {𝓤 : Ura M} (𝓛 : Logic 𝓤) (mem : Memory → SProp
   Up = Upto t taking ps ws marks
 
   abbrev Nearer : Up → Up → Type 0
-  Nearer j u = listsIn taking - j.k < listsIn taking - u.k
+  Nearer j u = lists_in taking - j.k < lists_in taking - u.k
 
   Nearer-wf : WellFounded Nearer
-  Nearer-wf = InvImage.wf (λ (u : Up). listsIn taking - u.k) lt-wf_rel.wf
+  Nearer-wf = InvImage.wf (λ (u : Up). lists_in taking - u.k) lt-wf_rel.wf
 
   module _ (𝓣 : Routines 𝓤 H) (k₁ : Triple 𝓤 (𝓣.C #no-ends) (NoEnds 𝓛 mem run)) (k₂ : Triple 𝓤 (𝓣.C #sizes-fit) (SizesFit 𝓛 mem run)) (k₃ : Triple 𝓤 (𝓣.C #lists-in) (Counts 𝓛 mem run))
       (k₄ : Triple 𝓤 (𝓣.C #span-of) (Finds 𝓛 mem run)) (k₅ : Triple 𝓤 (𝓣.C #sum-list) (Sums 𝓛 mem run)) (k₆ : Triple 𝓤 (𝓣.C #with-end) (Notes 𝓛 mem run))
@@ -169,34 +169,34 @@ module _ {M : Type 1} {𝓤 : Ura M} (𝓛 : Logic 𝓤) (mem : Memory → SProp
     fm = fm_of 𝓤 H 𝓛.laws 𝓣
 
     abbrev En : Env 𝓤 H
-    En = (E'.mir, l₀) ∷ (U'.mir, l₁) ∷ (L'.mir, l₂) ∷ (slicesP (named 0), l₃) ∷ (sliceW (named 1), l₄) ∷ (sliceM (named 2), l₅) ∷ (E'.mir, l₆) ∷ (word, l₇) ∷ (word, l₈) ∷ (word, l₉) ∷ (S'.mir, l₁₀) ∷ (ty_bool, l₁₁) ∷ (word, l₁₂) ∷ (word, l₁₃)
-        ∷ (word, l₁₄) ∷ (ty_bool, l₁₅) ∷ (ty_bool, l₁₆) ∷ (refW, l₁₇) ∷ (slice_ty refW, l₁₈) ∷ (refM, l₁₉) ∷ (slice_ty refM, l₂₀) ∷ []
+    En = (E'.mir, l₀) ∷ (U'.mir, l₁) ∷ (L'.mir, l₂) ∷ (slices_p (named 0), l₃) ∷ (slice_w (named 1), l₄) ∷ (slice_m (named 2), l₅) ∷ (E'.mir, l₆) ∷ (word, l₇) ∷ (word, l₈) ∷ (word, l₉) ∷ (S'.mir, l₁₀) ∷ (ty_bool, l₁₁) ∷ (word, l₁₂) ∷ (word, l₁₃)
+        ∷ (word, l₁₄) ∷ (ty_bool, l₁₅) ∷ (ty_bool, l₁₆) ∷ (ref_w, l₁₇) ∷ (slice_ty ref_w, l₁₈) ∷ (ref_m, l₁₉) ∷ (slice_ty ref_m, l₂₀) ∷ []
 
     -- [pulses; κ₀; work; κ₁; marks; κ₂; _20; …; _0; …], with what stands at _6, the ends, _7, how many lists, _8, where the next goes, _9, which it is, _10, its records, and _0, the result
     abbrev Here : Rows → List ℕ → Item 𝓤 → Item 𝓤 → Item 𝓤 → Item 𝓤 → Item 𝓤 → Item 𝓤 → List (Item 𝓤)
-    Here ys ms i₆ i₇ i₈ i₉ i₁₀ i₀ = ‵ ownP ∷ ‵ (flft κ₀ q₀) ∷ ‵ (ownW ys) ∷ ‵ (flft κ₁ q₁) ∷ ‵ (ownM ms) ∷ ‵ (flft κ₂ q₂)
-        ∷ ‵ (froom (slice_ty refM) l₂₀ 0) ∷ ‵ (fdies (slice_ty refM) l₂₀) ∷ ‵ (froom refM l₁₉ 0) ∷ ‵ (fdies refM l₁₉) ∷ ‵ (froom (slice_ty refW) l₁₈ 0) ∷ ‵ (fdies (slice_ty refW) l₁₈)
-        ∷ ‵ (froom refW l₁₇ 0) ∷ ‵ (fdies refW l₁₇) ∷ ‵ (froom ty_bool l₁₆ 0) ∷ ‵ (fdies ty_bool l₁₆) ∷ ‵ (froom ty_bool l₁₅ 0) ∷ ‵ (fdies ty_bool l₁₅)
+    Here ys ms i₆ i₇ i₈ i₉ i₁₀ i₀ = ‵ own_p ∷ ‵ (flft κ₀ q₀) ∷ ‵ (own_w ys) ∷ ‵ (flft κ₁ q₁) ∷ ‵ (own_m ms) ∷ ‵ (flft κ₂ q₂)
+        ∷ ‵ (froom (slice_ty ref_m) l₂₀ 0) ∷ ‵ (fdies (slice_ty ref_m) l₂₀) ∷ ‵ (froom ref_m l₁₉ 0) ∷ ‵ (fdies ref_m l₁₉) ∷ ‵ (froom (slice_ty ref_w) l₁₈ 0) ∷ ‵ (fdies (slice_ty ref_w) l₁₈)
+        ∷ ‵ (froom ref_w l₁₇ 0) ∷ ‵ (fdies ref_w l₁₇) ∷ ‵ (froom ty_bool l₁₆ 0) ∷ ‵ (fdies ty_bool l₁₆) ∷ ‵ (froom ty_bool l₁₅ 0) ∷ ‵ (fdies ty_bool l₁₅)
         ∷ ‵ (froom word l₁₄ 0) ∷ ‵ (fdies word l₁₄) ∷ ‵ (froom word l₁₃ 0) ∷ ‵ (fdies word l₁₃) ∷ ‵ (froom word l₁₂ 0) ∷ ‵ (fdies word l₁₂)
         ∷ ‵ (froom ty_bool l₁₁ 0) ∷ ‵ (fdies ty_bool l₁₁) ∷ i₁₀ ∷ ‵ (fdies S'.mir l₁₀) ∷ i₉ ∷ ‵ (fdies word l₉)
         ∷ i₈ ∷ ‵ (fdies word l₈) ∷ i₇ ∷ ‵ (fdies word l₇) ∷ i₆ ∷ ‵ (fdies E'.mir l₆)
-        ∷ ‵ (fat full_share (sliceM (named 2)) l₅ 0 (slice_val (b₂, o₂) (length marks))) ∷ ‵ (fdies (sliceM (named 2)) l₅) ∷ ‵ (fat full_share (sliceW (named 1)) l₄ 0 (slice_val (b₁, o₁) (length ws))) ∷ ‵ (fdies (sliceW (named 1)) l₄)
-        ∷ ‵ (fat full_share (slicesP (named 0)) l₃ 0 (slice_val (b₀, o₀) (length ps))) ∷ ‵ (fdies (slicesP (named 0)) l₃)
-        ∷ ‵ (fat full_share L'.mir l₂ 0 (valL taking)) ∷ ‵ (fdies L'.mir l₂) ∷ ‵ (fat full_share U'.mir l₁ 0 (valU t)) ∷ ‵ (fdies U'.mir l₁) ∷ i₀ ∷ ‵ (fdies E'.mir l₀) ∷ []
+        ∷ ‵ (fat full_share (slice_m (named 2)) l₅ 0 (slice_val (b₂, o₂) (length marks))) ∷ ‵ (fdies (slice_m (named 2)) l₅) ∷ ‵ (fat full_share (slice_w (named 1)) l₄ 0 (slice_val (b₁, o₁) (length ws))) ∷ ‵ (fdies (slice_w (named 1)) l₄)
+        ∷ ‵ (fat full_share (slices_p (named 0)) l₃ 0 (slice_val (b₀, o₀) (length ps))) ∷ ‵ (fdies (slices_p (named 0)) l₃)
+        ∷ ‵ (fat full_share L'.mir l₂ 0 (val_l taking)) ∷ ‵ (fdies L'.mir l₂) ∷ ‵ (fat full_share U'.mir l₁ 0 (val_u t)) ∷ ‵ (fdies U'.mir l₁) ∷ i₀ ∷ ‵ (fdies E'.mir l₀) ∷ []
 
     -- before the loop and after it
     abbrev Bare : Rows → List ℕ → Item 𝓤 → List (Item 𝓤)
     Bare ys ms i₀ = Here ys ms (‵ (froom E'.mir l₆ 0)) (‵ (froom word l₇ 0)) (‵ (froom word l₈ 0)) (‵ (froom word l₉ 0)) (‵ (froom S'.mir l₁₀ 0)) i₀
 
     abbrev Running : Up → Rows → List ℕ → ℕ → Item 𝓤 → List (Item 𝓤)
-    Running u ys ms at i₁₀ = Here ys ms (‵ (fat full_share E'.mir l₆ 0 (val_e u.es))) (‵ (fat full_share word l₇ 0 (vint w64 (listsIn taking)))) (‵ (fat full_share word l₈ 0 (vint w64 at))) (‵ (fat full_share word l₉ 0 (vint w64 u.k))) i₁₀
+    Running u ys ms at i₁₀ = Here ys ms (‵ (fat full_share E'.mir l₆ 0 (val_e u.es))) (‵ (fat full_share word l₇ 0 (vint w64 (lists_in taking)))) (‵ (fat full_share word l₈ 0 (vint w64 at))) (‵ (fat full_share word l₉ 0 (vint w64 u.k))) i₁₀
         (‵ (froom E'.mir l₀ 0))
 
     abbrev At : Up → List (Item 𝓤)
     At u = Running u u.ys u.ms u.at (‵ (froom S'.mir l₁₀ 0))
 
     -- the result is there: the locals are freed
-    leaves : (ys : Rows) (ms : List ℕ) (r : Ends) → IsEnds r → length ys ≡ length ws → length ms ≡ length marks → gathered ys ms r ≡ gatheredOf t (parts_in taking) ps ws marks
+    leaves : (ys : Rows) (ms : List ℕ) (r : Ends) → IsEnds r → length ys ≡ length ws → length ms ≡ length marks → gathered ys ms r ≡ gathered_of t (parts_in taking) ps ws marks
         → Sq 𝓛 (Bare ys ms (‵ (fat full_share E'.mir l₀ 0 (val_e r)))) (frees En (prop (Post (val_e r))))
     leaves ys ms r g ly lm is =
         forget ! 36 refl $ forget ! 38 refl $ forget ! 40 refl $ forget ! 42 refl $ forget ! 44 refl $ forget ! 46 refl $
@@ -215,20 +215,20 @@ module _ {M : Type 1} {𝓤 : Ura M} (𝓛 : Logic 𝓤) (mem : Memory → SProp
       i = place t taking ps ws marks (eight-places taking gl) (eight-factors taking gl) long u
 
       k-fits : u.k < 2 ^ 64
-      k-fits = lt_of_le_of_lt {m = 8} (omega (arith, u.within, at-most-8 taking)) (lit< tt)
+      k-fits = lt_of_le_of_lt {m = 8} (omega (arith, u.within, at-most_8 taking)) (lit< tt)
 
       at-fits : u.at < 2 ^ 64
-      at-fits = lt_of_le_of_lt {m = 8192} (omega (arith, u.near, u.within, at-most-8 taking)) (lit< tt)
+      at-fits = lt_of_le_of_lt {m = 8192} (omega (arith, u.near, u.within, at-most_8 taking)) (lit< tt)
 
-      module _ (less : u.k < listsIn taking) where
+      module _ (less : u.k < lists_in taking) where
         in-eight : u.k < 8
-        in-eight = omega (arith, at-most-8 taking)
+        in-eight = omega (arith, at-most_8 taking)
 
         next_fits : u.k + 1 < 2 ^ 64
         next_fits = lt_of_le_of_lt {m = 8} (omega (arith, in-eight)) (lit< tt)
 
         -- after `sum_list`: the end is noted
-        notes : (s : Span) (r : ℕ) (zs : Rows) (us : List ℕ) → r < 2 ^ 64 → laid zs us r ≡ laidOn (summed t.time.0 (take (span_of t i).count (drop (span_of t i).from ps))) u.at u.ys u.ms → length zs ≡ length u.ys → length us ≡ length
+        notes : (s : Span) (r : ℕ) (zs : Rows) (us : List ℕ) → r < 2 ^ 64 → laid zs us r ≡ laid_on (summed t.time.0 (take (span_of t i).count (drop (span_of t i).from ps))) u.at u.ys u.ms → length zs ≡ length u.ys → length us ≡ length
             u.ms
             → Sq 𝓛 (Running u zs us r (‵ (fat full_share S'.mir l₁₀ 0 (val_s s)))) (runs C Λ En (after 8 turn-1) (any_q (Turned u)))
         unfolding after_turn next
@@ -236,13 +236,13 @@ module _ {M : Type 1} {𝓤 : Ura M} (𝓛 : Logic 𝓤) (mem : Memory → SProp
             use0 𝓛 (raw ((Notes 𝓛 mem run).pre (to-note 𝓛 mem run u.es u.k r))) (goes-note 𝓛 mem run u.es u.k r in-eight u.good k-fits gr) $
             calls_at ! fm (Notes 𝓛 mem run) k₆ (to-note 𝓛 mem run u.es u.k r) (and_then ! (cell ! 7 refl) (and_then ! (cell ! 7 refl) (and_then ! (cell ! 7 refl) (no_more !)))) (λ v.
             use1 𝓛 (later (some (λ (e : Ends). (‵ ftrue ⊛ ‵ ((E.the_row).own_val e (v ∷ []))) ⊛ raw (ensured 𝓛 with-end.ended (with-end.clauses 𝓛 mem run) tt (u.es, (u.k, (r, tt))) tt e)))) (id⊢ 𝓤 _) $ await ! tt $ pick ! (λ e.
-            split ! $ move ! (1 ∷ []) $ use1 𝓛 (raw (fact 𝓤 (e ≡ withEnd u.es u.k r))) (end-told 𝓛 mem run u.es u.k r e) $ heard ! (e ≡ withEnd u.es u.k r) (λ ee.
+            split ! $ move ! (1 ∷ []) $ use1 𝓛 (raw (fact 𝓤 (e ≡ with_end u.es u.k r))) (end-told 𝓛 mem run u.es u.k r e) $ heard ! (e ≡ with_end u.es u.k r) (λ ee.
             split ! $ leave ! $ facts ! E.the_row (Is E.the_row) (shows 𝓛 E.the_row) e (v ∷ []) (λ ie.
             land ! (from-local ! (stop !)) (store ! 34 refl ((LL.lawful E.the_type E'.the_laws 𝓛).typed e (v ∷ []) ie).0) $ rewrite ! 34 (λ (x : Val). ‵ (fat full_share E'.mir l₆ 0 x))
             (ap only (LL.tells E.the_type E'.the_laws e (v ∷ []) ie)) refl $
             assigns_last ! (bin ! (cell ! 6 refl) (lit ! tt) (record { fits = next_fits })) (from-local ! (stop !)) (store ! 28 refl (tt, record { fits = next_fits })) $ forget ! 26 refl $
             again ! Nearer At u (next t taking ps ws marks (eight-places taking gl) (eight-factors taking gl) long u less r zs us e lays lz lu ee (subst (Is E.the_row e) (LL.tells E.the_type E'.the_laws e (v ∷ []) ie) ie))
-            (add-one-dec (listsIn taking) u.k less)))))
+            (add-one-dec (lists_in taking) u.k less)))))
 
         -- after `span_of`: the list is summed, with the rows and the marks lent
         sums : (s : Span) → s ≡ span_of t i → IsSpan s → Sq 𝓛 (Running u u.ys u.ms u.at (‵ (fat full_share S'.mir l₁₀ 0 (val_s s)))) (runs C Λ En (after 3 turn-1) (any_q (Turned u)))
@@ -252,13 +252,13 @@ module _ {M : Type 1} {𝓤 : Ura M} (𝓛 : Logic 𝓤) (mem : Memory → SProp
             into ! 6 (agg ! (and_then ! (cell ! 6 refl) (and_then ! (part ! 6 refl tt) (no_more !)))) refl (tt, (tt, (record { fits = gw.0 }, tt))) $
             into ! 6 (addr ! (from-local ! (fld ! refl (hop ! (look_in ! 36 (sub ! 0 refl (whole !))) (stop !))))) refl (tt, tt) $
             into ! 6 (agg ! (and_then ! (cell ! 6 refl) (and_then ! (part ! 6 refl tt) (no_more !)))) refl (tt, (tt, (record { fits = gm.0 }, tt))) $
-            use1 𝓛 (‵ ownP ⊛ ‵ ownP) ((shr_slice_copy 𝓛 (named 0) κ₀ P.the_row).twice refP (slice_val (b₀, o₀) (length ps) ∷ [])) $ split ! $
+            use1 𝓛 (‵ own_p ⊛ ‵ own_p) ((shr_slice_copy 𝓛 (named 0) κ₀ P.the_row).twice ref_p (slice_val (b₀, o₀) (length ps) ∷ [])) $ split ! $
             -- [pulses, twice; κ₀; work; κ₁; marks; κ₂; _20; …]
             move ! (3 ∷ 4 ∷ 5 ∷ 6 ∷ []) $ lends_both ! tt Row usize b₁ o₁ (length ws) b₂ o₂ (length marks) κ₁ κ₂ q₁ q₂ γ₁ γ₂ u.ys u.ms u.long-w u.long-m (λ ν₁ ν₂ δ₁ δ₂.
             -- [rows and marks; their tokens; what is kept, twice; pulses, twice; κ₀; _20; …]
             move ! (4 ∷ 6 ∷ []) $ join ! $ use3 𝓛 (raw ((Sums 𝓛 mem run).pre (asks ν₁ ν₂ δ₁ δ₂)))
             (goes-sum 𝓛 mem run b₁ o₁ (length ws) b₂ o₂ (length marks) ν₁ ν₂ δ₁ δ₂ u.ys u.ms b₀ o₀ κ₀ q₀ γ₀ ps s.from s.count t.time u.at
-            (rw es room.in-pulses) (rw es room.in_rows) (rw es room.in-marks) (from-fits s gs) (count_fits s gs) (time-of t gt) at-fits) $
+            (rw es room.in_pulses) (rw es room.in_rows) (rw es room.in_marks) (from-fits s gs) (count_fits s gs) (time-of t gt) at-fits) $
             -- [what is asked; what is kept, twice; pulses; _20; …]
             calls_at ! fm (Sums 𝓛 mem run) k₅ (asks ν₁ ν₂ δ₁ δ₂)
             (and_then ! (cell ! 4 refl) (and_then ! (part ! 4 refl tt) (and_then ! (part ! 4 refl tt) (and_then ! (part ! 4 refl tt) (and_then ! (cell ! 4 refl) (and_then ! (cell ! 4 refl) (and_then ! (cell ! 4 refl) (no_more !)))))))) (λ v.
@@ -282,13 +282,13 @@ module _ {M : Type 1} {𝓤 : Ura M} (𝓛 : Logic 𝓤) (mem : Memory → SProp
             room = asked t taking ps ws marks (eight-places taking gl) (eight-factors taking gl) long u less
 
             lays : Laid
-            lays = laidOn (summed t.time.0 (take s.count (drop s.from ps))) u.at u.ys u.ms
+            lays = laid_on (summed t.time.0 (take s.count (drop s.from ps))) u.at u.ys u.ms
 
             asks : (ν₁ ν₂ : ℕ) (δ₁ δ₂ : GName) → (Sums 𝓛 mem run).Ghost
             asks ν₁ ν₂ δ₁ δ₂ = to-sum 𝓛 mem run b₁ o₁ (length ws) b₂ o₂ (length marks) ν₁ ν₂ δ₁ δ₂ u.ys u.ms b₀ o₀ κ₀ q₀ γ₀ ps s.from s.count t.time u.at
 
             given : GName → GName → MutBor (List Pulse) × (ℕ × (ℕ × (Time × (MutBor Rows × (MutBor (List ℕ) × (ℕ × Unit {0}))))))
-            given δ₁ δ₂ = (refP, (s.from, (s.count, (t.time, (record { ref_ptr = (b₁, o₁); ghost_name = δ₁; now = u.ys }, (record { ref_ptr = (b₂, o₂); ghost_name = δ₂; now = u.ms }, (u.at, tt)))))))
+            given δ₁ δ₂ = (ref_p, (s.from, (s.count, (t.time, (record { ref_ptr = (b₁, o₁); ghost_name = δ₁; now = u.ys }, (record { ref_ptr = (b₂, o₂); ghost_name = δ₂; now = u.ms }, (u.at, tt)))))))
 
       turns : Sq 𝓛 (At u) (runs C Λ En turn-1 (any_q (Turned u)))
       unfolding after_turn
@@ -298,14 +298,14 @@ module _ {M : Type 1} {𝓤 : Ura M} (𝓛 : Logic 𝓤) (mem : Memory → SProp
           (λ is-more. skips ! $ exec ! C Λ En (after 2 turn-1) (any_q (Turned u)) $ forget ! 14 refl $
           calls-plain ! 6 fm (Finds 𝓛 mem run) k₄ (to-find 𝓛 mem run t taking u.k) (goes-find 𝓛 mem run t taking u.k (in-eight (more is-more)) gt gl k-fits)
           (and_then ! (cell ! 7 refl) (and_then ! (cell ! 7 refl) (and_then ! (cell ! 7 refl) (no_more !))))
-          S.the_row val_s (LL.tells S.the_type S'.the_laws) (typedS 𝓛) (span-told 𝓛 mem run t taking u.k) (λ _. id⊢ 𝓤 _) refl (λ s es gs. sums (more is-more) s es gs))
+          S.the_row val_s (LL.tells S.the_type S'.the_laws) (typed_s 𝓛) (span-told 𝓛 mem run t taking u.k) (λ _. id⊢ 𝓤 _) refl (λ s es gs. sums (more is-more) s es gs))
           (λ no-more-left. jumps ! $ exec ! C Λ En t-12 (at_ret En Post) $ forget ! 14 refl $
-          into ! 6 (of_opd ! (cell ! 6 refl)) refl (typedE 𝓛 u.es u.good) $
+          into ! 6 (of_opd ! (cell ! 6 refl)) refl (typed_e 𝓛 u.es u.good) $
           returns ! (look ! 46 refl) $ forget ! 28 refl $ forget ! 30 refl $ forget ! 32 refl $ forget ! 34 refl $
-          leaves u.ys u.ms u.es u.good u.long-w u.long-m (over-all t taking ps ws marks (eight-places taking gl) (eight-factors taking gl) long u (nltb→le u.k (listsIn taking) no-more-left)))
+          leaves u.ys u.ms u.es u.good u.long-w u.long-m (over-all t taking ps ws marks (eight-places taking gl) (eight-factors taking gl) long u (nltb→le u.k (lists_in taking) no-more-left)))
         where
-          more : T (ltb u.k (listsIn taking)) → u.k < listsIn taking
-          more = ltb→lt u.k (listsIn taking)
+          more : T (ltb u.k (lists_in taking)) → u.k < lists_in taking
+          more = ltb→lt u.k (lists_in taking)
 
     -- the loop and what follows it
     looped : Sizes (length ps) (length ws) (length marks) → (u : Up) → Sq 𝓛 (At u) (runs C Λ En t-11 (at_ret En Post))
@@ -314,7 +314,7 @@ module _ {M : Type 1} {𝓤 : Ura M} (𝓛 : Logic 𝓤) (mem : Memory → SProp
     body : Sq 𝓛 (Bare ws marks (‵ (froom E'.mir l₀ 0))) (runs C Λ En t-1 (at_ret En Post))
     unfolding begun
     body =
-        calls-plain ! 6 fm (NoEnds 𝓛 mem run) k₁ (to_none 𝓛 mem run) (goes-none-ends 𝓛 mem run) (no_more !) E.the_row val_e (LL.tells E.the_type E'.the_laws) (typedE 𝓛) (none_told 𝓛 mem run) (λ _. id⊢ 𝓤 _) refl (λ es ee ge.
+        calls-plain ! 6 fm (NoEnds 𝓛 mem run) k₁ (to_none 𝓛 mem run) (goes-none-ends 𝓛 mem run) (no_more !) E.the_row val_e (LL.tells E.the_type E'.the_laws) (typed_e 𝓛) (none_told 𝓛 mem run) (λ _. id⊢ 𝓤 _) refl (λ es ee ge.
         into ! 6 (of_opd ! (part ! 6 refl tt)) refl (tt, record { fits = gp.0 }) $
         into ! 6 (of_opd ! (part ! 6 refl tt)) refl (tt, record { fits = gw.0 }) $
         into ! 6 (of_opd ! (part ! 6 refl tt)) refl (tt, record { fits = gm.0 }) $
@@ -322,7 +322,7 @@ module _ {M : Type 1} {𝓤 : Ura M} (𝓛 : Logic 𝓤) (mem : Memory → SProp
         (and_then ! (cell ! 7 refl) (and_then ! (cell ! 7 refl) (and_then ! (cell ! 7 refl) (no_more !)))) Boolean vbool (λ r vs e. e) (λ r e. (tt, tt)) (fit-told 𝓛 mem run (length ps) (length ws) (length marks)) (λ _. id⊢ 𝓤 _) refl (λ r e _.
         into ! 6 (un ! (cell ! 6 refl) tt) refl (tt, tt) $
         first ! $ branches ! (cell ! 6 refl)
-        (λ wrong. into ! 6 (of_opd ! (cell ! 6 refl)) refl (typedE 𝓛 es ge) $
+        (λ wrong. into ! 6 (of_opd ! (cell ! 6 refl)) refl (typed_e 𝓛 es ge) $
         returns_within ! Post refl (look ! 46 refl) $ forget ! 16 refl $ forget ! 18 refl $ forget ! 20 refl $ forget ! 22 refl $ forget ! 24 refl $ forget ! 34 refl $
         leaves ws marks es ge refl refl (rw ee (misfits r e wrong)))
         (λ right. skips ! $ exec ! C Λ En t-8 (at_ret En Post) $ forget ! 16 refl $ forget ! 18 refl $ forget ! 20 refl $ forget ! 22 refl $ forget ! 24 refl $
@@ -333,9 +333,9 @@ module _ {M : Type 1} {𝓤 : Ura M} (𝓛 : Logic 𝓤) (mem : Memory → SProp
         looped (sizes (length ps) (length ws) (length marks) (fits r e right)) (begun t taking ps ws marks es ge ee (fits r e right))))))
       where
         fit : Bool
-        fit = sizesFit (length ps) (length ws) (length marks)
+        fit = sizes_fit (length ps) (length ws) (length marks)
 
-        misfits : (r : Bool) → r ≡ fit → T (not r) → gathered ws marks noEnds ≡ gatheredOf t (parts_in taking) ps ws marks
+        misfits : (r : Bool) → r ≡ fit → T (not r) → gathered ws marks no_ends ≡ gathered_of t (parts_in taking) ps ws marks
         misfits r e wrong = rw (sym e ∙ is_false r wrong)
 
         fits : (r : Bool) → r ≡ fit → T (not (not r)) → fit ≡ true
@@ -344,15 +344,15 @@ module _ {M : Type 1} {𝓤 : Ura M} (𝓛 : Logic 𝓤) (mem : Memory → SProp
   walk : (𝓣 : Routines 𝓤 H) → Triple 𝓤 (𝓣.C #no-ends) (NoEnds 𝓛 mem run) → Triple 𝓤 (𝓣.C #sizes-fit) (SizesFit 𝓛 mem run) → Triple 𝓤 (𝓣.C #lists-in) (Counts 𝓛 mem run) → Triple 𝓤 (𝓣.C #span-of) (Finds 𝓛 mem run)
       → Triple 𝓤 (𝓣.C #sum-list) (Sums 𝓛 mem run) → Triple 𝓤 (𝓣.C #with-end) (Notes 𝓛 mem run)
       → ent 𝓤 (on_entry 𝓛 f.signature (κ₀, (κ₁, (κ₂, tt))) (q₀, (q₁, (q₂, tt))) args vals)
-      (WpFn 𝓤 H 𝓣.C 𝓣.Λ code.function (valU t ∷ valL taking ∷ slice_val (b₀, o₀) (length ps) ∷ slice_val (b₁, o₁) (length ws) ∷ slice_val (b₂, o₂) (length marks) ∷ []) Post)
+      (WpFn 𝓤 H 𝓣.C 𝓣.Λ code.function (val_u t ∷ val_l taking ∷ slice_val (b₀, o₀) (length ps) ∷ slice_val (b₁, o₁) (length ws) ∷ slice_val (b₂, o₂) (length marks) ∷ []) Post)
   walk 𝓣 k₁ k₂ k₃ k₄ k₅ k₆ =
       qed 𝓛 ((‵ (flft κ₀ q₀) ⊛ (‵ (flft κ₁ q₁) ⊛ (‵ (flft κ₂ q₂) ⊛ ‵ ftrue))) ∷ ‵ (owns (U.the_row ∷ L.the_row ∷ ShrSlice (named 0) κ₀ P.the_row ∷ MutSlice (named 1) κ₁ Row ∷ MutSlice (named 2) κ₂ usize ∷ []) args vals) ∷ []) ∵
-      enter ! 𝓣.C 𝓣.Λ code.function (valU t ∷ valL taking ∷ slice_val (b₀, o₀) (length ps) ∷ slice_val (b₁, o₁) (length ws) ∷ slice_val (b₂, o₂) (length marks) ∷ []) _ $
+      enter ! 𝓣.C 𝓣.Λ code.function (val_u t ∷ val_l taking ∷ slice_val (b₀, o₀) (length ps) ∷ slice_val (b₁, o₁) (length ws) ∷ slice_val (b₂, o₂) (length marks) ∷ []) _ $
       alloc1 ! (λ l₀. alloc1 ! (λ l₁. alloc1 ! (λ l₂. alloc1 !
       (λ l₃. alloc1 ! (λ l₄. alloc1 ! (λ l₅. alloc1 ! (λ l₆. alloc1 !
       (λ l₇. alloc1 ! (λ l₈. alloc1 ! (λ l₉. alloc1 ! (λ l₁₀. alloc1 ! (λ l₁₁. alloc1 ! (λ l₁₂. alloc1 ! (λ l₁₃. alloc1 ! (λ l₁₄. alloc1 ! (λ l₁₅. alloc1 ! (λ l₁₆. alloc1 ! (λ l₁₇. alloc1 ! (λ l₁₈. alloc1 ! (λ l₁₉. alloc1 ! (λ l₂₀. alloc0 ! $
       params1 ! $
-      pass1 ! (init ! 38 refl (typedU 𝓛 t gt)) $ pass1 ! (init ! 36 refl (typedL 𝓛 taking gl)) $ pass1 ! (init ! 34 refl (tt, (tt, (record { fits = gp.0 }, tt)))) $ pass1 ! (init ! 32 refl (tt, (tt, (record { fits = gw.0 }, tt)))) $
+      pass1 ! (init ! 38 refl (typed_u 𝓛 t gt)) $ pass1 ! (init ! 36 refl (typed_l 𝓛 taking gl)) $ pass1 ! (init ! 34 refl (tt, (tt, (record { fits = gp.0 }, tt)))) $ pass1 ! (init ! 32 refl (tt, (tt, (record { fits = gw.0 }, tt)))) $
       pass1 ! (init ! 30 refl (tt, (tt, (record { fits = gm.0 }, tt)))) $ pass0 ! $
       move ! (42 ∷ 43 ∷ []) $ split ! $ move ! (1 ∷ []) $ split ! $ move ! (1 ∷ []) $ split ! $ move ! (4 ∷ []) $ fsplit ! $ move ! (1 ∷ []) $ fsplit ! $ move ! (1 ∷ []) $ fsplit ! $ move ! (1 ∷ []) $ fsplit ! $ move ! (1 ∷ []) $ fsplit ! $
       -- [marks; true; work; pulses; taking's; t's; κ₂; true; κ₁; κ₀; _20; …]

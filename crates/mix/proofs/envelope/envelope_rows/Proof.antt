@@ -9,20 +9,20 @@ use lib.ListN.{length, take, drop, get_or, length-set}
 use lib.Ieee.{Float}
 use Rattle.exact.specs.Doubles.{nought}
 use Rattle.quant.specs.declared.complex.Complex.{Complex}
-use Rattle.quant.specs.Complex.{timesC}
+use Rattle.quant.specs.Complex.{times_c}
 use Rattle.mix.specs.Plateau.{real, imaginary}
-use Rattle.mix.specs.Envelope.{shaped, shapedBy}
+use Rattle.mix.specs.Envelope.{shaped, shaped_by}
 use Rattle.mix.proofs.Turns.{Laid, envelope-turn, envelope-end}
 use Rattle.mix.proofs.envelope.envelope_rows.Statement.{statement}
 use Rattle.mix.proofs.envelope.envelope_rows.Tie as tie
 
 -- a carrier whose imaginary part is still to be turned
 abbrev ahead : Float → Complex → Complex → Complex
-ahead re last d = record { re = re; im = (timesC last d).im }
+ahead re last d = record { re = re; im = (times_c last d).im }
 
 -- nothing is laid yet
 unlaid : (part : Complex → Float) (amp drag d z : Complex) (points row : List Float)
-    → Laid (shapedBy part amp drag d points z row) row row 0 (shaped part amp drag d nought (drop 0 points) z (drop 0 row))
+    → Laid (shaped_by part amp drag d points z row) row row 0 (shaped part amp drag d nought (drop 0 points) z (drop 0 row))
 unlaid part amp drag d z points row = record { within = omega arith; same = refl; whole = refl }
 
 abbrev invariant-loop : tie.invariant-loop

@@ -7,13 +7,13 @@ use mathlib.Core.Path.{◌≡◌, refl}
 use lib.ListN.{length, drop, get_or, length-set}
 use Rattle.exact.specs.Doubles.{nought}
 use Rattle.mix.specs.Plateau.{real}
-use Rattle.mix.specs.Envelope.{shaped, shapedBy}
+use Rattle.mix.specs.Envelope.{shaped, shaped_by}
 use Rattle.mix.proofs.Turns.{Laid, envelope-turn, envelope-end}
 use Rattle.mix.proofs.one_row.envelope_row.Statement.{statement}
 use Rattle.mix.proofs.one_row.envelope_row.Tie as tie
 
 abbrev invariant-loop : tie.invariant-loop
-invariant-loop i₀ points amp drag rotation z₀ left₀ here₀ k₀ i z left here k = Laid (shapedBy real amp drag rotation points z₀ i₀) i₀ i k (shaped real amp drag rotation left (drop k points) z (drop k i)) × (here ≡ get_or points k nought) × (length i₀ ≡ length points)
+invariant-loop i₀ points amp drag rotation z₀ left₀ here₀ k₀ i z left here k = Laid (shaped_by real amp drag rotation points z₀ i₀) i₀ i k (shaped real amp drag rotation left (drop k points) z (drop k i)) × (here ≡ get_or points k nought) × (length i₀ ≡ length points)
 
 abbrev decreases-loop : tie.decreases-loop
 decreases-loop i₀ points amp drag rotation z₀ left₀ here₀ k₀ i z left here k = length i - k

@@ -11,15 +11,15 @@ use lib.ListN.{length, take, drop}
 use Rattle.quant.proofs.Judging.{taken, passed}
 use Rattle.pulse.specs.declared.bin.Bin.{Bin}
 use Rattle.pulse.specs.declared.list.Pulse.{Pulse}
-use Rattle.pulse.specs.Bin.{bin_of, numbersOf}
-use Rattle.merge.specs.Sum.{together, summedBy, summedAgain}
+use Rattle.pulse.specs.Bin.{bin_of, numbers_of}
+use Rattle.merge.specs.Sum.{together, summed_by, summed_again}
 use Rattle.mixdown.specs.declared.runs.Runs.{Runs}
-use Rattle.mixdown.specs.Runs.{pulsesIn, movedOn}
-use Rattle.mixdown.specs.Sampled.{Out, rowed, ranPulses}
+use Rattle.mixdown.specs.Runs.{pulses_in, moved_on}
+use Rattle.mixdown.specs.Sampled.{Out, rowed, ran_pulses}
 use Rattle.mixdown.proofs.Numbers.{numbers-all}
 use Rattle.mixdown.proofs.Sizes.{eight-runs}
 use Rattle.mixdown.proofs.Marked.{pulses-length}
-use Rattle.mixdown.proofs.Picks.{left, pulseOf, Picks, picked-list, picked-row, picked_next, picked_none, picks-next}
+use Rattle.mixdown.proofs.Picks.{left, pulse_of, Picks, picked-list, picked-row, picked_next, picked_none, picks-next}
 use Rattle.mixdown.proofs.Binned.{todo, Going, less, near-turn, i-same, q-same, scratch-same, on-turn, refused-turn, on-last, refused-last, few, summed-first, summed-none, ran-none}
 use Rattle.mixdown.proofs.bin.sample_bin.Statement.{statement}
 use Rattle.mixdown.proofs.bin.sample_bin.Tie as tie
@@ -55,7 +55,7 @@ module _ (d : tie.After-pick invariant-loop decreases-loop) where
 
   -- what the contract says, of some pulses
   abbrev asked : List Pulse → Out
-  asked ps = ranPulses s₀.args.s (bin_of s₀.args.t2) (numbersOf s₀.args.t2) s₀.args.rows ps s₀.args.added (rowed s₀.args.i.now s₀.args.q.now s₀.args.scratch.now)
+  asked ps = ran_pulses s₀.args.s (bin_of s₀.args.t2) (numbers_of s₀.args.t2) s₀.args.rows ps s₀.args.added (rowed s₀.args.i.now s₀.args.q.now s₀.args.scratch.now)
 
 -- ---- at the head of a turn
 module _ (a : tie.At-loop invariant-loop decreases-loop) where
@@ -77,15 +77,15 @@ module _ (a : tie.At-loop invariant-loop decreases-loop) where
 
   -- is what the contract says
   finish : doing a.before.before.before.before.bin-of.result (given args.args.t2) a.before.before.before.picked-pulse.result a.before.before.move-on.result
-      ≡ asked d₀ (summedAgain args.args.tolerance.0 (left args.args.work.now args.args.marks.now args.args.runs))
+      ≡ asked d₀ (summed_again args.args.tolerance.0 (left args.args.work.now args.args.marks.now args.args.runs))
   finish =
       let kept = a.before.before.before.picked-pulse.result in
       let falls = together args.args.tolerance.0 in
       ap (λ (b : Bin). doing b (given args.args.t2) kept a.before.before.move-on.result) a.before.before.before.before.bin-of.ensures
       ∙ ap (λ (l : List Float). doing (bin_of args.args.t2) l kept a.before.before.move-on.result) (numbers-all args.args.t2 args.good.1.0.1.0.1)
-      ∙ ap (doing (bin_of args.args.t2) (numbersOf args.args.t2) kept) a.before.before.move-on.ensures
-      ∙ ap (λ (k : Pulse). doing (bin_of args.args.t2) (numbersOf args.args.t2) k (movedOn args.args.marks.now args.args.runs d₀.pick.result)) a.before.before.before.picked-pulse.ensures
-      ∙ ap (asked d₀) (sym (summed-first falls kept _ _) ∙ ap (summedBy falls) (sym (picked_next (first d₀) (passed _ _ refl a.before.before.before.before.before.if1.left))))
+      ∙ ap (doing (bin_of args.args.t2) (numbers_of args.args.t2) kept) a.before.before.move-on.ensures
+      ∙ ap (λ (k : Pulse). doing (bin_of args.args.t2) (numbers_of args.args.t2) k (moved_on args.args.marks.now args.args.runs d₀.pick.result)) a.before.before.before.picked-pulse.ensures
+      ∙ ap (asked d₀) (sym (summed-first falls kept _ _) ∙ ap (summed_by falls) (sym (picked_next (first d₀) (passed _ _ refl a.before.before.before.before.before.if1.left))))
 
 -- ---- in a turn, once the next pulse is taken
 module _ (d : tie.After-pick3 invariant-loop decreases-loop) where
@@ -95,13 +95,13 @@ module _ (d : tie.After-pick3 invariant-loop decreases-loop) where
   some : a₁.loop.p.some ≡ true
   some = d.before.before.before.loop-test.taken
 
-  behind : d.before.move-on2.result ≡ movedOn (args a₁).args.marks.now a₁.loop.r a₁.loop.p
+  behind : d.before.move-on2.result ≡ moved_on (args a₁).args.marks.now a₁.loop.r a₁.loop.p
   behind = d.before.move-on2.ensures
 
   then_next : Picks (args a₁).args.work.now (args a₁).args.marks.now d.before.move-on2.result d.pick3.result
   then_next = picks-next a₁.loop.inv.picks d.before.move-on2.result behind d.pick3.result d.pick3.ensures
 
-  taken_is : d.before.before.picked-pulse2.result ≡ pulseOf (args a₁).args.work.now (args a₁).args.marks.now a₁.loop.r a₁.loop.p
+  taken_is : d.before.before.picked-pulse2.result ≡ pulse_of (args a₁).args.work.now (args a₁).args.marks.now a₁.loop.r a₁.loop.p
   taken_is = d.before.before.picked-pulse2.ensures
 
 -- whether it falls together with the kept one
@@ -109,14 +109,14 @@ module _ (d : tie.After-is-near invariant-loop decreases-loop) where
   abbrev d₁ : tie.After-pick3 invariant-loop decreases-loop
   d₁ = d.before
 
-  told : d.is-near.result ≡ together (args (a₁ d₁)).args.tolerance.0 (a₁ d₁).loop.kept (pulseOf (args (a₁ d₁)).args.work.now (args (a₁ d₁)).args.marks.now (a₁ d₁).loop.r (a₁ d₁).loop.p)
+  told : d.is-near.result ≡ together (args (a₁ d₁)).args.tolerance.0 (a₁ d₁).loop.kept (pulse_of (args (a₁ d₁)).args.work.now (args (a₁ d₁)).args.marks.now (a₁ d₁).loop.r (a₁ d₁).loop.p)
   told = d.is-near.ensures ∙ ap (together (args (a₁ d₁)).args.tolerance.0 (a₁ d₁).loop.kept) (taken_is d₁)
 
 pick-requires : tie.Need-pick-requires invariant-loop decreases-loop
 pick-requires c κs = c.before.before.before.before.requires.0
 
 returns : tie.Need-returns invariant-loop decreases-loop
-returns c = sym (ap (λ (ps : List Pulse). asked c.before.before (summedAgain c.before.before.before.before.before.before.before.args.tolerance.0 ps)) (picked_none (first c.before.before) (taken _ _ refl c.if1.true)) ∙ ap (asked c.before.before) (summed-none (together c.before.before.before.before.before.before.before.args.tolerance.0)) ∙ ran-none _ _ _ _ _ _)
+returns c = sym (ap (λ (ps : List Pulse). asked c.before.before (summed_again c.before.before.before.before.before.before.before.args.tolerance.0 ps)) (picked_none (first c.before.before) (taken _ _ refl c.if1.true)) ∙ ap (asked c.before.before) (summed-none (together c.before.before.before.before.before.before.before.args.tolerance.0)) ∙ ran-none _ _ _ _ _ _)
 
 bin-of-requires : tie.Need-bin-of-requires invariant-loop decreases-loop
 bin-of-requires c κs = search rules
@@ -135,7 +135,7 @@ loop-holds c =
     let a = c.before.before.before.before.before.before.before.before.before.before.before.args in
     let k = picks-next (first c.before.before.before.before.before.before) c.before.move-on.result c.before.move-on.ensures c.pick2.result c.pick2.ensures in
     let long = pulses-length a.work.now a.marks.now (k.rows-full ∙ sym k.marks-full) in
-    let count = few (pulsesIn a.work.now a.marks.now) c.before.move-on.result (omega (arith, long, k.rows-full)) k.most in
+    let count = few (pulses_in a.work.now a.marks.now) c.before.move-on.result (omega (arith, long, k.rows-full)) k.most in
     record {
       same-i = refl;
       same-q = refl;

@@ -8,7 +8,7 @@ use lib.Ieee.{nan}
 use native.Mathlib.Numerals.{add-one}
 use Rattle.mixdown.proofs.Appeared.{among-suc, among_later, parts-length, parts_at}
 use Rattle.mixdown.proofs.Sizes.{eight-places, eight-factors}
-use Rattle.mixdown.specs.Bins.{isAmong, all_rows}
+use Rattle.mixdown.specs.Bins.{is_among, all_rows}
 use Rattle.merge.specs.Taking.{Part, part, parts_in}
 use borrow.Author.Rules.{rules}
 use lib.ListN.{length, take, get_or}
@@ -20,7 +20,7 @@ use Rattle.mixdown.proofs.bins.appeared.Statement.{statement}
 use Rattle.mixdown.proofs.bins.appeared.Tie as tie
 
 abbrev invariant-loop : tie.invariant-loop
-invariant-loop t bins k row taking j₀ j = (j ≤ k) × (isAmong row (all_rows t bins (take j (parts_in taking))) ≡ false)
+invariant-loop t bins k row taking j₀ j = (j ≤ k) × (is_among row (all_rows t bins (take j (parts_in taking))) ≡ false)
 
 abbrev decreases-loop : tie.decreases-loop
 decreases-loop t bins k row taking j₀ j = k - j
@@ -39,7 +39,7 @@ module _ (s : tie.Start invariant-loop decreases-loop) where
   many = parts-length s.args.t2 places factors s.pre.1
 
   -- the bin is among those of list j, by what the code found there
-  there : (j : ℕ) (b : Bool) → j < s.args.t2.count → (target_of (rows_of s.args.t s.args.bins.now (get_or s.args.t2.places j 0)) s.args.row).some ≡ b → isAmong s.args.row (rows_of s.args.t s.args.bins.now (get_or (parts_in s.args.t2) j none).place) ≡ b
+  there : (j : ℕ) (b : Bool) → j < s.args.t2.count → (target_of (rows_of s.args.t s.args.bins.now (get_or s.args.t2.places j 0)) s.args.row).some ≡ b → is_among s.args.row (rows_of s.args.t s.args.bins.now (get_or (parts_in s.args.t2) j none).place) ≡ b
   there j b h e = rw (parts_at s.args.t2 places factors s.pre.1 j none h) e
 
 loop-holds : tie.Need-loop-init invariant-loop decreases-loop

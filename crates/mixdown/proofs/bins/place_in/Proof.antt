@@ -1,7 +1,7 @@
 -- `mixdown::bins::place_in` meets its contract. Assumes nothing.
 use Rattle.mixdown.proofs.Held.{held-here, held-most, rows-held, rows_none, rows-many}
 use Rattle.mixdown.proofs.Numbers.{row-whole}
-use Rattle.tables.proofs.Sizes.{eight-channels}
+use Rattle.tables.proofs.Sizes.{eight_channels}
 use Rattle.commands.specs.Play.{rows_of}
 use Rattle.pulse.specs.Bin.{place_of}
 use lib.ListN.{length, take, drop}
@@ -19,7 +19,7 @@ bins-held-requires c κs = search rules
 
 module _ (d : tie.After-bins-held) where
   eight : length d.before.args.t.channels ≡ 8
-  eight = eight-channels d.before.args.t _ d.before.well-formed.0
+  eight = eight_channels d.before.args.t _ d.before.well-formed.0
 
   fit : d.bins-held.result ≤ 64
   fit = rw d.bins-held.ensures (held-most d.before.args.t [] d.before.args.i)

@@ -3,13 +3,13 @@ use Rattle.mixdown.proofs.Starting.{within-replicate, start-more, start-done}
 use Rattle.mixdown.proofs.Joining.{within-set}
 use Rattle.mixdown.proofs.Appeared.{parts-length, parts_at}
 use Rattle.mixdown.proofs.Sizes.{eight-places, eight-factors, eight-ends}
-use Rattle.mixdown.specs.Starts.{target_of, runFor}
+use Rattle.mixdown.specs.Starts.{target_of, run_for}
 use Rattle.mixdown.specs.declared.runs.Run.{Run}
 use Rattle.commands.specs.Play.{rows_of}
 use Rattle.merge.specs.Taking.{Part, part}
 use lib.ListN.{set, length-set}
 use lib.Ieee.{nan, binary64, of_bits}
-use Rattle.mixdown.specs.Starts.{runsForFrom}
+use Rattle.mixdown.specs.Starts.{runs_for_from}
 use Rattle.mixdown.specs.Runs.{Within}
 use Rattle.merge.specs.Taking.{parts_in}
 use borrow.Author.Rules.{rules}
@@ -22,7 +22,7 @@ use Rattle.mixdown.proofs.bins.runs_for.Statement.{statement}
 use Rattle.mixdown.proofs.bins.runs_for.Tie as tie
 
 abbrev invariant-loop : tie.invariant-loop
-invariant-loop t bins marks row taking ends runs₀ begin₀ k₀ runs begin k = (k ≤ taking.count) × (length runs ≡ 8) × Within runs × (take k runs ++ runsForFrom t bins marks row begin (drop k (parts_in taking)) (drop k ends.ends) ≡ runsForFrom t bins marks row 0 (parts_in taking) ends.ends)
+invariant-loop t bins marks row taking ends runs₀ begin₀ k₀ runs begin k = (k ≤ taking.count) × (length runs ≡ 8) × Within runs × (take k runs ++ runs_for_from t bins marks row begin (drop k (parts_in taking)) (drop k ends.ends) ≡ runs_for_from t bins marks row 0 (parts_in taking) ends.ends)
 
 abbrev decreases-loop : tie.decreases-loop
 decreases-loop t bins marks row taking ends runs₀ begin₀ k₀ runs begin k = taking.count - k
@@ -89,11 +89,11 @@ loop-again c =
     let p = get_or (parts_in s.args.t2) at.k (none s) in
     let e = get_or s.args.t3.ends at.k 0 in
     let one = parts_at s.args.t2 (places s) (factors s) s.requires.2 at.k (none s) (omega arith) in
-    let made : c.run-for.result ≡ runFor s.args.marks.now (target_of (rows_of s.args.t s.args.bins.now p.place) s.args.row) at.begin e p.factor = rw (one, c.run-for.ensures, c.before.before.IsPlace-in.ensures) refl in (
+    let made : c.run-for.result ≡ run_for s.args.marks.now (target_of (rows_of s.args.t s.args.bins.now p.place) s.args.row) at.begin e p.factor = rw (one, c.run-for.ensures, c.before.before.IsPlace-in.ensures) refl in (
       omega arith,
       length-set at.runs at.k c.run-for.result ∙ at.invariant.1,
       within-set at.runs at.k c.run-for.result (rw made (s.requires.3.each at.k)) at.invariant.2,
-      ap (λ (r : Run). take (at.k + 1) (set at.runs at.k r) ++ runsForFrom s.args.t s.args.bins.now s.args.marks.now s.args.row e (drop (at.k + 1) (parts_in s.args.t2)) (drop (at.k + 1) s.args.t3.ends)) made ∙ start-more s.args.t s.args.bins.now s.args.marks.now s.args.row (parts_in s.args.t2) s.args.t3.ends at.runs at.begin at.k (none s) (omega (arith, many s)) (omega (arith, ended s, s.requires.2)) (omega (arith, at.invariant.1, s.requires.2)) ∙ at.invariant.3,
+      ap (λ (r : Run). take (at.k + 1) (set at.runs at.k r) ++ runs_for_from s.args.t s.args.bins.now s.args.marks.now s.args.row e (drop (at.k + 1) (parts_in s.args.t2)) (drop (at.k + 1) s.args.t3.ends)) made ∙ start-more s.args.t s.args.bins.now s.args.marks.now s.args.row (parts_in s.args.t2) s.args.t3.ends at.runs at.begin at.k (none s) (omega (arith, many s)) (omega (arith, ended s, s.requires.2)) (omega (arith, at.invariant.1, s.requires.2)) ∙ at.invariant.3,
     )
 
 returns : tie.Need-returns invariant-loop decreases-loop

@@ -1,22 +1,22 @@
 -- `mixdown::lists::sample_list` meets its contract. Assumes nothing.
 use Rattle.quant.specs.declared.refusal.Answer.{Answer}
 use Rattle.mixdown.proofs.Listed.{by_runs}
-use Rattle.mixdown.specs.Sampled.{out, ranPulses}
-use Rattle.pulse.specs.Bin.{bin_of, numbersOf}
+use Rattle.mixdown.specs.Sampled.{out, ran_pulses}
+use Rattle.pulse.specs.Bin.{bin_of, numbers_of}
 use Rattle.mixdown.proofs.Listed.{merged-few, same_after}
 use Rattle.mixdown.proofs.Held.{held-here, held-most, rows-many, rows_at}
 use Rattle.mixdown.proofs.Appeared.{parts-length}
 use Rattle.mixdown.proofs.Sizes.{eight-places, eight-factors}
-use Rattle.mixdown.specs.Starts.{binsHeld}
-use Rattle.tables.proofs.Sizes.{eight-channels}
+use Rattle.mixdown.specs.Starts.{bins_held}
+use Rattle.tables.proofs.Sizes.{eight_channels}
 use Rattle.quant.proofs.Judging.{taken, passed}
 use Rattle.pulse.specs.declared.list.Pulse.{Pulse}
 use lib.Ieee.{Float}
 use mathlib.Core.List.{[]}
 use Rattle.mixdown.proofs.Listed.{Listing, list-start, seen_step, new-step, refused-step, list-end}
-use Rattle.mixdown.specs.Sampled.{rowed, ranBins}
-use Rattle.mixdown.specs.Starts.{mergedIn}
-use Rattle.mixdown.specs.Bins.{all_rows, firstsAfter}
+use Rattle.mixdown.specs.Sampled.{rowed, ran_bins}
+use Rattle.mixdown.specs.Starts.{merged_in}
+use Rattle.mixdown.specs.Bins.{all_rows, firsts_after}
 use Rattle.merge.specs.Taking.{parts_in}
 use Rattle.commands.specs.Play.{rows_of}
 use borrow.Author.Rules.{rules}
@@ -30,9 +30,9 @@ use Rattle.mixdown.proofs.lists.sample_list.Tie as tie
 
 abbrev invariant-loop : tie.invariant-loop
 invariant-loop s t ends k bins work marks rows i₀ q₀ scratch₀ added taking at many tolerance n₀ p₀ i q scratch n p =
-    let merged = mergedIn t bins work marks (parts_in taking) ends.ends in
+    let merged = merged_in t bins work marks (parts_in taking) ends.ends in
     let before = all_rows t bins (take k (parts_in taking)) in
-    Listing s rows merged before (rows_of t bins at) (ranBins s rows merged (firstsAfter before (rows_of t bins at)) added (rowed i₀ q₀ scratch₀)) (rowed i₀ q₀ scratch₀) added (rowed i q scratch) n p
+    Listing s rows merged before (rows_of t bins at) (ran_bins s rows merged (firsts_after before (rows_of t bins at)) added (rowed i₀ q₀ scratch₀)) (rowed i₀ q₀ scratch₀) added (rowed i q scratch) n p
 
 abbrev decreases-loop : tie.decreases-loop
 decreases-loop s t ends k bins work marks rows i₀ q₀ scratch₀ added taking at many tolerance n₀ p₀ i q scratch n p =
@@ -54,12 +54,12 @@ module _ (a : tie.At-loop invariant-loop decreases-loop) where
   its = rows_of s₀.args.t s₀.args.bins.now place
 
   abbrev merged : List Float → List Pulse
-  merged = mergedIn s₀.args.t s₀.args.bins.now s₀.args.work.now s₀.args.marks.now (parts_in s₀.args.t3) s₀.args.ends.ends
+  merged = merged_in s₀.args.t s₀.args.bins.now s₀.args.work.now s₀.args.marks.now (parts_in s₀.args.t3) s₀.args.ends.ends
 
   eight : length s₀.args.t.channels ≡ 8
-  eight = eight-channels s₀.args.t _ s₀.good.1.0
+  eight = eight_channels s₀.args.t _ s₀.good.1.0
 
-  many_is : many ≡ binsHeld s₀.args.t place
+  many_is : many ≡ bins_held s₀.args.t place
   many_is = a.before.before.bins-held.ensures
 
   its-many : length its ≡ many
@@ -92,10 +92,10 @@ module _ (c : tie.After-sample-bin invariant-loop decreases-loop) where
   abbrev here : List Float
   here = get_or (its a₁) a₁.loop.p []
 
-  came-to : out c.sample-bin.result (rowed c.sample-bin.new.1.1.1.1.1.1.1.0 c.sample-bin.new.1.1.1.1.1.1.1.1.0 c.sample-bin.new.1.1.1.1.1.1.1.1.1.0) ≡ ranPulses (s₀ a₁).args.s (bin_of here) (numbersOf here) (s₀ a₁).args.rows (merged a₁ here) a₁.loop.n (rowed a₁.loop.i a₁.loop.q a₁.loop.scratch)
+  came-to : out c.sample-bin.result (rowed c.sample-bin.new.1.1.1.1.1.1.1.0 c.sample-bin.new.1.1.1.1.1.1.1.1.0 c.sample-bin.new.1.1.1.1.1.1.1.1.1.0) ≡ ran_pulses (s₀ a₁).args.s (bin_of here) (numbers_of here) (s₀ a₁).args.rows (merged a₁ here) a₁.loop.n (rowed a₁.loop.i a₁.loop.q a₁.loop.scratch)
   came-to =
       by_runs (s₀ a₁).args.s (s₀ a₁).args.t (s₀ a₁).args.bins.now (s₀ a₁).args.work.now (s₀ a₁).args.marks.now (parts_in (s₀ a₁).args.t3) (s₀ a₁).args.ends.ends (s₀ a₁).args.rows a₁.loop.n _ c.before.before.before.before.runs-for.result _ _ c.before.before.before.before.runs-for.ensures.0 c.sample-bin.ensures
-      ∙ ap (λ (r : List Float). ranPulses (s₀ a₁).args.s (bin_of r) (numbersOf r) (s₀ a₁).args.rows (merged a₁ r) a₁.loop.n (rowed a₁.loop.i a₁.loop.q a₁.loop.scratch)) (row_is a₁ left_over)
+      ∙ ap (λ (r : List Float). ran_pulses (s₀ a₁).args.s (bin_of r) (numbers_of r) (s₀ a₁).args.rows (merged a₁ r) a₁.loop.n (rowed a₁.loop.i a₁.loop.q a₁.loop.scratch)) (row_is a₁ left_over)
 
 mul_at : tie.Need-overflow-mul-at invariant-loop decreases-loop
 mul_at c = search rules

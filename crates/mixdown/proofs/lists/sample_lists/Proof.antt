@@ -3,14 +3,14 @@ use Rattle.mixdown.proofs.Listed.{merged-few}
 use Rattle.mixdown.proofs.Held.{held-most, rows-many}
 use Rattle.mixdown.proofs.Appeared.{parts-length, parts_at}
 use Rattle.mixdown.proofs.Sizes.{eight-places, eight-factors}
-use Rattle.tables.proofs.Sizes.{eight-channels}
+use Rattle.tables.proofs.Sizes.{eight_channels}
 use Rattle.merge.specs.Taking.{Part, part}
 use Rattle.commands.specs.Play.{rows_of}
 use lib.Ieee.{Float, nan}
 use Rattle.mixdown.proofs.Allbins.{Listings, all_start, like-it, next-list, list-refused, all_done}
-use Rattle.mixdown.specs.Sampled.{rowed, ranBins}
-use Rattle.mixdown.specs.Starts.{mergedIn}
-use Rattle.mixdown.specs.Bins.{all_rows, firstsAfter}
+use Rattle.mixdown.specs.Sampled.{rowed, ran_bins}
+use Rattle.mixdown.specs.Starts.{merged_in}
+use Rattle.mixdown.specs.Bins.{all_rows, firsts_after}
 use Rattle.merge.specs.Taking.{parts_in}
 use borrow.Author.Rules.{rules}
 use lib.ListN.{length, get_or}
@@ -23,8 +23,8 @@ use Rattle.mixdown.proofs.lists.sample_lists.Tie as tie
 
 abbrev invariant-loop : tie.invariant-loop
 invariant-loop s t taking ends bins work marks rows i₀ q₀ scratch₀ n₀ k₀ i q scratch n k =
-    let merged = mergedIn t bins work marks (parts_in taking) ends.ends in
-    Listings s rows merged t bins (parts_in taking) (ranBins s rows merged (firstsAfter [] (all_rows t bins (parts_in taking))) 0 (rowed i₀ q₀ scratch₀)) (rowed i₀ q₀ scratch₀) (rowed i q scratch) n k
+    let merged = merged_in t bins work marks (parts_in taking) ends.ends in
+    Listings s rows merged t bins (parts_in taking) (ran_bins s rows merged (firsts_after [] (all_rows t bins (parts_in taking))) 0 (rowed i₀ q₀ scratch₀)) (rowed i₀ q₀ scratch₀) (rowed i q scratch) n k
 
 abbrev decreases-loop : tie.decreases-loop
 decreases-loop s t taking ends bins work marks rows i₀ q₀ scratch₀ n₀ k₀ i q scratch n k = taking.count - k
@@ -52,12 +52,12 @@ module _ (a : tie.At-loop invariant-loop decreases-loop) where
   within : a.loop.k < s₀.args.taking.count → a.loop.k < length (parts_in s₀.args.taking)
   within h = omega (arith, h, many)
 
-  few : (r : List Float) → length (mergedIn s₀.args.t s₀.args.bins.now s₀.args.work.now s₀.args.marks.now (parts_in s₀.args.taking) s₀.args.ends.ends r) ≤ 65536
+  few : (r : List Float) → length (merged_in s₀.args.t s₀.args.bins.now s₀.args.work.now s₀.args.marks.now (parts_in s₀.args.taking) s₀.args.ends.ends r) ≤ 65536
   few r = merged-few s₀.args.t s₀.args.bins.now s₀.args.work.now s₀.args.marks.now (parts_in s₀.args.taking) s₀.args.ends.ends r s₀.pre.0.1 s₀.pre.0.2 (omega (arith, many, s₀.pre.0.3))
 
   most : length (rows_of s₀.args.t s₀.args.bins.now list.place) ≤ 64
   most =
-      let long = rows-many s₀.args.t s₀.args.bins.now list.place (eight-channels s₀.args.t _ s₀.good.1.0) s₀.pre.0.0 in
+      let long = rows-many s₀.args.t s₀.args.bins.now list.place (eight_channels s₀.args.t _ s₀.good.1.0) s₀.pre.0.0 in
       let held = held-most s₀.args.t s₀.args.bins.now list.place in
       omega (arith, long, held)
 

@@ -3,7 +3,7 @@ use Rattle.mixdown.proofs.Held.{held-most, rows-many, rows-first}
 use Rattle.mixdown.proofs.Numbers.{row-whole}
 use Rattle.mixdown.proofs.Appeared.{among-append}
 use Rattle.mixdown.specs.Bins.{all_rows}
-use Rattle.tables.proofs.Sizes.{eight-channels}
+use Rattle.tables.proofs.Sizes.{eight_channels}
 use Rattle.merge.specs.Taking.{parts_in}
 use Rattle.commands.specs.Play.{rows_of}
 use Rattle.pulse.specs.Bin.{place_of}
@@ -33,7 +33,7 @@ module _ (s : tie.Start) where
   most = let h = held-most s.args.t s.args.bins.now s.args.at in omega (arith, h, s.pre.4)
 
   many : length (take s.args.p its) ≡ s.args.p
-  many = length-take-le s.args.p its (let h = rows-many s.args.t s.args.bins.now s.args.at (eight-channels s.args.t _ s.good.0) s.pre.0 in omega (arith, h, s.pre.4))
+  many = length-take-le s.args.p its (let h = rows-many s.args.t s.args.bins.now s.args.at (eight_channels s.args.t _ s.good.0) s.pre.0 in omega (arith, h, s.pre.4))
 
 returns : tie.Need-returns
 returns c = sym (among-append c.before.before.args.t7 (earlier c.before.before) (take c.before.before.args.p (its c.before.before)) ∙ rw (sym c.before.appeared.ensures ∙ c.if1.true) refl)

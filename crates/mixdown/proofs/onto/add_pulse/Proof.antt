@@ -1,6 +1,6 @@
 -- `mixdown::onto::add_pulse` meets its contract. Assumes nothing.
 use Rattle.mixdown.specs.Holding.{accepted}
-use Rattle.mixdown.specs.Sampled.{rowed, addedTo}
+use Rattle.mixdown.specs.Sampled.{rowed, added_to}
 use Rattle.placing.proofs.Accepted.{curved-held}
 use Rattle.placing.specs.declared.Judged.{Judged}
 use lib.ListN.{length}
@@ -43,7 +43,7 @@ returns c =
     let s = c.before.before.before.before.before.before.before.before.before.before.before.before.before.before.before in
     let a = s.args in
     let judged-so = sym c.before.before.before.before.before.before.before.before.before.before.judge.ensures ∙ c.before.before.before.before.before.before.before.before.f.given.1 in
-    (rw (c.before.before.before.before.add-plateau.ensures.0, c.before.before.before.before.add-plateau.ensures.1) (ap (λ (j : Judged). addedTo a.s a.b a.numbers.now a.rows j (rowed a.i.now a.q.now a.scratch.now)) (sym judged-so)), (ap accepted judged-so, s.requires.2))
+    (rw (c.before.before.before.before.add-plateau.ensures.0, c.before.before.before.before.add-plateau.ensures.1) (ap (λ (j : Judged). added_to a.s a.b a.numbers.now a.rows j (rowed a.i.now a.q.now a.scratch.now)) (sym judged-so)), (ap accepted judged-so, s.requires.2))
 
 same-length-3 : tie.Need-same-length-3
 same-length-3 c = search rules
@@ -59,14 +59,14 @@ returns-2 c =
     let s = c.before.before.before.before.before.before.before.before.before.before.before.before.before.before.before.before.before.before in
     let a = s.args in
     let judged-so = sym c.before.before.before.before.before.before.before.before.before.before.before.before.before.judge.ensures ∙ c.before.before.before.before.before.before.before.before.before.before.before.c.given.1 in
-    (c.before.before.before.before.before.before.add-shaped.ensures.0 ∙ ap (λ (j : Judged). addedTo a.s a.b a.numbers.now a.rows j (rowed a.i.now a.q.now a.scratch.now)) (sym judged-so), (ap accepted judged-so, c.before.before.before.before.before.before.add-shaped.ensures.1))
+    (c.before.before.before.before.before.before.add-shaped.ensures.0 ∙ ap (λ (j : Judged). added_to a.s a.b a.numbers.now a.rows j (rowed a.i.now a.q.now a.scratch.now)) (sym judged-so), (ap accepted judged-so, c.before.before.before.before.before.before.add-shaped.ensures.1))
 
 returns-3 : tie.Need-returns-3
 returns-3 c =
     let s = c.before.before.before.before.before.before.before.before in
     let a = s.args in
     let judged-so = sym c.before.before.before.judge.ensures ∙ c.before.r.given.1 in
-    (ap (λ (j : Judged). addedTo a.s a.b a.numbers.now a.rows j (rowed a.i.now a.q.now a.scratch.now)) (sym judged-so), judged-so)
+    (ap (λ (j : Judged). added_to a.s a.b a.numbers.now a.rows j (rowed a.i.now a.q.now a.scratch.now)) (sym judged-so), judged-so)
 
 pub add-pulse-spec : {M : Type 1} → statement M
 add-pulse-spec =

@@ -1,8 +1,8 @@
 -- `mixdown::onto::add_shaped` meets its contract. Assumes nothing.
 use Rattle.mixdown.proofs.Shaped.{shaped-rows}
 use Rattle.mixdown.proofs.Holdings.{after-length, holds_after}
-use Rattle.mixdown.specs.Sampled.{parts_at, withPoints}
-use Rattle.shape.specs.Envelope.{scratchAfter}
+use Rattle.mixdown.specs.Sampled.{parts_at, with_points}
+use Rattle.shape.specs.Envelope.{scratch_after}
 use lib.ListN.{length}
 use Prim.Native.Nat.{◌-◌, ◌≤◌}
 use mathlib.Core.Path.{sym, ap, ◌∙◌}
@@ -46,8 +46,8 @@ returns c =
     let less : room ≤ length a.scratch.now = omega (arith, s.requires.2) in
     let held = c.before.before.before.before.before.before.before.before.before.before.before.hold.ensures in
     let long = ap length held ∙ after-length a.s a.b a.numbers.now a.c.offset room a.scratch.now less in (
-      shaped-rows a.rows a.c a.i.now a.q.now _ _ _ (omega (arith, long, s.requires.0, s.requires.2)) c.before.before.before.before.add-envelope.ensures.0 c.before.before.before.before.add-envelope.ensures.1 ∙ ap (withPoints a.rows a.c a.i.now a.q.now) held,
-      λ _ room'. ap (scratchAfter a.b.envelope.shape a.numbers.now (parts_at a.s a.b a.c.offset room')) held ∙ holds_after a.s a.b a.numbers.now a.c.offset room a.scratch.now less a.c.points s.requires.1 room' ∙ sym held,
+      shaped-rows a.rows a.c a.i.now a.q.now _ _ _ (omega (arith, long, s.requires.0, s.requires.2)) c.before.before.before.before.add-envelope.ensures.0 c.before.before.before.before.add-envelope.ensures.1 ∙ ap (with_points a.rows a.c a.i.now a.q.now) held,
+      λ _ room'. ap (scratch_after a.b.envelope.shape a.numbers.now (parts_at a.s a.b a.c.offset room')) held ∙ holds_after a.s a.b a.numbers.now a.c.offset room a.scratch.now less a.c.points s.requires.1 room' ∙ sym held,
     )
 
 pub add-shaped-spec : {M : Type 1} → statement M

@@ -1,7 +1,7 @@
 -- `mixdown::onto::hold` meets its contract. Assumes nothing.
 use Rattle.mixdown.specs.Sampled.{parts_at}
 use Rattle.shape.proofs.Filling.{limit-same}
-use Rattle.shape.specs.Envelope.{scratchAfter}
+use Rattle.shape.specs.Envelope.{scratch_after}
 use lib.Ieee.{Float}
 use mathlib.Core.Path.{sym, ap, ◌∙◌}
 use borrow.Author.Rules.{rules}
@@ -15,7 +15,7 @@ returns : tie.Need-returns
 returns c =
     let a = c.before.before.before.before.before.args in
     let same = c.before.same-offset.ensures c.if2.true in
-    sym (ap (λ (o : Float). scratchAfter a.b.envelope.shape a.numbers.now (parts_at a.s a.b o a.room) a.scratch.now) (sym same) ∙ c.before.before.before.before.before.requires.1 c.before.before.if1.true a.room)
+    sym (ap (λ (o : Float). scratch_after a.b.envelope.shape a.numbers.now (parts_at a.s a.b o a.room) a.scratch.now) (sym same) ∙ c.before.before.before.before.before.requires.1 c.before.before.if1.true a.room)
 
 envelope-requires : tie.Need-envelope-requires
 envelope-requires c κs = search rules

@@ -1,5 +1,5 @@
 -- `mixdown::onto::same_offset` meets its contract. Assumes nothing.
-use Rattle.exact.proofs.Truth.{number-if-same}
+use Rattle.exact.proofs.Truth.{number_if_same}
 use Rattle.mixdown.proofs.Holdings.{bits-same}
 use lib.Dec.{T}
 use mathlib.Core.Bool.{true≢false}
@@ -14,10 +14,10 @@ returns-2 : tie.Need-returns-2
 returns-2 c = λ e. absurd (true≢false (sym e))
 
 float-to-bits-result : tie.Need-float-to-bits-result
-float-to-bits-result c = number-if-same _ c.before.if1.false
+float-to-bits-result c = number_if_same _ c.before.if1.false
 
 float-to-bits-result-2 : tie.Need-float-to-bits-result-2
-float-to-bits-result-2 c = number-if-same _ c.if2.false
+float-to-bits-result-2 c = number_if_same _ c.if2.false
 
 returns-3 : tie.Need-returns-3
 returns-3 c = bits-same _ _ (subst T (sym c.before.before.well-formed.0.1) tt) (subst T (sym c.before.before.well-formed.1.0.1) tt)

@@ -1,11 +1,11 @@
 -- `mixdown::runs::pick` meets its contract. Assumes nothing.
 use lib.ListN.{get_or}
-use Rattle.mixdown.specs.Runs.{no_run, advancedBy, better}
+use Rattle.mixdown.specs.Runs.{no_run, advanced_by, better}
 use Prim.Native.Nat.{ℕ, ◌-◌, ◌+◌}
 use mathlib.Core.Path.{ap}
 use Rattle.mixdown.proofs.Picking.{picked_none, picked_more, better-within}
 use Rattle.mixdown.proofs.Sizes.{eight-runs}
-use Rattle.mixdown.specs.Runs.{pickedFrom}
+use Rattle.mixdown.specs.Runs.{picked_from}
 use borrow.Author.Rules.{rules}
 use lib.ListN.{take, drop}
 use mathlib.Core.Path.{◌≡◌, sym, ◌∙◌}
@@ -15,7 +15,7 @@ use Rattle.mixdown.proofs.runs.pick.Statement.{statement}
 use Rattle.mixdown.proofs.runs.pick.Tie as tie
 
 abbrev invariant-loop : tie.invariant-loop
-invariant-loop work marks r best₀ k₀ best k = (k ≤ r.count) × (best.at < 8192) × (best ≡ pickedFrom work marks k (drop k (take r.count r.runs)))
+invariant-loop work marks r best₀ k₀ best k = (k ≤ r.count) × (best.at < 8192) × (best ≡ picked_from work marks k (drop k (take r.count r.runs)))
 
 abbrev decreases-loop : tie.decreases-loop
 decreases-loop work marks r best₀ k₀ best k = k
@@ -50,17 +50,17 @@ loop-again c =
     let run = get_or s.args.t1.runs k no_run in
     let here : k + 1 ≡ at.k = omega arith in
     let more = picked_more s.args.work.now s.args.marks.now s.args.t1.count s.args.t1.runs k (omega arith) (omega (arith, whole, s.requires.2)) in
-    let is : c.better.result ≡ better s.args.work.now k (advancedBy s.args.marks.now run) run.end at.best = rw (c.better.ensures, c.before.advance.ensures) in (
+    let is : c.better.result ≡ better s.args.work.now k (advanced_by s.args.marks.now run) run.end at.best = rw (c.better.ensures, c.before.advance.ensures) in (
       omega arith,
-      rw is (better-within s.args.work.now k (advancedBy s.args.marks.now run) run.end 8192 at.best at.invariant.1 (s.requires.3.each k)),
-      is ∙ ap (better s.args.work.now k (advancedBy s.args.marks.now run) run.end) (at.invariant.2 ∙ ap (λ (n : ℕ). pickedFrom s.args.work.now s.args.marks.now n (drop n (take s.args.t1.count s.args.t1.runs))) (sym here)) ∙ more,
+      rw is (better-within s.args.work.now k (advanced_by s.args.marks.now run) run.end 8192 at.best at.invariant.1 (s.requires.3.each k)),
+      is ∙ ap (better s.args.work.now k (advanced_by s.args.marks.now run) run.end) (at.invariant.2 ∙ ap (λ (n : ℕ). picked_from s.args.work.now s.args.marks.now n (drop n (take s.args.t1.count s.args.t1.runs))) (sym here)) ∙ more,
     )
 
 returns : tie.Need-returns invariant-loop decreases-loop
 returns c =
     let at = c.before.loop in
     let done : at.k ≡ 0 = omega arith in
-    at.invariant.2 ∙ ap (λ (n : ℕ). pickedFrom c.before.before.before.args.work.now c.before.before.before.args.marks.now n (drop n (take c.before.before.before.args.t1.count c.before.before.before.args.t1.runs))) done
+    at.invariant.2 ∙ ap (λ (n : ℕ). picked_from c.before.before.before.args.work.now c.before.before.before.args.marks.now n (drop n (take c.before.before.before.args.t1.count c.before.before.before.args.t1.runs))) done
 
 pub pick_spec : {M : Type 1} → statement M
 pick_spec =

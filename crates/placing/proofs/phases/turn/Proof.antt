@@ -2,7 +2,7 @@
 use Rattle.std.proofs.Common.{◌≡◌, true, false, sym, ap, ◌∙◌, rules}
 use lib.Ieee.{Float, binary64, mul}
 use Rattle.placing.specs.declared.phases.Turned.TheVariants.{NotFinite}
-use Rattle.placing.specs.Phases.{startTime, turnedOf, pairsOf}
+use Rattle.placing.specs.Phases.{start_time, turned_of, pairs_of}
 use Rattle.placing.proofs.Turning.{turn-fine, turn-refused}
 use Rattle.placing.proofs.phases.turn.Statement.{statement}
 use Rattle.placing.proofs.phases.turn.Tie as tie
@@ -48,11 +48,11 @@ module _ (d : tie.After-all-finite) where
   abbrev at : Float
   at = mul binary64 d.before.before.before.before.before.before.before.before.before.before.nearest-u64-to-f64.result start.args.s.dt.0
 
-  at-is : at ≡ startTime start.args.s start.args.start
+  at-is : at ≡ start_time start.args.s start.args.start
   at-is = ap (λ (x : Float). mul binary64 x start.args.s.dt.0) d.before.before.before.before.before.before.before.before.before.before.nearest-u64-to-f64.ensures
 
-  fine : d.all-finite.result ≡ true → pairsOf d.before.before.before.before.add.result.0 d.before.before.mul-time3.result.0
-      ≡ turnedOf start.args.s start.args.b start.args.start start.args.offset
+  fine : d.all-finite.result ≡ true → pairs_of d.before.before.before.before.add.result.0 d.before.before.mul-time3.result.0
+      ≡ turned_of start.args.s start.args.b start.args.start start.args.offset
   fine e =
       turn-fine start.args.s start.args.b start.args.start start.args.offset at _ _ _ _ _ _ _ at-is
       d.before.before.before.before.before.before.before.before.sub.ensures
@@ -61,7 +61,7 @@ module _ (d : tie.After-all-finite) where
       d.before.before.mul-time3.ensures
       (sym d.all-finite.ensures ∙ e)
 
-  refused : d.all-finite.result ≡ false → NotFinite ≡ turnedOf start.args.s start.args.b start.args.start start.args.offset
+  refused : d.all-finite.result ≡ false → NotFinite ≡ turned_of start.args.s start.args.b start.args.start start.args.offset
   refused e =
       turn-refused start.args.s start.args.b start.args.start start.args.offset at _ _ _ _ _ _ _ at-is
       d.before.before.before.before.before.before.before.before.sub.ensures

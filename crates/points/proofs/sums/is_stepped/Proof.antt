@@ -2,7 +2,7 @@
 use Rattle.std.proofs.Common.{T, sym, subst}
 use mathlib.Core.Bool.{false≢true}
 use borrow.Author.Tests.{not-false}
-use Rattle.points.proofs.Stepping.{stepped-above, stepped-beneath, stepped-none}
+use Rattle.points.proofs.Stepping.{stepped-above, stepped_beneath, stepped-none}
 use Rattle.points.proofs.sums.is_stepped.Statement.{statement}
 use Rattle.points.proofs.sums.is_stepped.Tie as tie
 
@@ -20,7 +20,7 @@ returns-3 c =
 returns-4 : tie.Need-returns-4
 returns-4 c =
     let s = c.before.before.before.before in λ e.
-    stepped-beneath s.args.x (subst T (sym s.well-formed.0.1) tt) (not-false _ c.before.before.before.if1.false) (not-false _ c.before.before.if2.false) c.if4.true
+    stepped_beneath s.args.x (subst T (sym s.well-formed.0.1) tt) (not-false _ c.before.before.before.if1.false) (not-false _ c.before.before.if2.false) c.if4.true
 
 returns-5 : tie.Need-returns-5
 returns-5 c = stepped-none c.before.before.before.before.args.x

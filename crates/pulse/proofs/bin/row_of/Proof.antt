@@ -5,7 +5,7 @@ use Prim.Native.Nat.{◌+◌, ◌-◌, ◌≤◌}
 use native.Mathlib.Omega.{arith}
 use lib.Ieee.{Float}
 use lib.ListN.{length, length-set, take}
-use Rattle.pulse.proofs.Rows.{fiveOf, whole}
+use Rattle.pulse.proofs.Rows.{five_of, whole}
 use Rattle.pulse.proofs.Filled.{filled-turn, filled-all}
 use borrow.Author.Rules.{rules}
 use Rattle.pulse.proofs.bin.row_of.Statement.{statement}
@@ -77,7 +77,7 @@ loop-again c =
     let start = c.before.before in
     let numbers = start.args.t2 in
     let many = start.well-formed.1.0.1.0.1 in
-    (length-set at.row (5 + at.i) _ ∙ at.invariant.0, omega arith, filled-turn (fiveOf start.args.t1) numbers at.row at.i (omega (arith, at.invariant.0)) (omega (arith, many)) at.invariant.2)
+    (length-set at.row (5 + at.i) _ ∙ at.invariant.0, omega arith, filled-turn (five_of start.args.t1) numbers at.row at.i (omega (arith, at.invariant.0)) (omega (arith, many)) at.invariant.2)
 
 returns : tie.Need-returns invariant-loop decreases-loop
 returns c =

@@ -48,10 +48,10 @@ use denote.Triple.Clauses.{ensured, lasts}
 use denote.Triple.Walked.{says, Stays, stay_slice, stay_none, walk_of, Goes-slice, Goes-none, Walks, ends_at, walked, walk_Meets}
 use denote.Exit.{yes}
 use Rattle.pulse.specs.declared.list.Pulse.{Pulse}
-use Rattle.pulse.specs.List.{staysBefore, among, stored}
+use Rattle.pulse.specs.List.{stays_before, among, stored}
 use Rattle.pulse.proofs.Placed.{none, at_from, behind, before}
 use Rattle.pulse.proofs.Walk.{is_true, is_false, word, after, arm, cell, part, into, again-into, calls-plain}
-use Rattle.pulse.proofs.Records.{spell, val, IsRecord, bytes, slice, typed, has-record, has_word, takes, gives_back, replaces}
+use Rattle.pulse.proofs.Records.{spell, val, IsRecord, bytes, slice, typed, has_record, has_word, takes, gives_back, replaces}
 use Rattle.pulse.specs.contracts.list.Pulse as P
 use Rattle.pulse.proofs.list.Pulse.TheLaws as P'
 use Rattle.pulse.specs.contracts.list.has_room as has_room
@@ -103,7 +103,7 @@ module _ (xs : List Pulse) (start count : ℕ) (p : Pulse) where
     inside : t.i < length t.ys
     inside = omega (arith, t.within, t.long)
 
-    turned : start < t.i → (r : Bool) → r ≡ staysBefore prev p → T (not r) → Upto xs start count p
+    turned : start < t.i → (r : Bool) → r ≡ stays_before prev p → T (not r) → Upto xs start count p
     turned h r e isn't =
         record {
           i = t.i - 1;
@@ -114,7 +114,7 @@ module _ (xs : List Pulse) (start count : ℕ) (p : Pulse) where
           left = before start p t.ys t.i (t.i - 1 - start) (omega arith) inside (sym e ∙ is_false r isn't) ∙ t.left;
         }
 
-    broken : start < t.i → (r : Bool) → r ≡ staysBefore prev p → T r → set t.ys t.i p ≡ among start count p xs
+    broken : start < t.i → (r : Bool) → r ≡ stays_before prev p → T r → set t.ys t.i p ≡ among start count p xs
     broken h r e is = behind start p t.ys t.i (t.i - 1 - start) (omega arith) inside (sym e ∙ is_true r is) ∙ t.left
 
     ended : t.i ≤ start → set t.ys t.i p ≡ among start count p xs
@@ -139,8 +139,8 @@ module _ {M : Type 1} {𝓤 : Ura M} (𝓛 : Logic 𝓤) (mem : Memory → SProp
   abbrev StaysBefore : Contract 𝓤
   StaysBefore = triple_of 𝓛 stays-before.signature (stays-before.spec 𝓛 mem run)
 
-  stays-before-of : (q p : Pulse) (r : Bool) → ent 𝓤 (ensured 𝓛 stays-before.ended (stays-before.clauses 𝓛 mem run) tt (q, (p, tt)) tt r) (fact 𝓤 (r ≡ staysBefore q p))
-  stays-before-of q p r = ex_e 𝓤 _ (λ ws. snd∗ 𝓤 (sem 𝓛 (lasts stays-before.ended tt (q, (p, tt)) ws)) (fact 𝓤 (r ≡ staysBefore q p)))
+  stays-before-of : (q p : Pulse) (r : Bool) → ent 𝓤 (ensured 𝓛 stays-before.ended (stays-before.clauses 𝓛 mem run) tt (q, (p, tt)) tt r) (fact 𝓤 (r ≡ stays_before q p))
+  stays-before-of q p r = ex_e 𝓤 _ (λ ws. snd∗ 𝓤 (sem 𝓛 (lasts stays-before.ended tt (q, (p, tt)) ws)) (fact 𝓤 (r ≡ stays_before q p)))
 
 module _ {M : Type 1} {𝓤 : Ura M} (𝓛 : Logic 𝓤) (mem : Memory → SProp 𝓤) (run : Routine → Fun 𝓤) (κ : Lft) (q : Share) (b o : ℕ) (γ : GName) (xs : List Pulse) (start count : ℕ) (p : Pulse)
     (gx : Room P.the_row (length xs)) (gs : start < 2 ^ 64) (gc : count < 2 ^ 64) (gp : IsRecord p) where
@@ -165,7 +165,7 @@ module _ {M : Type 1} {𝓤 : Ura M} (𝓛 : Logic 𝓤) (mem : Memory → SProp
       suffices ! _ (ends_at 𝓛 f.ended stayed (f.clauses 𝓛 mem run) (((κ, tt), (q, tt), tt, args, at), tt) vunit tt (zs, (tt, (tt, (tt, tt)))) (e, (tt, (tt, (tt, tt))))) $ says ! is $
       nothing ! $ move ! (3 ∷ 0 ∷ []) $ join ! $ frame ! $ fjoin ! $
       pure_i ! (mut_slice_at P.the_row (record { ref_ptr = (b, o); ghost_name = γ; now = zs }) at.0) (tt, (tt, tt)) (ap (λ (m : ℕ). slice_val (b, o) m ∷ []) (sym e), subst (Room P.the_row) (sym e) gx) $ fjoin ! $
-      nothing ! $ has-record ! p gp $ fjoin ! $ has_word ! count gc $ fjoin ! $ has_word ! start gs $ fjoin ! $ move ! (1 ∷ 0 ∷ []) $ fjoin ! $ frame ! $ feq_i ! (List Val) (vunit ∷ []) (vunit ∷ []) refl $ done !
+      nothing ! $ has_record ! p gp $ fjoin ! $ has_word ! count gc $ fjoin ! $ has_word ! start gs $ fjoin ! $ move ! (1 ∷ 0 ∷ []) $ fjoin ! $ frame ! $ feq_i ! (List Val) (vunit ∷ []) (vunit ∷ []) refl $ done !
 
   abbrev to-has-room : (HasRoom 𝓛 mem run).Ghost
   to-has-room = ((tt, tt, tt, (length xs, (start, (count, tt))), (vint w64 (length xs) ∷ [], (vint w64 start ∷ [], (vint w64 count ∷ [], tt)))), tt)
@@ -177,7 +177,7 @@ module _ {M : Type 1} {𝓤 : Ura M} (𝓛 : Logic 𝓤) (mem : Memory → SProp
   to-stays-before r = ((tt, tt, tt, (r, (p, tt)), (spell r, (spell p, tt))), tt)
 
   goes-stays-before : (r : Pulse) → IsRecord r → ent 𝓤 (emp 𝓤) ((StaysBefore 𝓛 mem run).pre (to-stays-before r))
-  goes-stays-before r g = qed 𝓛 [] ∵ nothing ! $ has-record ! p gp $ fjoin ! $ has-record ! r g $ fjoin ! $ nothing ! $ join ! $ nothing ! $ move ! (1 ∷ 0 ∷ []) $ done !
+  goes-stays-before r g = qed 𝓛 [] ∵ nothing ! $ has_record ! p gp $ fjoin ! $ has_record ! r g $ fjoin ! $ nothing ! $ join ! $ nothing ! $ move ! (1 ∷ 0 ∷ []) $ done !
 
   abbrev Nearer : Upto xs start count p → Upto xs start count p → Type 0
   Nearer j k = j.i < k.i

@@ -5,15 +5,15 @@ use mathlib.Core.Bool.{Bool, true, false, ◌&&◌, cond}
 use lib.Ieee.{Float}
 use Rattle.quant.specs.declared.complex.Complex.{Complex}
 use Rattle.quant.specs.declared.phaser.Phased.TheVariants.{Pair}
-use Rattle.quant.specs.Complex.{scaledC, turnedC}
+use Rattle.quant.specs.Complex.{scaled_c, turned_c}
 use Rattle.pulse.specs.declared.weight.Weighed.TheVariants.{Fine, Overflow}
-use Rattle.pulse.specs.Weight.{finiteC, weighed}
+use Rattle.pulse.specs.Weight.{finite_c, weighed}
 use borrow.Author.Rules.{rules}
 use Rattle.pulse.proofs.weight.weigh_at.Statement.{statement}
 use Rattle.pulse.proofs.weight.weigh_at.Tie as tie
 
-answered : (a k : Float) (u amp turned drag : Complex) (p q r z : Bool) → amp ≡ scaledC u a → turned ≡ turnedC amp → drag ≡ scaledC turned k
-    → p ≡ finiteC amp → q ≡ finiteC drag → r ≡ (p && q) → r ≡ z → weighed a (Pair u) k ≡ cond z (Fine (record { amp = amp; drag = drag })) Overflow
+answered : (a k : Float) (u amp turned drag : Complex) (p q r z : Bool) → amp ≡ scaled_c u a → turned ≡ turned_c amp → drag ≡ scaled_c turned k
+    → p ≡ finite_c amp → q ≡ finite_c drag → r ≡ (p && q) → r ≡ z → weighed a (Pair u) k ≡ cond z (Fine (record { amp = amp; drag = drag })) Overflow
 unfolding weighed
 answered a k u amp turned drag p q r z e f g h i j l = rw (← l, j, i, h, g, f, e)
 

@@ -9,10 +9,10 @@ use mir.Syntax.{w32}
 use mir.Val.{to_z, of_z}
 use mir.ValLaws.{to_z-of_z}
 use Rattle.ieee.specs.Ceiling.{ceiling}
-use Rattle.ieee.specs.Exp2.{exp2Of}
+use Rattle.ieee.specs.Exp2.{exp2_of}
 use Rattle.quant.specs.declared.aligned.Aligned.{Aligned}
 use Rattle.quant.specs.declared.aligned.Aligned.TheVariants.{Index, NotFinite}
-use Rattle.quant.specs.Aligned.{scaledRate, stepsAt, alignedAt, judged}
+use Rattle.quant.specs.Aligned.{scaled_rate, steps_at, aligned_at, judged}
 use Rattle.quant.proofs.Judging.{taken, passed}
 use Rattle.quant.proofs.aligned.align.Statement.{statement}
 use Rattle.quant.proofs.aligned.align.Tie as tie
@@ -44,14 +44,14 @@ module _ (a : tie.After-is-finite) where
   same : to_z w32 (of_z w32 level) ≡ level
   same = to_z-of_z w32 level start.fits.level
 
-  scaled-is : scaled ≡ scaledRate rate level
-  scaled-is = ap (mul binary64 rate) (a.before.before.exp2-of-minus.ensures ∙ ap (λ (z : ℤ). exp2Of (neg_ℤ z)) same)
+  scaled-is : scaled ≡ scaled_rate rate level
+  scaled-is = ap (mul binary64 rate) (a.before.before.exp2-of-minus.ensures ∙ ap (λ (z : ℤ). exp2_of (neg_ℤ z)) same)
 
-  steps-is : mul binary64 time scaled ≡ stepsAt time rate level
+  steps-is : mul binary64 time scaled ≡ steps_at time rate level
   steps-is = ap (mul binary64 time) scaled-is
 
-  aligned-is : (x y : Float) → x ≡ ceiling (mul binary64 time scaled) → y ≡ exp2Of (to_z w32 (of_z w32 level)) → mul binary64 x y ≡ alignedAt time rate level
-  aligned-is x y e f i = mul binary64 ((e ∙ ap ceiling steps-is) i) ((f ∙ ap exp2Of same) i)
+  aligned-is : (x y : Float) → x ≡ ceiling (mul binary64 time scaled) → y ≡ exp2_of (to_z w32 (of_z w32 level)) → mul binary64 x y ≡ aligned_at time rate level
+  aligned-is x y e f i = mul binary64 ((e ∙ ap ceiling steps-is) i) ((f ∙ ap exp2_of same) i)
 
 -- ---- what the first two tests let pass
 first : (c : tie.Else1) → finite (scaled c.before) ≡ true
@@ -63,13 +63,13 @@ second c =
     passed c.before.is-finite2.result (finite (mul binary64 (time a) (scaled a))) c.before.is-finite2.ensures c.if2.false
 
 -- the definition past those tests
-past_one : (c : tie.Else1) (b : Aligned) → judged (scaledRate (rate c.before) (level c.before)) b ≡ b
-past_one c b = let a = c.before in judged-yes (scaled a) (scaledRate (rate a) (level a)) b (scaled-is a) (first c)
+past_one : (c : tie.Else1) (b : Aligned) → judged (scaled_rate (rate c.before) (level c.before)) b ≡ b
+past_one c b = let a = c.before in judged-yes (scaled a) (scaled_rate (rate a) (level a)) b (scaled-is a) (first c)
 
-past_two : (c : tie.Else2) (b : Aligned) → judged (stepsAt (time c.before.before.before.before) (rate c.before.before.before.before) (level c.before.before.before.before)) b ≡ b
+past_two : (c : tie.Else2) (b : Aligned) → judged (steps_at (time c.before.before.before.before) (rate c.before.before.before.before) (level c.before.before.before.before)) b ≡ b
 past_two c b =
     let a = c.before.before.before.before in
-    judged-yes (mul binary64 (time a) (scaled a)) (stepsAt (time a) (rate a) (level a)) b (steps-is a) (second c)
+    judged-yes (mul binary64 (time a) (scaled a)) (steps_at (time a) (rate a) (level a)) b (steps-is a) (second c)
 
 exp2-of-minus-requires : tie.Need-exp2-of-minus-requires
 exp2-of-minus-requires c κs = search rules
@@ -80,7 +80,7 @@ is-finite-requires c κs = search rules
 returns : tie.Need-returns
 returns c =
     let a = c.before in
-    sym (judged-no (scaled a) (scaledRate (rate a) (level a)) _ (scaled-is a) (taken a.is_finite.result (finite (scaled a)) a.is_finite.ensures c.if1.true))
+    sym (judged-no (scaled a) (scaled_rate (rate a) (level a)) _ (scaled-is a) (taken a.is_finite.result (finite (scaled a)) a.is_finite.ensures c.if1.true))
 
 is-finite-requires-2 : tie.Need-is-finite-requires-2
 is-finite-requires-2 c κs = search rules
@@ -92,7 +92,7 @@ returns-2 c =
     let f = c.before.is-finite2 in
     sym
     (past_one one _
-    ∙ judged-no (mul binary64 (time a) (scaled a)) (stepsAt (time a) (rate a) (level a)) _ (steps-is a) (taken f.result (finite (mul binary64 (time a) (scaled a))) f.ensures c.if2.true))
+    ∙ judged-no (mul binary64 (time a) (scaled a)) (steps_at (time a) (rate a) (level a)) _ (steps-is a) (taken f.result (finite (mul binary64 (time a) (scaled a))) f.ensures c.if2.true))
 
 ceil-requires : tie.Need-ceil-requires
 ceil-requires c κs = search rules
@@ -114,7 +114,7 @@ module _ (d : tie.After-is-finite3) where
   abbrev last : Float
   last = mul binary64 d.before.before.ceil.result d.before.exp2.result
 
-  last-is : last ≡ alignedAt (time one.before) (rate one.before) (level one.before)
+  last-is : last ≡ aligned_at (time one.before) (rate one.before) (level one.before)
   last-is = aligned-is one.before d.before.before.ceil.result d.before.exp2.result d.before.before.ceil.ensures d.before.exp2.ensures
 
 returns-3 : tie.Need-returns-3

@@ -14,7 +14,7 @@ use mir.Syntax.{w32}
 use mir.Val.{SFits, to_z, of_z}
 use mir.ValLaws.{to_z-of_z}
 use Rattle.exact.proofs.Truth.{below, not-below}
-use Rattle.ieee.specs.Exp2.{exp2Of}
+use Rattle.ieee.specs.Exp2.{exp2_of}
 use Rattle.ieee.proofs.Powers.{overflow}
 use Rattle.quant.proofs.aligned.exp2_of_minus.Statement.{statement}
 use Rattle.quant.proofs.aligned.exp2_of_minus.Tie as tie
@@ -30,7 +30,7 @@ minus (pos (suc n)) =
 minus (negsuc n) = ap pos (zero-add (suc n))
 
 -- below -2^31 + 1 the opposite is past 1023
-far : (z : ℤ) → z <ℤ negsuc 2147483646 → exp2Of (neg_ℤ z) ≡ inf false
+far : (z : ℤ) → z <ℤ negsuc 2147483646 → exp2_of (neg_ℤ z) ≡ inf false
 far (pos n) h = absurd h.lt
 far (negsuc n) h = overflow (pos (suc n)) (record { lt = lt→ltb 1023 (suc n) (lt_of_lt_of_le (lit< tt) (le_trans (ltb→lt 2147483646 n h.lt) (le-suc n))) })
 
@@ -60,7 +60,7 @@ returns c =
     let s = c.before.before in
     c.exp2.ensures
     ∙ overflow (pos 2147483647) (record { lt = tt })
-    ∙ sym (ap (λ (y : ℤ). exp2Of (neg_ℤ y)) (sym (same s)) ∙ far (z s) (below c.before.if1.true))
+    ∙ sym (ap (λ (y : ℤ). exp2_of (neg_ℤ y)) (sym (same s)) ∙ far (z s) (below c.before.if1.true))
 
 sub-exp2 : tie.Need-overflow-sub-exp2
 sub-exp2 c = fits_neg c
@@ -72,8 +72,8 @@ returns-2 : tie.Need-returns-2
 returns-2 c =
     let s = c.before.before in
     c.exp22.ensures
-    ∙ ap exp2Of (to_z-of_z w32 (pos 0 -ℤ z s) (fits_neg c.before) ∙ minus (z s))
-    ∙ ap (λ (y : ℤ). exp2Of (neg_ℤ y)) (same s)
+    ∙ ap exp2_of (to_z-of_z w32 (pos 0 -ℤ z s) (fits_neg c.before) ∙ minus (z s))
+    ∙ ap (λ (y : ℤ). exp2_of (neg_ℤ y)) (same s)
 
 pub exp2-of-minus-spec : {M : Type 1} → statement M
 exp2-of-minus-spec = tie.close (tie.spec exp2-requires returns sub-exp2 exp2-requires-2 returns-2)

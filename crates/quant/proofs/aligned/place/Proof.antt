@@ -4,7 +4,7 @@ use mathlib.Core.Path.{◌≡◌, sym, ap, ◌∙◌}
 use lib.IntN.{ℤ}
 use mir.Syntax.{w32}
 use mir.ValLaws.{to_z-of_z}
-use Rattle.quant.specs.Aligned.{alignedOf, placed_of}
+use Rattle.quant.specs.Aligned.{aligned_of, placed_of}
 use Rattle.quant.proofs.aligned.place.Statement.{statement}
 use Rattle.quant.proofs.aligned.place.Tie as tie
 
@@ -21,10 +21,10 @@ enum_told : tie.Need-enum-told
 enum_told c = search rules
 
 -- what `align` answered, with the level as it came
-aligned-is : (d : tie.After-align) → d.align.result ≡ alignedOf d.before.args.time.0 d.before.args.rate.0 d.before.args.level
+aligned-is : (d : tie.After-align) → d.align.result ≡ aligned_of d.before.args.time.0 d.before.args.rate.0 d.before.args.level
 aligned-is d =
     let s = d.before in
-    d.align.ensures ∙ ap (λ (z : ℤ). alignedOf s.args.time.0 s.args.rate.0 z) (to_z-of_z w32 s.args.level s.ranges.level)
+    d.align.ensures ∙ ap (λ (z : ℤ). aligned_of s.args.time.0 s.args.rate.0 z) (to_z-of_z w32 s.args.level s.ranges.level)
 
 returns : tie.Need-returns
 returns c =

@@ -4,9 +4,9 @@ use mathlib.Core.Path.{◌≡◌, sym, ap, ◌∙◌}
 use mathlib.Core.Bool.{Bool}
 use lib.Ieee.{Float}
 use lib.Ieee.Scale.{finite}
-use Rattle.trig.specs.Trig.{cosineOf, sineOf}
+use Rattle.trig.specs.Trig.{cosine_of, sine_of}
 use Rattle.quant.specs.declared.phaser.Phased.TheVariants.{Pair}
-use Rattle.quant.specs.Phaser.{radiansOf, phased}
+use Rattle.quant.specs.Phaser.{radians_of, phased}
 use Rattle.quant.proofs.phaser.phaser.Statement.{statement}
 use Rattle.quant.proofs.phaser.phaser.Tie as tie
 
@@ -22,7 +22,7 @@ both-requires c κs = search rules
 -- phase*TAU, and the answer of its test
 module _ (d : tie.After-is-finite) where
   abbrev x : Float
-  x = radiansOf d.before.before.args.phase.0
+  x = radians_of d.before.before.args.phase.0
 
   x-is : d.before.radians.result ≡ x
   x-is = d.before.radians.ensures
@@ -33,7 +33,7 @@ module _ (d : tie.After-is-finite) where
 returns : tie.Need-returns
 returns c =
     let d = c.before.before in
-    (λ i. Pair (record { re = (c.both.ensures.cos ∙ ap cosineOf (x-is d)) i; im = (c.both.ensures.sin ∙ ap sineOf (x-is d)) i }))
+    (λ i. Pair (record { re = (c.both.ensures.cos ∙ ap cosine_of (x-is d)) i; im = (c.both.ensures.sin ∙ ap sine_of (x-is d)) i }))
     ∙ ap (λ (b : Bool). phased b (x d)) (sym (sym (test-is d) ∙ c.before.if1.true))
 
 returns-2 : tie.Need-returns-2

@@ -2,7 +2,7 @@
 use mathlib.Core.Path.{ap, ◌∙◌}
 use mir.Syntax.{w32}
 use mir.ValLaws.{to_z-of_z}
-use Rattle.quant.specs.Settings.{isLevel}
+use Rattle.quant.specs.Settings.{is_level}
 use borrow.Author.Rules.{rules}
 use Rattle.quant.proofs.settings.is_level.Statement.{statement}
 use Rattle.quant.proofs.settings.is_level.Tie as tie
@@ -11,7 +11,7 @@ both-requires : tie.Need-both-requires
 both-requires c κs = search rules
 
 returns : tie.Need-returns
-returns c = c.both.ensures ∙ ap isLevel (to_z-of_z w32 c.before.args.level c.before.ranges.level)
+returns c = c.both.ensures ∙ ap is_level (to_z-of_z w32 c.before.args.level c.before.ranges.level)
 
 pub is-level-spec : {M : Type 1} → statement M
 is-level-spec = tie.close (tie.spec both-requires returns)

@@ -9,7 +9,7 @@ use mir.Val.{to_z, of_z}
 use mir.ValLaws.{to_z-of_z}
 use Rattle.exact.specs.Doubles.{one}
 use Rattle.quant.specs.declared.settings.Fitting.TheVariants.{Fit}
-use Rattle.quant.specs.Settings.{isRate, isLevel, fitting}
+use Rattle.quant.specs.Settings.{is_rate, is_level, fitting}
 use Rattle.quant.proofs.settings.set_up.Statement.{statement}
 use Rattle.quant.proofs.settings.set_up.Tie as tie
 
@@ -48,12 +48,12 @@ module _ (d : tie.After-both3) where
   same : to_z w32 (of_z w32 start.args.level) ≡ start.args.level
   same = to_z-of_z w32 start.args.level start.fits.level
 
-  flag : d.both3.result ≡ (isRate start.args.rate.0 && finite (div binary64 one start.args.rate.0) && finite start.args.delay.0 && isLevel start.args.level)
+  flag : d.both3.result ≡ (is_rate start.args.rate.0 && finite (div binary64 one start.args.rate.0) && finite start.args.delay.0 && is_level start.args.level)
   flag =
       let clock = d.before.before.before.before in
       let e-clock = clock.both.ensures ∙ (λ i. clock.before.before.is-rate.ensures i && (clock.before.is_finite.ensures ∙ ap finite made.dt.ensures) i) in
       d.both3.ensures
-      ∙ (λ i. (d.before.before.both2.ensures ∙ (λ j. e-clock j && d.before.before.before.is-finite2.ensures j)) i && (d.before.is-level.ensures ∙ ap isLevel same) i)
+      ∙ (λ i. (d.before.before.both2.ensures ∙ (λ j. e-clock j && d.before.before.before.is-finite2.ensures j)) i && (d.before.is-level.ensures ∙ ap is_level same) i)
 
 returns : tie.Need-returns
 returns c =

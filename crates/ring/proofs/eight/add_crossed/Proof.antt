@@ -3,7 +3,7 @@ use borrow.Author.Rules.{rules}
 use Prim.Native.Nat.{◌-◌}
 use native.Mathlib.Omega.{arith}
 use Rattle.ring.specs.Inside.{crossed}
-use Rattle.ring.proofs.Adding.{Adding, adding-none, adding-more, adding-all}
+use Rattle.ring.proofs.Adding.{Adding, adding_none, adding_more, adding_all}
 use Rattle.ring.proofs.eight.add_crossed.Statement.{statement}
 use Rattle.ring.proofs.eight.add_crossed.Tie as tie
 
@@ -14,7 +14,7 @@ abbrev decreases-loop : tie.decreases-loop
 decreases-loop sums₀ taps m old new p₀ sums p = 8 - p
 
 loop-holds : tie.Need-loop-init invariant-loop decreases-loop
-loop-holds c = adding-none _ _ c.before.requires.1.1
+loop-holds c = adding_none _ _ c.before.requires.1.1
 
 cross-requires : tie.Need-cross-requires invariant-loop decreases-loop
 cross-requires c κs = search rules
@@ -38,10 +38,10 @@ loop-less : tie.Need-loop-smaller invariant-loop decreases-loop
 loop-less c = omega arith
 
 loop-again : tie.Need-loop-preserved invariant-loop decreases-loop
-loop-again c = let at = c.before.before.before.loop in adding-more _ _ at.sums at.p c.before.cross.result c.before.before.loop-test.true c.before.cross.ensures at.invariant
+loop-again c = let at = c.before.before.before.loop in adding_more _ _ at.sums at.p c.before.cross.result c.before.before.loop-test.true c.before.cross.ensures at.invariant
 
 returns : tie.Need-returns invariant-loop decreases-loop
-returns c = let at = c.before.loop in adding-all _ _ at.sums at.p (omega arith) at.invariant
+returns c = let at = c.before.loop in adding_all _ _ at.sums at.p (omega arith) at.invariant
 
 pub add-crossed-spec : {M : Type 1} → statement M
 add-crossed-spec =

@@ -4,7 +4,7 @@ use Prim.Native.Nat.{◌+◌, ◌-◌}
 use native.Mathlib.Omega.{arith}
 use lib.ListN.{get_or}
 use lib.Ieee.{nan, binary64, mul}
-use Rattle.ring.proofs.Adding.{Adding, adding-none, adding-more, adding-all}
+use Rattle.ring.proofs.Adding.{Adding, adding_none, adding_more, adding_all}
 use Rattle.ring.proofs.eight.add_slot.Statement.{statement}
 use Rattle.ring.proofs.eight.add_slot.Tie as tie
 
@@ -15,7 +15,7 @@ abbrev decreases-loop : tie.decreases-loop
 decreases-loop sums₀ taps t x p₀ sums p = 8 - p
 
 loop-holds : tie.Need-loop-init invariant-loop decreases-loop
-loop-holds c = adding-none _ _ c.requires.1
+loop-holds c = adding_none _ _ c.requires.1
 
 add-sums : tie.Need-overflow-add-sums invariant-loop decreases-loop
 add-sums c = omega arith
@@ -45,10 +45,10 @@ loop-less : tie.Need-loop-smaller invariant-loop decreases-loop
 loop-less c = omega arith
 
 loop-again : tie.Need-loop-preserved invariant-loop decreases-loop
-loop-again c = let at = c.before.before.before.loop in adding-more _ _ at.sums at.p _ c.before.before.loop-test.true refl at.invariant
+loop-again c = let at = c.before.before.before.loop in adding_more _ _ at.sums at.p _ c.before.before.loop-test.true refl at.invariant
 
 returns : tie.Need-returns invariant-loop decreases-loop
-returns c = let at = c.before.loop in adding-all _ _ at.sums at.p (omega arith) at.invariant
+returns c = let at = c.before.loop in adding_all _ _ at.sums at.p (omega arith) at.invariant
 
 pub add-slot-spec : {M : Type 1} → statement M
 add-slot-spec =

@@ -6,12 +6,12 @@ use native.Mathlib.Omega.{arith}
 use lib.ListN.{length}
 use Rattle.rows.proofs.Turns.{upto}
 use Rattle.rows.proofs.Valued.{Valued, valued-turn, valued-all}
-use Rattle.ring.specs.Inside.{byTap}
+use Rattle.ring.specs.Inside.{by_tap}
 use Rattle.ring.proofs.few.only_tap.Statement.{statement}
 use Rattle.ring.proofs.few.only_tap.Tie as tie
 
 abbrev invariant-loop : tie.invariant-loop
-invariant-loop row₀ tap k₀ row k = Valued (byTap tap) row₀ row k
+invariant-loop row₀ tap k₀ row k = Valued (by_tap tap) row₀ row k
 
 abbrev decreases-loop : tie.decreases-loop
 decreases-loop row₀ tap k₀ row k = length row₀ - k
@@ -42,7 +42,7 @@ loop-again : tie.Need-loop-preserved invariant-loop decreases-loop
 loop-again c =
     let at = c.before.before.loop in
     let a = c.before.before.before.args in
-    valued-turn (byTap a.tap) a.row.now at.row at.k (omega arith) at.invariant _ refl
+    valued-turn (by_tap a.tap) a.row.now at.row at.k (omega arith) at.invariant _ refl
 
 same_length : tie.Need-same-length invariant-loop decreases-loop
 same_length c = c.before.loop.invariant.same
@@ -51,7 +51,7 @@ returns : tie.Need-returns invariant-loop decreases-loop
 returns c =
     let at = c.before.loop in
     let a = c.before.before.args in
-    valued-all (byTap a.tap) a.row.now at.row at.k (omega arith) at.invariant
+    valued-all (by_tap a.tap) a.row.now at.row at.k (omega arith) at.invariant
 
 pub only-tap-spec : {M : Type 1} → statement M
 only-tap-spec =

@@ -8,19 +8,19 @@ use lib.Dec.{lit<}
 use lib.ListN.{length, get_or}
 use lib.Ieee.{Float, nan, binary64, add, mul}
 use Rattle.ring.specs.Ring.{sum_to}
-use Rattle.ring.specs.Inside.{Ready, outputTo}
+use Rattle.ring.specs.Inside.{Ready, output_to}
 use Rattle.ring.proofs.Slots.{ready-room, more, at_before, at_new, at_after}
 use Rattle.ring.proofs.few.sum_one.Statement.{statement}
 use Rattle.ring.proofs.few.sum_one.Tie as tie
 
 abbrev invariant-loop : tie.invariant-loop
-invariant-loop ring s taps x n sum₀ j₀ sum j = (j ≤ s) × (sum ≡ outputTo taps ring s (x ∷ []) j 0)
+invariant-loop ring s taps x n sum₀ j₀ sum j = (j ≤ s) × (sum ≡ output_to taps ring s (x ∷ []) j 0)
 
 abbrev decreases-loop : tie.decreases-loop
 decreases-loop ring s taps x n sum₀ j₀ sum j = s - j
 
 abbrev invariant-loop2 : tie.invariant-loop2
-invariant-loop2 ring s taps x n sum₀ j₀ sum j = (s < j) × (j ≤ n) × (sum ≡ outputTo taps ring s (x ∷ []) j 0)
+invariant-loop2 ring s taps x n sum₀ j₀ sum j = (s < j) × (j ≤ n) × (sum ≡ output_to taps ring s (x ∷ []) j 0)
 
 abbrev decreases-loop2 : tie.decreases-loop2
 decreases-loop2 ring s taps x n sum₀ j₀ sum j = n - j
@@ -58,13 +58,13 @@ module _ (ring : List Float) (s : ℕ) (taps : List Float) (x sum : Float) (j : 
   room : length taps ≤ length ring
   room = ready-room ready
 
-  before-it : j < s → sum ≡ outputTo taps ring s (x ∷ []) j 0 → add binary64 (mul binary64 (get_or taps (s - j) nan) (get_or ring j nan)) sum ≡ outputTo taps ring s (x ∷ []) (j + 1) 0
+  before-it : j < s → sum ≡ output_to taps ring s (x ∷ []) j 0 → add binary64 (mul binary64 (get_or taps (s - j) nan) (get_or ring j nan)) sum ≡ output_to taps ring s (x ∷ []) (j + 1) 0
   before-it h = more taps ring s (x ∷ []) width room 0 (lit< tt) j (j + 1) refl (at_before taps ring s (x ∷ []) width room 0 (lit< tt) j (s - j) h (omega arith))
 
-  its_own : j ≡ s → sum ≡ outputTo taps ring s (x ∷ []) j 0 → add binary64 (mul binary64 (get_or taps 0 nan) x) sum ≡ outputTo taps ring s (x ∷ []) (s + 1) 0
+  its_own : j ≡ s → sum ≡ output_to taps ring s (x ∷ []) j 0 → add binary64 (mul binary64 (get_or taps 0 nan) x) sum ≡ output_to taps ring s (x ∷ []) (s + 1) 0
   its_own h = more taps ring s (x ∷ []) width room 0 (lit< tt) j (s + 1) (omega arith) (at_new taps ring s (x ∷ []) width room 0 (lit< tt) j 0 0 (omega arith) (omega arith) (omega arith))
 
-  after-it : s < j → j < length taps → sum ≡ outputTo taps ring s (x ∷ []) j 0 → add binary64 (mul binary64 (get_or taps (length taps + s - j) nan) (get_or ring j nan)) sum ≡ outputTo taps ring s (x ∷ []) (j + 1) 0
+  after-it : s < j → j < length taps → sum ≡ output_to taps ring s (x ∷ []) j 0 → add binary64 (mul binary64 (get_or taps (length taps + s - j) nan) (get_or ring j nan)) sum ≡ output_to taps ring s (x ∷ []) (j + 1) 0
   after-it h g = more taps ring s (x ∷ []) width room 0 (lit< tt) j (j + 1) refl (at_after taps ring s (x ∷ []) width room 0 (lit< tt) j (length taps + s - j) (omega arith) g (omega arith))
 
 loop-again : tie.Need-loop-preserved invariant-loop decreases-loop invariant-loop2 decreases-loop2
@@ -123,7 +123,7 @@ returns c =
     let at = c.before.loop2 in
     let a = c.before.before.before.before.before.args in
     let end : at.j ≡ length a.taps.now = omega arith in
-    at.invariant.2 ∙ ap (λ (j : ℕ). outputTo a.taps.now a.ring.now a.s (a.x ∷ []) j 0) end
+    at.invariant.2 ∙ ap (λ (j : ℕ). output_to a.taps.now a.ring.now a.s (a.x ∷ []) j 0) end
 
 pub sum-one-spec : {M : Type 1} → statement M
 sum-one-spec =

@@ -8,15 +8,15 @@ use lib.Dec.{lit<}
 use lib.ListN.{length, get_or}
 use lib.Ieee.{Float, nan, binary64, add, mul}
 use Rattle.ring.specs.Ring.{sum_to}
-use Rattle.ring.specs.Inside.{Ready, outputTo}
+use Rattle.ring.specs.Inside.{Ready, output_to}
 use Rattle.ring.proofs.Slots.{ready-room, more, at_before, at_new, at_old, at_after}
 use Rattle.ring.proofs.few.sum_two.Statement.{statement}
 use Rattle.ring.proofs.few.sum_two.Tie as tie
 
 -- both sums over the first j slots
 record Both (ring : List Float) (s : ℕ) (taps : List Float) (x y a b : Float) (j : ℕ) : Type 0 where
-  first : a ≡ outputTo taps ring s (x ∷ y ∷ []) j 0
-  second : b ≡ outputTo taps ring s (x ∷ y ∷ []) j 1
+  first : a ≡ output_to taps ring s (x ∷ y ∷ []) j 0
+  second : b ≡ output_to taps ring s (x ∷ y ∷ []) j 1
 
 abbrev invariant-loop : tie.invariant-loop
 invariant-loop ring s taps x y n sums₀ j₀ sums j = (j ≤ s) × Both ring s taps x y sums.first sums.second j

@@ -1,7 +1,7 @@
 -- `shape::envelope::envelope` meets its contract: the parts, then what filling them in gives. Assumes nothing.
 use Rattle.std.proofs.Common.{◌≡◌, ℕ, length, sym, ap, ◌∙◌, rules}
-use Rattle.shape.specs.Parts.{partedOf}
-use Rattle.shape.specs.Envelope.{least, limitOf}
+use Rattle.shape.specs.Parts.{parted_of}
+use Rattle.shape.specs.Envelope.{least, limit_of}
 use Rattle.shape.proofs.Filling.{within-fits, fits_more, limit-scratch, limit-row}
 use Rattle.shape.proofs.envelope.envelope.Statement.{statement}
 use Rattle.shape.proofs.envelope.envelope.Tie as tie
@@ -19,17 +19,17 @@ enum-known-p : tie.Need-enum-known-p
 enum-known-p c = search rules
 
 -- the parts, in the room as it is cut
-parts_are : (d : tie.After-lay-out) → let a = d.before.before.before.before.before.args in d.lay-out.result ≡ partedOf a.width.0 a.plateau.0 a.offset a.rate.0 a.dt.0 (limitOf a.room (length a.scratch.now))
+parts_are : (d : tie.After-lay-out) → let a = d.before.before.before.before.before.args in d.lay-out.result ≡ parted_of a.width.0 a.plateau.0 a.offset a.rate.0 a.dt.0 (limit_of a.room (length a.scratch.now))
 parts_are d =
     let a = d.before.before.before.before.before.args in
     let limit = d.before.smaller2.ensures ∙ ap (λ (n : ℕ). least n 65536) d.before.before.smaller.ensures in
-    d.lay-out.ensures ∙ ap (λ (n : ℕ). partedOf a.width.0 a.plateau.0 a.offset a.rate.0 a.dt.0 n) limit
+    d.lay-out.ensures ∙ ap (λ (n : ℕ). parted_of a.width.0 a.plateau.0 a.offset a.rate.0 a.dt.0 n) limit
 
 fill-requires : tie.Need-fill-requires
 fill-requires c κs =
     let d = c.before.before.before.before in
     let a = d.before.before.before.before.before.args in
-    let n = limitOf a.room (length a.scratch.now) in
+    let n = limit_of a.room (length a.scratch.now) in
     let fit = within-fits n _ a.width.0 a.plateau.0 a.offset a.rate.0 a.dt.0 (sym (parts_are d) ∙ c.before.before.p.given.1) in
     (fits_more _ n _ (limit-scratch a.room (length a.scratch.now)) fit, fits_more _ n _ (limit-row a.room (length a.scratch.now)) fit)
 

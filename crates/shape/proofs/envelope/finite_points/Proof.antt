@@ -1,6 +1,6 @@
 -- `shape::envelope::finite_points` meets its contract: both segments judged, where either has no more points than the row may have. Assumes nothing.
 use Rattle.std.proofs.Common.{rules}
-use Rattle.shape.specs.Envelope.{finitePoints}
+use Rattle.shape.specs.Envelope.{finite_points}
 use Rattle.shape.proofs.envelope.finite_points.Statement.{statement}
 use Rattle.shape.proofs.envelope.finite_points.Tie as tie
 
@@ -17,7 +17,7 @@ both-requires : tie.Need-both-requires
 both-requires c κs = search rules
 
 returns : tie.Need-returns
-unfolding finitePoints
+unfolding finite_points
 returns c = rw (c.both.ensures, c.before.points-finite2.ensures, c.before.before.before.points-finite.ensures)
 
 pub finite-points-spec : {M : Type 1} → statement M

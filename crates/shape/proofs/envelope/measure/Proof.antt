@@ -1,7 +1,7 @@
 -- `shape::envelope::measure` meets its contract: the parts, then the judgement of their points. Assumes nothing.
 use Rattle.std.proofs.Common.{◌≡◌, ℕ, sym, ap, ◌∙◌, rules}
-use Rattle.shape.specs.Parts.{partedOf}
-use Rattle.shape.specs.Envelope.{least, envelopedOf}
+use Rattle.shape.specs.Parts.{parted_of}
+use Rattle.shape.specs.Envelope.{least, enveloped_of}
 use Rattle.shape.proofs.Filling.{least-right, within-fits, fits_more}
 use Rattle.shape.proofs.envelope.measure.Statement.{statement}
 use Rattle.shape.proofs.envelope.measure.Tie as tie
@@ -16,10 +16,10 @@ enum-known-p : tie.Need-enum-known-p
 enum-known-p c = search rules
 
 -- the parts, in the room as it is cut
-parts_are : (d : tie.After-lay-out) → let a = d.before.before.before.args in d.lay-out.result ≡ partedOf a.width.0 a.plateau.0 a.offset a.rate.0 a.dt.0 (least a.room 65536)
+parts_are : (d : tie.After-lay-out) → let a = d.before.before.before.args in d.lay-out.result ≡ parted_of a.width.0 a.plateau.0 a.offset a.rate.0 a.dt.0 (least a.room 65536)
 parts_are d =
     let a = d.before.before.before.args in
-    d.lay-out.ensures ∙ ap (λ (n : ℕ). partedOf a.width.0 a.plateau.0 a.offset a.rate.0 a.dt.0 n) d.before.smaller.ensures
+    d.lay-out.ensures ∙ ap (λ (n : ℕ). parted_of a.width.0 a.plateau.0 a.offset a.rate.0 a.dt.0 n) d.before.smaller.ensures
 
 count-requires : tie.Need-count-requires
 count-requires c κs =
@@ -34,12 +34,12 @@ enum-known-r c = search rules
 returns : tie.Need-returns
 returns c =
     let a = c.before.before.before.before.before.before.before.args in
-    c.count.ensures ∙ ap (envelopedOf a.shape a.numbers.now) (sym c.before.before.p.given.1 ∙ parts_are c.before.before.before.before)
+    c.count.ensures ∙ ap (enveloped_of a.shape a.numbers.now) (sym c.before.before.p.given.1 ∙ parts_are c.before.before.before.before)
 
 returns-2 : tie.Need-returns-2
 returns-2 c =
     let a = c.before.before.before.before.before.before.args in
-    ap (envelopedOf a.shape a.numbers.now) (sym c.before.r.given.1 ∙ parts_are c.before.before.before)
+    ap (enveloped_of a.shape a.numbers.now) (sym c.before.r.given.1 ∙ parts_are c.before.before.before)
 
 pub measure-spec : {M : Type 1} → statement M
 measure-spec =

@@ -1,6 +1,6 @@
 -- `shape::hann::hann` meets its contract. Assumes nothing.
 use Rattle.std.proofs.Common.{rules}
-use Rattle.shape.specs.Hann.{hannOf}
+use Rattle.shape.specs.Hann.{hann_of}
 use Rattle.shape.proofs.hann.hann.Statement.{statement}
 use Rattle.shape.proofs.hann.hann.Tie as tie
 
@@ -8,7 +8,7 @@ cosine-requires : tie.Need-cosine-requires
 cosine-requires c κs = search rules
 
 returns : tie.Need-returns
-unfolding hannOf
+unfolding hann_of
 returns c = rw c.cosine.ensures
 
 pub hann-spec : {M : Type 1} → statement M

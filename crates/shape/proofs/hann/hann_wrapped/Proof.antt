@@ -1,6 +1,6 @@
 -- `shape::hann::hann_wrapped` meets its contract. Assumes nothing.
 use Rattle.std.proofs.Common.{rules}
-use Rattle.shape.specs.Hann.{hannWrapped}
+use Rattle.shape.specs.Hann.{hann_wrapped}
 use Rattle.shape.proofs.hann.hann_wrapped.Statement.{statement}
 use Rattle.shape.proofs.hann.hann_wrapped.Tie as tie
 
@@ -8,7 +8,7 @@ cosine-wrapped-requires : tie.Need-cosine-wrapped-requires
 cosine-wrapped-requires c κs = search rules
 
 returns : tie.Need-returns
-unfolding hannWrapped
+unfolding hann_wrapped
 returns c = rw c.cosine-wrapped.ensures
 
 pub hann-wrapped-spec : {M : Type 1} → statement M

@@ -1,4 +1,4 @@
--- `shape::parts::in_order` meets its contract. Assumes nothing.
+-- `shape::parts::in_order_lem` meets its contract. Assumes nothing.
 use Rattle.std.proofs.Common.{le-leb}
 use borrow.Author.Tests.{lt-leb}
 use Rattle.shape.proofs.parts.in_order.Statement.{statement}

@@ -1,7 +1,7 @@
 -- `shape::parts::three_parts` meets its contract: in order, or not. Assumes nothing.
 use Rattle.std.proofs.Common.{rules}
 use Rattle.quant.proofs.Judging.{taken, passed}
-use Rattle.shape.proofs.Laying.{out_of_order, in-turn}
+use Rattle.shape.proofs.Laying.{out_of_order, in_turn}
 use Rattle.shape.proofs.parts.three_parts.Statement.{statement}
 use Rattle.shape.proofs.parts.three_parts.Tie as tie
 
@@ -24,7 +24,7 @@ mul-add-requires : tie.Need-mul-add-requires
 mul-add-requires c κs = search rules
 
 returns-2 : tie.Need-returns-2
-returns-2 c = in-turn c.before.before.before.before.before.before.args.width c.before.before.before.before.before.before.args.plateau c.before.before.before.before.before.before.args.offset c.before.before.before.before.before.before.args.rate c.before.before.before.before.before.before.args.dt c.before.before.before.before.before.index.result c.before.before.before.before.index2.result c.before.before.before.before.before.before.args.length c.before.before.before.before.before.index.ensures c.before.before.before.before.index2.ensures (passed c.before.before.before.in_order.result _ c.before.before.before.in_order.ensures c.before.before.if1.false) _ (rw (c.mul-add.ensures, c.before.nearest-u64-to-f64.ensures))
+returns-2 c = in_turn c.before.before.before.before.before.before.args.width c.before.before.before.before.before.before.args.plateau c.before.before.before.before.before.before.args.offset c.before.before.before.before.before.before.args.rate c.before.before.before.before.before.before.args.dt c.before.before.before.before.before.index.result c.before.before.before.before.index2.result c.before.before.before.before.before.before.args.length c.before.before.before.before.before.index.ensures c.before.before.before.before.index2.ensures (passed c.before.before.before.in_order.result _ c.before.before.before.in_order.ensures c.before.before.if1.false) _ (rw (c.mul-add.ensures, c.before.nearest-u64-to-f64.ensures))
 
 pub three-parts-spec : {M : Type 1} → statement M
 three-parts-spec =

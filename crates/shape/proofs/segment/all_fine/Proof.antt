@@ -1,17 +1,17 @@
 -- `shape::segment::all_fine` meets its contract. The invariant: whether all points are fine is whether those from i on are. Assumes nothing.
 use Rattle.std.proofs.Common.{◌≡◌, ℕ, ◌+◌, ◌-◌, ◌<◌, ◌≤◌, Bool, true, false, ◌&&◌, length, drop, sym, refl, ap, ◌∙◌, zero-add, arith, rules}
 use lib.Seq.{drop-length}
-use Rattle.points.specs.Points.{pointAt, points}
+use Rattle.points.specs.Points.{point_at, points}
 use Rattle.points.proofs.Turns.{points-length, points-at}
 use Rattle.pulse.specs.declared.envelope.Shape.TheVariants.{Spline}
 use Rattle.quant.proofs.Judging.{taken, passed}
-use Rattle.shape.specs.Segment.{pointFine, allFine}
+use Rattle.shape.specs.Segment.{point_fine, all_fine}
 use Rattle.shape.proofs.Shapes.{fine-next}
 use Rattle.shape.proofs.segment.all_fine.Statement.{statement}
 use Rattle.shape.proofs.segment.all_fine.Tie as tie
 
 abbrev invariant-loop : tie.invariant-loop
-invariant-loop numbers x dx count i₀ i = (i ≤ count) × (allFine Spline numbers (points count 0 x dx) ≡ allFine Spline numbers (drop i (points count 0 x dx)))
+invariant-loop numbers x dx count i₀ i = (i ≤ count) × (all_fine Spline numbers (points count 0 x dx) ≡ all_fine Spline numbers (drop i (points count 0 x dx)))
 
 abbrev decreases-loop : tie.decreases-loop
 decreases-loop numbers x dx count i₀ i = count - i
@@ -28,20 +28,20 @@ is-fine-requires c κs = search rules
 -- at the test, with the answer b: what is judged from i on
 judged : (f : tie.After-is-fine invariant-loop decreases-loop) (b : Bool) → let a = f.before.before.before.before.before.args in
     let all = points a.count 0 a.x a.dx in
-    pointFine Spline a.numbers.now f.before.point.result ≡ b
-    → allFine Spline a.numbers.now all ≡ (b && allFine Spline a.numbers.now (drop (f.before.before.before.loop.i + 1) all))
+    point_fine Spline a.numbers.now f.before.point.result ≡ b
+    → all_fine Spline a.numbers.now all ≡ (b && all_fine Spline a.numbers.now (drop (f.before.before.before.loop.i + 1) all))
 judged f b e =
     let at = f.before.before.before.loop in
     let a = f.before.before.before.before.before.args in
     let all = points a.count 0 a.x a.dx in
     let within : at.i < length all = omega (arith, points-length a.count 0 a.x a.dx) in
-    let here = points-at a.count 0 a.x a.dx at.i (omega arith) ∙ ap (pointAt a.x a.dx) (zero-add at.i) ∙ sym f.before.point.ensures in
+    let here = points-at a.count 0 a.x a.dx at.i (omega arith) ∙ ap (point_at a.x a.dx) (zero-add at.i) ∙ sym f.before.point.ensures in
     at.invariant.1
     ∙ fine-next Spline a.numbers.now all at.i within
-    ∙ ap (λ (x : Bool). x && allFine Spline a.numbers.now (drop (at.i + 1) all)) (ap (pointFine Spline a.numbers.now) here ∙ e)
+    ∙ ap (λ (x : Bool). x && all_fine Spline a.numbers.now (drop (at.i + 1) all)) (ap (point_fine Spline a.numbers.now) here ∙ e)
 
 returns : tie.Need-returns invariant-loop decreases-loop
-unfolding pointFine
+unfolding point_fine
 returns c = sym (judged c.before false (taken c.before.is-fine.result _ c.before.is-fine.ensures c.if1.true))
 
 add-i : tie.Need-overflow-add-i invariant-loop decreases-loop
@@ -51,17 +51,17 @@ loop-less : tie.Need-loop-smaller invariant-loop decreases-loop
 loop-less c = omega arith
 
 loop-again : tie.Need-loop-preserved invariant-loop decreases-loop
-unfolding pointFine
+unfolding point_fine
 loop-again c = (omega arith, judged c.before true (passed c.before.is-fine.result _ c.before.is-fine.ensures c.if1.false))
 
 returns-2 : tie.Need-returns-2 invariant-loop decreases-loop
-unfolding allFine
+unfolding all_fine
 returns-2 c =
     let at = c.before.loop in
     let a = c.before.before.before.args in
     let all = points a.count 0 a.x a.dx in
     let end : at.i ≡ length all = omega (arith, points-length a.count 0 a.x a.dx) in
-    sym (at.invariant.1 ∙ ap (λ (n : ℕ). allFine Spline a.numbers.now (drop n all)) end ∙ ap (allFine Spline a.numbers.now) (drop-length all))
+    sym (at.invariant.1 ∙ ap (λ (n : ℕ). all_fine Spline a.numbers.now (drop n all)) end ∙ ap (all_fine Spline a.numbers.now) (drop-length all))
 
 pub all-fine-spec : {M : Type 1} → statement M
 all-fine-spec =

@@ -1,14 +1,14 @@
 -- `shape::segment::points_finite` meets its contract: all points are finite where x and dx are not too large, and else exactly where the first and the last are.
 -- Assumes nothing.
 use Rattle.std.proofs.Common.{arith, rules}
-use Rattle.rows.specs.Rows.{allFinite}
+use Rattle.rows.specs.Rows.{all_finite}
 use Rattle.points.specs.Points.{points}
-use Rattle.shape.proofs.Ends.{ends, moderate-ends}
+use Rattle.shape.proofs.Ends.{ends, moderate_ends}
 use Rattle.shape.proofs.segment.points_finite.Statement.{statement}
 use Rattle.shape.proofs.segment.points_finite.Tie as tie
 
 returns : tie.Need-returns
-unfolding points allFinite
+unfolding points all_finite
 returns c = rw c.if1.true
 
 is-moderate-requires : tie.Need-is-moderate-requires
@@ -20,7 +20,7 @@ is-moderate-requires-2 c κs = search rules
 returns-2 : tie.Need-returns-2
 returns-2 c =
     let s = c.before.before.before.before.before in
-    moderate-ends s.args.x s.args.dx s.args.count (omega arith) (c.before.before.before.is-moderate.ensures c.before.before.if2.true) (c.before.is-moderate2.ensures c.if3.true)
+    moderate_ends s.args.x s.args.dx s.args.count (omega arith) (c.before.before.before.is-moderate.ensures c.before.before.if2.true) (c.before.is-moderate2.ensures c.if3.true)
 
 point-requires : tie.Need-point-requires
 point-requires c κs = search rules

@@ -1,6 +1,6 @@
 -- `shape::segment::sample_hann` meets its contract. Assumes nothing.
 use Rattle.std.proofs.Common.{map, length, ap, ◌∙◌, subst, rules}
-use Rattle.shape.specs.Hann.{hannOf, hannWrapped}
+use Rattle.shape.specs.Hann.{hann_of, hann_wrapped}
 use Rattle.shape.specs.Segment.{EndsNear}
 use Rattle.shape.proofs.Near.{near-valued}
 use Rattle.shape.proofs.segment.sample_hann.Statement.{statement}
@@ -25,7 +25,7 @@ returns c =
     let laid = near.before.before.before.before in
     let a = laid.before.before.before.args in
     b.value-wrapped.ensures
-    ∙ ap (map hannWrapped) laid.lay.ensures
+    ∙ ap (map hann_wrapped) laid.lay.ensures
     ∙ near-valued (length a.part.now) a.x a.dx (subst EndsNear laid.lay.ensures (near.ends-near.ensures b.before.before.if1.true))
 
 value-each-requires : tie.Need-value-each-requires
@@ -37,7 +37,7 @@ same-length-2 c = search rules
 returns-2 : tie.Need-returns-2
 returns-2 c =
     let b = c.before.before in
-    b.value-each.ensures ∙ ap (map hannOf) b.before.before.before.before.before.before.before.lay.ensures
+    b.value-each.ensures ∙ ap (map hann_of) b.before.before.before.before.before.before.before.lay.ensures
 
 pub sample-hann-spec : {M : Type 1} → statement M
 sample-hann-spec =

@@ -1,6 +1,6 @@
 -- `shape::segment::sample_spline` meets its contract: the points, then the spline's values over them. Assumes nothing.
 use Rattle.std.proofs.Common.{map, ap, ◌∙◌, rules}
-use Rattle.spline.specs.Value.{valueIn}
+use Rattle.spline.specs.Value.{value_in}
 use Rattle.shape.proofs.segment.sample_spline.Statement.{statement}
 use Rattle.shape.proofs.segment.sample_spline.Tie as tie
 
@@ -17,7 +17,7 @@ returns : tie.Need-returns
 returns c =
     let b = c.before.before in
     let laid = b.before.before.before.before in
-    b.over.ensures ∙ ap (map (valueIn laid.before.before.before.before.args.numbers.now)) laid.lay.ensures
+    b.over.ensures ∙ ap (map (value_in laid.before.before.before.before.args.numbers.now)) laid.lay.ensures
 
 pub sample-spline-spec : {M : Type 1} → statement M
 sample-spline-spec = tie.close (tie.spec lay-requires over-requires same_length returns)

@@ -2,12 +2,12 @@
 use Rattle.std.proofs.Common.{◌-◌, length, refl, arith, rules}
 use Rattle.rows.proofs.Turns.{upto}
 use Rattle.rows.proofs.Valued.{Valued, valued-turn, valued-all}
-use Rattle.shape.specs.Hann.{hannOf}
+use Rattle.shape.specs.Hann.{hann_of}
 use Rattle.shape.proofs.segment.value_each.Statement.{statement}
 use Rattle.shape.proofs.segment.value_each.Tie as tie
 
 abbrev invariant-loop : tie.invariant-loop
-invariant-loop part₀ i₀ part i = Valued hannOf part₀ part i
+invariant-loop part₀ i₀ part i = Valued hann_of part₀ part i
 
 abbrev decreases-loop : tie.decreases-loop
 decreases-loop part₀ i₀ part i = length part₀ - i
@@ -41,7 +41,7 @@ loop-again : tie.Need-loop-preserved invariant-loop decreases-loop
 loop-again c =
     let at = c.before.before.before.loop in
     let a = c.before.before.before.before.before.args in
-    valued-turn hannOf a.part.now at.part at.i (omega arith) at.invariant c.hann.result c.hann.ensures
+    valued-turn hann_of a.part.now at.part at.i (omega arith) at.invariant c.hann.result c.hann.ensures
 
 same_length : tie.Need-same-length invariant-loop decreases-loop
 same_length c = c.before.loop.invariant.same
@@ -50,7 +50,7 @@ returns : tie.Need-returns invariant-loop decreases-loop
 returns c =
     let at = c.before.loop in
     let a = c.before.before.before.args in
-    valued-all hannOf a.part.now at.part at.i (omega arith) at.invariant
+    valued-all hann_of a.part.now at.part at.i (omega arith) at.invariant
 
 pub value-each-spec : {M : Type 1} → statement M
 value-each-spec =

@@ -2,12 +2,12 @@
 use Rattle.std.proofs.Common.{◌-◌, length, refl, arith, rules}
 use Rattle.rows.proofs.Turns.{upto}
 use Rattle.rows.proofs.Valued.{Valued, valued-turn, valued-all}
-use Rattle.shape.specs.Hann.{hannWrapped}
+use Rattle.shape.specs.Hann.{hann_wrapped}
 use Rattle.shape.proofs.segment.value_wrapped.Statement.{statement}
 use Rattle.shape.proofs.segment.value_wrapped.Tie as tie
 
 abbrev invariant-loop : tie.invariant-loop
-invariant-loop part₀ i₀ part i = Valued hannWrapped part₀ part i
+invariant-loop part₀ i₀ part i = Valued hann_wrapped part₀ part i
 
 abbrev decreases-loop : tie.decreases-loop
 decreases-loop part₀ i₀ part i = length part₀ - i
@@ -41,7 +41,7 @@ loop-again : tie.Need-loop-preserved invariant-loop decreases-loop
 loop-again c =
     let at = c.before.before.before.loop in
     let a = c.before.before.before.before.before.args in
-    valued-turn hannWrapped a.part.now at.part at.i (omega arith) at.invariant c.hann-wrapped.result c.hann-wrapped.ensures
+    valued-turn hann_wrapped a.part.now at.part at.i (omega arith) at.invariant c.hann-wrapped.result c.hann-wrapped.ensures
 
 same_length : tie.Need-same-length invariant-loop decreases-loop
 same_length c = c.before.loop.invariant.same
@@ -50,7 +50,7 @@ returns : tie.Need-returns invariant-loop decreases-loop
 returns c =
     let at = c.before.loop in
     let a = c.before.before.before.args in
-    valued-all hannWrapped a.part.now at.part at.i (omega arith) at.invariant
+    valued-all hann_wrapped a.part.now at.part at.i (omega arith) at.invariant
 
 pub value-wrapped-spec : {M : Type 1} → statement M
 value-wrapped-spec =

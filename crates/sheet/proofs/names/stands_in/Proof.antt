@@ -1,7 +1,7 @@
 -- `sheet::names::stands_in` meets its contract: a name stands in a list exactly where its place is within it. Assumes nothing.
 use native.Mathlib.Omega.{arith}
 use borrow.Author.Rules.{rules}
-use Rattle.sheet.proofs.Among.{in-from}
+use Rattle.sheet.proofs.Among.{in_from}
 use Rattle.sheet.proofs.names.stands_in.Statement.{statement}
 use Rattle.sheet.proofs.names.stands_in.Tie as tie
 
@@ -11,7 +11,7 @@ place-requires c κs = search rules
 returns : tie.Need-returns
 returns c =
     let p = c.before.args in
-    rw c.place.ensures (in-from p.n p.names p.from p.many (omega arith) (omega arith))
+    rw c.place.ensures (in_from p.n p.names p.from p.many (omega arith) (omega arith))
 
 pub stands-in-spec : {M : Type 1} → statement M
 stands-in-spec = tie.close (tie.spec place-requires returns)

@@ -7,14 +7,14 @@ use native.Mathlib.Omega.{arith}
 use borrow.Author.Rules.{rules}
 use lib.ListN.{take, drop}
 use Rattle.quant.proofs.Judging.{taken, passed}
-use Rattle.sheet.specs.Sheet.{blank, columnsJudged}
+use Rattle.sheet.specs.Sheet.{blank, columns_judged}
 use Rattle.sheet.proofs.Parts.{part_end}
 use Rattle.sheet.proofs.Printing.{columns-next}
 use Rattle.sheet.proofs.print.columns_judged.Statement.{statement}
 use Rattle.sheet.proofs.print.columns_judged.Tie as tie
 
 abbrev invariant-loop : tie.invariant-loop
-invariant-loop count names k₀ k = (k ≤ count) × (columnsJudged [] (take count names) ≡ columnsJudged (take k names) (drop k (take count names)))
+invariant-loop count names k₀ k = (k ≤ count) × (columns_judged [] (take count names) ≡ columns_judged (take k names) (drop k (take count names)))
 
 abbrev decreases-loop : tie.decreases-loop
 decreases-loop count names k₀ k = count - k
@@ -59,7 +59,7 @@ returns-2 c =
     let p = at-loop.before.args in
     let at = at-loop.loop in
     sym (at.invariant.1 ∙ columns-next p.t1 p.count (omega arith) at.k blank (omega arith)
-    ∙ rw (passed _ _ else1.before.is_name.ensures else1.if1.false, sym c.before.stands-in.ensures ∙ c.if2.true))
+    ∙ rw (passed _ _ else1.before.is_name.ensures else1.if1.false, sym c.before.stands_in.ensures ∙ c.if2.true))
 
 add-k : tie.Need-overflow-add-k invariant-loop decreases-loop
 add-k c = search rules
@@ -76,11 +76,11 @@ loop-again c =
     let at = at-loop.loop in
     let next = columns-next p.t1 p.count (omega arith) at.k blank (omega arith) in (
       omega arith,
-      at.invariant.1 ∙ next ∙ rw (passed _ _ else1.before.is_name.ensures else1.if1.false, sym c.before.stands-in.ensures ∙ c.if2.false, add-one),
+      at.invariant.1 ∙ next ∙ rw (passed _ _ else1.before.is_name.ensures else1.if1.false, sym c.before.stands_in.ensures ∙ c.if2.false, add-one),
     )
 
 returns-3 : tie.Need-returns-3 invariant-loop decreases-loop
-unfolding columnsJudged
+unfolding columns_judged
 returns-3 c =
     let p = c.before.before.args in
     let at = c.before.loop in

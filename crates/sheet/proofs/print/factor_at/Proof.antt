@@ -3,7 +3,7 @@ use mathlib.Core.Path.{refl}
 use native.Mathlib.Nat.{div-le_self}
 use native.Mathlib.Omega.{arith}
 use borrow.Author.Rules.{rules}
-use Rattle.sheet.specs.Sheet.{factorAt}
+use Rattle.sheet.specs.Sheet.{factor_at}
 use Rattle.sheet.proofs.print.factor_at.Statement.{statement}
 use Rattle.sheet.proofs.print.factor_at.Tie as tie
 
@@ -26,7 +26,7 @@ add-result-5 : tie.Need-overflow-add-result-5
 add-result-5 c = omega (arith, div-le_self c.args.i c.args.count)
 
 returns : tie.Need-returns
-unfolding factorAt
+unfolding factor_at
 returns c = refl
 
 pub factor-at-spec : {M : Type 1} → statement M

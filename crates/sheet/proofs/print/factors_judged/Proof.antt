@@ -6,13 +6,13 @@ use native.Mathlib.Omega.{arith}
 use borrow.Author.Rules.{rules}
 use lib.ListN.{length, drop, drop_of_length-le}
 use Rattle.quant.proofs.Judging.{taken, passed}
-use Rattle.sheet.specs.Sheet.{factorsJudged}
+use Rattle.sheet.specs.Sheet.{factors_judged}
 use Rattle.sheet.proofs.Printing.{judged-next}
 use Rattle.sheet.proofs.print.factors_judged.Statement.{statement}
 use Rattle.sheet.proofs.print.factors_judged.Tie as tie
 
 abbrev invariant-loop : tie.invariant-loop
-invariant-loop count numbers i₀ i = (i ≤ length numbers) × (factorsJudged count 0 numbers ≡ factorsJudged count i (drop i numbers))
+invariant-loop count numbers i₀ i = (i ≤ length numbers) × (factors_judged count 0 numbers ≡ factors_judged count i (drop i numbers))
 
 abbrev decreases-loop : tie.decreases-loop
 decreases-loop count numbers i₀ i = length numbers - i
@@ -54,7 +54,7 @@ loop-again c =
     (omega arith, at.invariant.1 ∙ judged-next p.numbers.now at.i (omega arith) p.count ∙ rw (passed _ _ c.before.is_finite.ensures c.if1.false, add-one))
 
 returns-2 : tie.Need-returns-2 invariant-loop decreases-loop
-unfolding factorsJudged
+unfolding factors_judged
 returns-2 c =
     let p = c.before.before.before.args in
     let at = c.before.loop in

@@ -6,7 +6,7 @@ use native.Mathlib.Omega.{arith}
 use borrow.Author.Rules.{rules}
 use lib.ListN.{take, drop}
 use lib.Seq.{length-take-le}
-use Rattle.sheet.specs.Puts.{namesSize}
+use Rattle.sheet.specs.Puts.{names_size}
 use Rattle.sheet.specs.Sheet.{blank}
 use Rattle.sheet.proofs.Parts.{part_end, few}
 use Rattle.sheet.proofs.Printing.{size-next, size-most}
@@ -14,7 +14,7 @@ use Rattle.sheet.proofs.print.needed.Statement.{statement}
 use Rattle.sheet.proofs.print.needed.Tie as tie
 
 abbrev invariant-loop : tie.invariant-loop
-invariant-loop count names size₀ i₀ size i = (i ≤ count) × (size + namesSize (drop i (take count names)) ≡ 11 + 24 * (count * count) + namesSize (take count names))
+invariant-loop count names size₀ i₀ size i = (i ≤ count) × (size + names_size (drop i (take count names)) ≡ 11 + 24 * (count * count) + names_size (take count names))
 
 abbrev decreases-loop : tie.decreases-loop
 decreases-loop count names size₀ i₀ size i = count - i
@@ -68,11 +68,11 @@ loop-again c =
     (omega arith, rw add-one (omega (arith, c.two-lines.ensures)))
 
 returns : tie.Need-returns invariant-loop decreases-loop
-unfolding namesSize
+unfolding names_size
 returns c =
     let p = c.before.before.args in
     let at = c.before.loop in
-    let none : namesSize (drop at.i (take p.count p.t2)) ≡ 0 = rw (part_end p.t2 p.count (omega arith) at.i (omega arith)) in
+    let none : names_size (drop at.i (take p.count p.t2)) ≡ 0 = rw (part_end p.t2 p.count (omega arith) at.i (omega arith)) in
     omega arith
 
 pub needed-spec : {M : Type 1} → statement M

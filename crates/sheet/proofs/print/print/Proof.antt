@@ -8,7 +8,7 @@ use borrow.Author.Rules.{rules}
 use lib.ListN.{length}
 use lib.Seq.{length-take-le}
 use Rattle.quant.proofs.Judging.{taken, passed}
-use Rattle.sheet.specs.Sheet.{bytesAfter, printFits, sheetText, sheetOf}
+use Rattle.sheet.specs.Sheet.{bytes_after, print_fits, sheet_text, sheet_of}
 use Rattle.sheet.specs.declared.print.Printed.{Printed}
 use Rattle.sheet.proofs.Parts.{few}
 use Rattle.sheet.proofs.Printing.{good-columns, fine-factors, sized, of-printed, no_room, bad-column, bad-factor, printed, Sized}
@@ -17,7 +17,7 @@ use Rattle.sheet.proofs.print.print.Tie as tie
 
 -- what is known behind the sizes' test
 abbrev Fit : tie.Start → Type 0
-Fit s = printFits s.args.count s.args.names s.args.matrix.now (length s.args.out.now) ≡ true
+Fit s = print_fits s.args.count s.args.names s.args.matrix.now (length s.args.out.now) ≡ true
 
 fit : (c : tie.Else1) → Fit c.before.before.before.before
 fit c = passed _ _ c.before.sizes-fit.ensures c.if1.false
@@ -35,7 +35,7 @@ sizes-fit-requires : tie.Need-sizes-fit-requires
 sizes-fit-requires c κs = search rules
 
 returns : tie.Need-returns
-unfolding bytesAfter
+unfolding bytes_after
 returns c =
     let p = c.before.before.before.before.args in
     of-printed _ _ _ _ _ _ (no_room p.count p.names p.matrix.now p.out.now (taken _ _ c.before.sizes-fit.ensures c.if1.true)) refl
@@ -47,7 +47,7 @@ enum-known-columns : tie.Need-enum-known-columns
 enum-known-columns c = search rules
 
 returns-2 : tie.Need-returns-2
-unfolding bytesAfter
+unfolding bytes_after
 returns-2 c =
     let judged = c.before.before.before in
     let else1 = judged.before in
@@ -79,7 +79,7 @@ enum-known-factors : tie.Need-enum-known-factors
 enum-known-factors c = search rules
 
 returns-3 : tie.Need-returns-3
-unfolding bytesAfter
+unfolding bytes_after
 returns-3 c =
     let factors = c.before.before.before in
     let told = factors.before.before in
@@ -113,7 +113,7 @@ same_length : tie.Need-same-length
 same_length c = search rules
 
 returns-4 : tie.Need-returns-4
-unfolding bytesAfter
+unfolding bytes_after
 returns-4 c =
     let told2 = c.before.before.before.before in
     let factors = told2.before.before in
@@ -122,7 +122,7 @@ returns-4 c =
     let else1 = judged.before in
     let p = else1.before.before.before.before.args in
     let put = c.before.before.put-sheet.ensures in
-    let size : c.before.before.put-sheet.result ≡ length (sheetText (sheetOf p.count p.names p.matrix.now)) = put.next ∙ zero-add _ in
+    let size : c.before.before.put-sheet.result ≡ length (sheet_text (sheet_of p.count p.names p.matrix.now)) = put.next ∙ zero-add _ in
     let all = printed p.count p.names p.matrix.now p.out.now (fit else1) _ (sym judged.columns-judged.ensures ∙ told.enum_told.given.1) _
     (sym factors.factors-judged.ensures ∙ told2.enum-told2.given.1) in
     of-printed _ _ _ _ _ _ (all ∙ ap Printed.Bytes (sym size)) (put.left ∙ rw (← put.next))

@@ -2,18 +2,18 @@
 use native.Mathlib.Omega.{arith}
 use borrow.Author.Rules.{rules}
 use borrow.Author.Tests.{le-leb, lt-leb}
-use Rattle.sheet.specs.Sheet.{printFits}
+use Rattle.sheet.specs.Sheet.{print_fits}
 use Rattle.sheet.proofs.Parts.{few}
 use Rattle.sheet.proofs.Printing.{text-long}
 use Rattle.sheet.proofs.print.sizes_fit.Statement.{statement}
 use Rattle.sheet.proofs.print.sizes_fit.Tie as tie
 
 returns : tie.Need-returns
-unfolding printFits
+unfolding print_fits
 returns c = rw (lt-leb 1 c.before.before.args.count c.if1.true)
 
 returns-2 : tie.Need-returns-2
-unfolding printFits
+unfolding print_fits
 returns-2 c =
     let start = c.before.before.before in
     rw (le-leb 1 start.args.count c.before.if1.false, lt-leb start.args.count 8 c.if2.true)
@@ -24,7 +24,7 @@ mul-if3 c =
     omega (arith, few c.if2.false c.if2.false)
 
 returns-3 : tie.Need-returns-3
-unfolding printFits
+unfolding print_fits
 returns-3 c =
     let at-if1 = c.before.before in
     let start = at-if1.before.before in
@@ -34,7 +34,7 @@ needed-requires : tie.Need-needed-requires
 needed-requires c κs = search rules
 
 returns-4 : tie.Need-returns-4
-unfolding printFits
+unfolding print_fits
 returns-4 c =
     let at-if2 = c.before.before in
     let at-if1 = at-if2.before in

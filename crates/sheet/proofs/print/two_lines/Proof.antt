@@ -2,13 +2,13 @@
 use native.Mathlib.Omega.{arith}
 use borrow.Author.Rules.{rules}
 use Rattle.naming.proofs.Named.{length-bytes}
-use Rattle.sheet.specs.Puts.{twoLines}
+use Rattle.sheet.specs.Puts.{two_lines}
 use Rattle.sheet.proofs.Printing.{bytes_cut}
 use Rattle.sheet.proofs.print.two_lines.Statement.{statement}
 use Rattle.sheet.proofs.print.two_lines.Tie as tie
 
 returns : tie.Need-returns
-unfolding twoLines
+unfolding two_lines
 returns c = omega (arith, bytes_cut c.before.before.args.n (omega arith))
 
 mul-result : tie.Need-overflow-mul-result
@@ -18,7 +18,7 @@ add-result : tie.Need-overflow-add-result
 add-result c = search rules
 
 returns-2 : tie.Need-returns-2
-unfolding twoLines
+unfolding two_lines
 returns-2 c = omega (arith, length-bytes c.before.before.before.args.n (omega arith))
 
 pub two-lines-spec : {M : Type 1} → statement M

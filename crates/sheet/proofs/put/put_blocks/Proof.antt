@@ -10,10 +10,10 @@ use borrow.Author.Rules.{rules}
 use lib.Ieee.{Float}
 use lib.ListN.{length, get_or, take, drop}
 use Rattle.exact.proofs.Truth.{both}
-use Rattle.naming.specs.Name.{isName}
+use Rattle.naming.specs.Name.{is_name}
 use Rattle.naming.specs.declared.Name.{Name}
-use Rattle.sheet.specs.Puts.{blockText}
-use Rattle.sheet.specs.Sheet.{blank, goodNames, allFinite, blocksText, blocksOf}
+use Rattle.sheet.specs.Puts.{block_text}
+use Rattle.sheet.specs.Sheet.{blank, good_names, all_finite, blocks_text, blocks_of}
 use Rattle.sheet.proofs.Parts.{part_end, part_of, row_within, few}
 use Rattle.sheet.proofs.Pasting.{Left, left-all, left-more, left-none, left-room}
 use Rattle.sheet.proofs.Printing.{blocks-line, good-next, finite-take, finite-drop}
@@ -22,13 +22,13 @@ use Rattle.sheet.proofs.put.put_blocks.Tie as tie
 
 -- the text of the blocks from the i-th on
 abbrev left : ℕ → ℕ → List Name → List Float → List ℕ
-left i count names matrix = blocksText (blocksOf count (drop i (take count names)) (drop (i * count) matrix))
+left i count names matrix = blocks_text (blocks_of count (drop i (take count names)) (drop (i * count) matrix))
 
 abbrev invariant-loop : tie.invariant-loop
 invariant-loop count matrix out₀ from names at₀ i₀ out at i =
     (i ≤ count)
-    × (goodNames (drop i (take count names)) ≡ true)
-    × Left (left i count names matrix) (blocksText (blocksOf count (take count names) matrix)) out₀ from at out
+    × (good_names (drop i (take count names)) ≡ true)
+    × Left (left i count names matrix) (blocks_text (blocks_of count (take count names) matrix)) out₀ from at out
 
 abbrev decreases-loop : tie.decreases-loop
 decreases-loop count matrix out₀ from names at₀ i₀ out at i = count - i
@@ -89,10 +89,10 @@ put-block-requires c κs =
     let all = p.count * p.count in
     let part = part_of matrix row p.count all (row_within p.count at.i (omega arith)) in
     let fine = finite-take p.count (drop row (take all matrix)) (finite-drop row (take all matrix) start.requires.0.fine) in (
-      (both (isName n) _ (sym (good-next p.t1 p.count (omega arith) at.i blank (omega arith)) ∙ at.invariant.1)).0,
-      rw size (ap allFinite (sym part) ∙ fine),
+      (both (is_name n) _ (sym (good-next p.t1 p.count (omega arith) at.i blank (omega arith)) ∙ at.invariant.1)).0,
+      rw size (ap all_finite (sym part) ∙ fine),
       rw size
-          (left-room (blockText n (take p.count (drop row matrix))) _ (blocks-line p.t1 p.count (omega arith) at.i blank (omega arith) matrix) at.invariant.2),
+          (left-room (block_text n (take p.count (drop row matrix))) _ (blocks-line p.t1 p.count (omega arith) at.i blank (omega arith) matrix) at.invariant.2),
     )
 
 add-i : tie.Need-overflow-add-i invariant-loop decreases-loop
@@ -112,7 +112,7 @@ loop-again c =
     let size : row + p.count - row ≡ p.count = omega arith in
     let line = blocks-line p.t1 p.count (omega arith) at.i blank (omega arith) matrix in (
       omega arith,
-      rw add-one (both (isName n) _ (sym (good-next p.t1 p.count (omega arith) at.i blank (omega arith)) ∙ at.invariant.1)).1,
+      rw add-one (both (is_name n) _ (sym (good-next p.t1 p.count (omega arith) at.i blank (omega arith)) ∙ at.invariant.1)).1,
       rw add-one (left-more line at.invariant.2 (rw size at c.before.before.put-block.ensures) c.before.before.put-block.auto.1.1.0),
     )
 
@@ -120,12 +120,12 @@ same_length : tie.Need-same-length invariant-loop decreases-loop
 same_length c = c.before.loop.invariant.2.long
 
 returns : tie.Need-returns invariant-loop decreases-loop
-unfolding blocksText blocksOf
+unfolding blocks_text blocks_of
 returns c =
     let start = c.before.before.before.before in
     let p = start.args in
     let at = c.before.loop in
-    left-none (ap (λ (l : List Name). blocksText (blocksOf p.count l (drop (at.i * p.count) p.matrix.now))) (part_end p.t1 p.count (omega arith) at.i (omega arith))) at.invariant.2
+    left-none (ap (λ (l : List Name). blocks_text (blocks_of p.count l (drop (at.i * p.count) p.matrix.now))) (part_end p.t1 p.count (omega arith) at.i (omega arith))) at.invariant.2
 
 pub put-blocks-spec : {M : Type 1} → statement M
 put-blocks-spec =

@@ -1,6 +1,6 @@
 -- `sheet::put::put_column` meets its contract. Assumes nothing.
 use borrow.Author.Rules.{rules}
-use Rattle.sheet.specs.Sheet.{columnKey}
+use Rattle.sheet.specs.Sheet.{column_key}
 use Rattle.sheet.proofs.put.put_column.Statement.{statement}
 use Rattle.sheet.proofs.put.put_column.Tie as tie
 
@@ -8,14 +8,14 @@ slice-aggregate-put-name : tie.Need-slice-aggregate-put-name
 slice-aggregate-put-name c = search rules
 
 put-name-requires : tie.Need-put-name-requires
-unfolding columnKey
+unfolding column_key
 put-name-requires c κs = c.before.before.before.requires
 
 same_length : tie.Need-same-length
 same_length c = search rules
 
 returns : tie.Need-returns
-unfolding columnKey
+unfolding column_key
 returns c = c.before.before.put-name.ensures
 
 pub put-column-spec : {M : Type 1} → statement M

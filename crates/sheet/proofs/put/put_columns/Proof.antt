@@ -7,9 +7,9 @@ use native.Mathlib.Omega.{arith}
 use borrow.Author.Rules.{rules}
 use lib.ListN.{get_or, take, drop}
 use Rattle.exact.proofs.Truth.{both}
-use Rattle.naming.specs.Name.{isName}
-use Rattle.sheet.specs.Puts.{nameLine}
-use Rattle.sheet.specs.Sheet.{blank, columnKey, goodNames, columnsText}
+use Rattle.naming.specs.Name.{is_name}
+use Rattle.sheet.specs.Puts.{name_line}
+use Rattle.sheet.specs.Sheet.{blank, column_key, good_names, columns_text}
 use Rattle.sheet.proofs.Parts.{part_end}
 use Rattle.sheet.proofs.Pasting.{Left, left-all, left-more, left-none, left-room}
 use Rattle.sheet.proofs.Printing.{columns-line, good-next}
@@ -19,8 +19,8 @@ use Rattle.sheet.proofs.put.put_columns.Tie as tie
 abbrev invariant-loop : tie.invariant-loop
 invariant-loop count out₀ from names at₀ i₀ out at i =
     (i ≤ count)
-    × (goodNames (drop i (take count names)) ≡ true)
-    × Left (columnsText (drop i (take count names))) (columnsText (take count names)) out₀ from at out
+    × (good_names (drop i (take count names)) ≡ true)
+    × Left (columns_text (drop i (take count names))) (columns_text (take count names)) out₀ from at out
 
 abbrev decreases-loop : tie.decreases-loop
 decreases-loop count out₀ from names at₀ i₀ out at i = count - i
@@ -40,8 +40,8 @@ put-column-requires c κs =
     let p = c.before.before.before.before.before.args in
     let at = c.before.before.before.loop in
     let n = get_or p.t1 at.i blank in (
-      (both (isName n) _ (sym (good-next p.t1 p.count (omega arith) at.i blank (omega arith)) ∙ at.invariant.1)).0,
-      left-room (nameLine columnKey n) _ (columns-line p.t1 p.count (omega arith) at.i blank (omega arith)) at.invariant.2,
+      (both (is_name n) _ (sym (good-next p.t1 p.count (omega arith) at.i blank (omega arith)) ∙ at.invariant.1)).0,
+      left-room (name_line column_key n) _ (columns-line p.t1 p.count (omega arith) at.i blank (omega arith)) at.invariant.2,
     )
 
 add-i : tie.Need-overflow-add-i invariant-loop decreases-loop
@@ -60,7 +60,7 @@ loop-again c =
     let at = at-loop.loop in
     let n = get_or p.t1 at.i blank in (
       omega arith,
-      rw add-one (both (isName n) _ (sym (good-next p.t1 p.count (omega arith) at.i blank (omega arith)) ∙ at.invariant.1)).1,
+      rw add-one (both (is_name n) _ (sym (good-next p.t1 p.count (omega arith) at.i blank (omega arith)) ∙ at.invariant.1)).1,
       rw add-one
           (left-more (columns-line p.t1 p.count (omega arith) at.i blank (omega arith)) at.invariant.2 at-put-column.put-column.ensures at-put-column.put-column.auto.1.0),
     )
@@ -69,11 +69,11 @@ same_length : tie.Need-same-length invariant-loop decreases-loop
 same_length c = c.before.loop.invariant.2.long
 
 returns : tie.Need-returns invariant-loop decreases-loop
-unfolding columnsText
+unfolding columns_text
 returns c =
     let p = c.before.before.before.args in
     let at = c.before.loop in
-    left-none (ap columnsText (part_end p.t1 p.count (omega arith) at.i (omega arith))) at.invariant.2
+    left-none (ap columns_text (part_end p.t1 p.count (omega arith) at.i (omega arith))) at.invariant.2
 
 pub put-columns-spec : {M : Type 1} → statement M
 put-columns-spec =

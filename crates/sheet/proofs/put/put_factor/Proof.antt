@@ -2,8 +2,8 @@
 use mathlib.Core.Path.{◌∙◌}
 use native.Mathlib.Omega.{arith}
 use borrow.Author.Rules.{rules}
-use Rattle.exact.proofs.Truth.{number-if-finite}
-use Rattle.sheet.specs.Sheet.{factorKey}
+use Rattle.exact.proofs.Truth.{number_if_finite}
+use Rattle.sheet.specs.Sheet.{factor_key}
 use Rattle.sheet.proofs.Pasting.{then}
 use Rattle.sheet.proofs.Printing.{word-put}
 use Rattle.sheet.proofs.put.put_factor.Statement.{statement}
@@ -18,7 +18,7 @@ put-requires c κs = omega (arith, c.before.before.before.requires.1)
 float-to-bits-write : tie.Need-float-to-bits-write
 float-to-bits-write c =
     let start = c.before.before.before.before.before.before in
-    number-if-finite start.args.x start.requires.0
+    number_if_finite start.args.x start.requires.0
 
 write-requires : tie.Need-write-requires
 write-requires c κs = search rules
@@ -44,7 +44,7 @@ same_length c =
     at-put-byte.put_byte.auto.1.0 ∙ at-write.write.auto.1.0 ∙ at-put.put.auto.1.0
 
 returns : tie.Need-returns
-unfolding factorKey
+unfolding factor_key
 returns c =
     let at-put-byte = c.before.before in
     let at-write = at-put-byte.before.before.before.before in

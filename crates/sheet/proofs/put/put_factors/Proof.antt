@@ -10,8 +10,8 @@ use lib.Ieee.{nan, Float}
 use lib.Ieee.Scale.{finite}
 use lib.ListN.{length, get_or, drop, drop_of_length-le}
 use Rattle.exact.proofs.Truth.{both}
-use Rattle.sheet.specs.Puts.{factorLine}
-use Rattle.sheet.specs.Sheet.{allFinite, factorsText, patterns}
+use Rattle.sheet.specs.Puts.{factor_line}
+use Rattle.sheet.specs.Sheet.{all_finite, factors_text, patterns}
 use Rattle.sheet.proofs.Pasting.{Left, left-all, left-more, left-none, left-room}
 use Rattle.sheet.proofs.Printing.{factors-line, finite-next, factor-line-long}
 use Rattle.sheet.proofs.put.put_factors.Statement.{statement}
@@ -20,8 +20,8 @@ use Rattle.sheet.proofs.put.put_factors.Tie as tie
 abbrev invariant-loop : tie.invariant-loop
 invariant-loop numbers out₀ from at₀ i₀ out at i =
     (i ≤ length numbers)
-    × (allFinite (drop i numbers) ≡ true)
-    × Left (factorsText (patterns (drop i numbers))) (factorsText (patterns numbers)) out₀ from at out
+    × (all_finite (drop i numbers) ≡ true)
+    × Left (factors_text (patterns (drop i numbers))) (factors_text (patterns numbers)) out₀ from at out
 
 abbrev decreases-loop : tie.decreases-loop
 decreases-loop numbers out₀ from at₀ i₀ out at i = length numbers - i
@@ -40,7 +40,7 @@ put-factor-requires c κs =
     let numbers = c.before.before.before.before.before.before.args.numbers.now in
     let at = c.before.before.before.loop in
     let x = get_or numbers at.i nan in
-    let room = left-room (factorLine x) _ (factors-line numbers at.i (omega arith)) at.invariant.2 in (
+    let room = left-room (factor_line x) _ (factors-line numbers at.i (omega arith)) at.invariant.2 in (
       (both (finite x) _ (sym (finite-next numbers at.i (omega arith)) ∙ at.invariant.1)).0,
       omega (arith, room, factor-line-long x),
     )
@@ -67,11 +67,11 @@ same_length : tie.Need-same-length invariant-loop decreases-loop
 same_length c = c.before.loop.invariant.2.long
 
 returns : tie.Need-returns invariant-loop decreases-loop
-unfolding factorsText patterns
+unfolding factors_text patterns
 returns c =
     let numbers = c.before.before.before.before.args.numbers.now in
     let at = c.before.loop in
-    left-none (ap (λ (l : List Float). factorsText (patterns l)) (drop_of_length-le numbers {i = at.i} (omega arith))) at.invariant.2
+    left-none (ap (λ (l : List Float). factors_text (patterns l)) (drop_of_length-le numbers {i = at.i} (omega arith))) at.invariant.2
 
 pub put-factors-spec : {M : Type 1} → statement M
 put-factors-spec =

@@ -2,7 +2,7 @@
 use mathlib.Core.Path.{◌∙◌}
 use native.Mathlib.Omega.{arith}
 use borrow.Author.Rules.{rules}
-use Rattle.sheet.specs.Sheet.{countText, channelsKey}
+use Rattle.sheet.specs.Sheet.{count_text, channels_key}
 use Rattle.sheet.proofs.Pasting.{then}
 use Rattle.sheet.proofs.put.put_head.Statement.{statement}
 use Rattle.sheet.proofs.put.put_head.Tie as tie
@@ -47,7 +47,7 @@ same_length c =
     at-put-byte2.put-byte2.auto.1.0 ∙ at-put-byte.put_byte.auto.1.0 ∙ at-put.put.auto.1.0
 
 returns : tie.Need-returns
-unfolding countText channelsKey
+unfolding count_text channels_key
 returns c =
     let at-put-byte2 = c.before.before in
     let at-put-byte = at-put-byte2.before.before.before.before in

@@ -1,7 +1,7 @@
 -- `sheet::put::put_sheet` meets its contract: three puts, one behind the other. Assumes nothing.
 use mathlib.Core.Path.{◌∙◌}
 use native.Mathlib.Omega.{arith}
-use Rattle.sheet.specs.Sheet.{countText, channelsKey}
+use Rattle.sheet.specs.Sheet.{count_text, channels_key}
 use Rattle.sheet.proofs.Pasting.{then}
 use Rattle.sheet.proofs.Printing.{text-is, text-parts}
 use Rattle.sheet.proofs.put.put_sheet.Statement.{statement}
@@ -14,7 +14,7 @@ put-head-requires c κs =
     (c.before.before.before.requires.0.most, omega (arith, c.before.before.before.requires.1))
 
 put-columns-requires : tie.Need-put-columns-requires
-unfolding countText channelsKey
+unfolding count_text channels_key
 put-columns-requires c κs =
     let at-put-head = c.before.before.before in
     let start = at-put-head.before.before.before.before in
@@ -23,7 +23,7 @@ put-columns-requires c κs =
     (start.requires.0.most, start.requires.0.good, omega (arith, start.requires.1, at-put-head.put-head.ensures.next, at-put-head.put-head.auto.1.0))
 
 put-blocks-requires : tie.Need-put-blocks-requires
-unfolding countText channelsKey
+unfolding count_text channels_key
 put-blocks-requires c κs =
     let at-put-columns = c.before.before.before in
     let at-put-head = at-put-columns.before.before.before.before in

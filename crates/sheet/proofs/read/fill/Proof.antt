@@ -7,7 +7,7 @@ use native.Mathlib.Omega.{arith}
 use borrow.Author.Rules.{rules}
 use lib.Ieee.{Float}
 use lib.ListN.{length}
-use Rattle.sheet.specs.Sheet.{blank, matrixOf, SoFar, accepts}
+use Rattle.sheet.specs.Sheet.{blank, matrix_of, SoFar, accepts}
 use Rattle.sheet.proofs.Filling.{Filled, filled_none, filled_more, filled-end, column-found, whole_is}
 use Rattle.sheet.proofs.Parts.{row_within}
 use Rattle.sheet.proofs.read.fill.Statement.{statement}
@@ -95,14 +95,14 @@ same_length : tie.Need-same-length invariant-loop decreases-loop
 same_length c = c.before.loop.invariant.long
 
 returns : tie.Need-returns invariant-loop decreases-loop
-unfolding matrixOf
+unfolding matrix_of
 returns c =
     let s = c.before.before.before.before.before.before.args.s in
     let p = c.before.before.before.before.before.before.requires in
     let before = c.before.before.before.before.before.before.args.matrix.now in
     let at = c.before.loop in
     filled-end s.count s.columns s.rows s.factors at.invariant.ready before at.matrix at.c at.invariant (omega arith)
-    ∙ ap (λ (t : SoFar). matrixOf (accepts t) before) (sym (whole_is s p.0 p.1))
+    ∙ ap (λ (t : SoFar). matrix_of (accepts t) before) (sym (whole_is s p.0 p.1))
 
 pub fill_spec : {M : Type 1} → statement M
 fill_spec =

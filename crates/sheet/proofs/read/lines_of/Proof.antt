@@ -6,7 +6,7 @@ use native.Mathlib.Omega.{arith}
 use borrow.Author.Rules.{rules}
 use lib.ListN.{length, drop, drop_of_length-le}
 use Rattle.lines.proofs.Lines.{line-ends-within}
-use Rattle.sheet.specs.Reader.{so_far, Fits, readText, Parses}
+use Rattle.sheet.specs.Reader.{so_far, Fits, read_text, Parses}
 use Rattle.sheet.specs.Sheet.{nothing, Outcome, cut, step, onward, SoFar}
 use Rattle.sheet.proofs.Cutting.{open-from, line-from, bad-line, good-line}
 use Rattle.sheet.proofs.read.lines_of.Statement.{statement}
@@ -17,7 +17,7 @@ invariant-loop text s₀ line₀ at₀ s line at =
     (at ≤ length text)
     × (line ≤ at + 1)
     × Fits s
-    × (readText line (so_far s) (drop at text) ≡ readText 1 nothing text)
+    × (read_text line (so_far s) (drop at text) ≡ read_text 1 nothing text)
 
 abbrev decreases-loop : tie.decreases-loop
 decreases-loop text s₀ line₀ at₀ s line at = length text - at
@@ -29,7 +29,7 @@ loop-holds : tie.Need-loop-init invariant-loop decreases-loop
 unfolding nothing
 loop-holds c =
     let start = c.before.before in
-    (omega arith, omega arith, c.fresh.ensures.fits, ap (λ (s : SoFar). readText 1 s start.args.text.now) c.fresh.ensures.is)
+    (omega arith, omega arith, c.fresh.ensures.fits, ap (λ (s : SoFar). read_text 1 s start.args.text.now) c.fresh.ensures.is)
 
 line-end-requires : tie.Need-line-end-requires invariant-loop decreases-loop
 line-end-requires c κs = search rules

@@ -10,14 +10,14 @@ use lib.Dec.{leb}
 use lib.Ieee.{Float}
 use lib.ListN.{length}
 use Rattle.quant.specs.declared.refusal.Refusal.TheVariants.{WrongSize}
-use Rattle.sheet.specs.Reader.{ends, readText, Answers}
-use Rattle.sheet.specs.Sheet.{Read, Outcome, refuses, nothing, outcome, matrixOf}
+use Rattle.sheet.specs.Reader.{ends, read_text, Answers}
+use Rattle.sheet.specs.Sheet.{Read, Outcome, refuses, nothing, outcome, matrix_of}
 use Rattle.sheet.specs.declared.read.Reading.{Reading}
 use Rattle.sheet.specs.declared.state.Verdict.{Verdict}
 use Rattle.sheet.proofs.read.read.Statement.{statement}
 use Rattle.sheet.proofs.read.read.Tie as tie
 
-of-outcome : {text : List ℕ} {before : List Float} {r : Reading} {after : List Float} {o : Outcome} → outcome text (length before) ≡ o → Answers r o → after ≡ matrixOf o before
+of-outcome : {text : List ℕ} {before : List Float} {r : Reading} {after : List Float} {o : Outcome} → outcome text (length before) ≡ o → Answers r o → after ≡ matrix_of o before
     → Read text before r after
 of-outcome e a m = record { answered = rw e a.answered; named = rw e a.named; left = rw e m }
 
@@ -30,7 +30,7 @@ module _ (text : List ℕ) (before : List Float) where
   unfolding outcome
   short h = rw (lt-leb 64 (length before) h, and-false (leb (length text) 4096))
 
-  fits : length text ≤ 4096 → 64 ≤ length before → outcome text (length before) ≡ readText 1 nothing text
+  fits : length text ≤ 4096 → 64 ≤ length before → outcome text (length before) ≡ read_text 1 nothing text
   unfolding outcome
   fits h k = rw (le-leb (length text) 4096 h, le-leb 64 (length before) k)
 
@@ -38,7 +38,7 @@ refused-requires : tie.Need-refused-requires
 refused-requires c κs = search rules
 
 returns : tie.Need-returns
-unfolding matrixOf
+unfolding matrix_of
 returns c =
     let start = c.before.before.before.before in
     of-outcome (long start.args.text.now start.args.matrix.now c.before.if1.true) c.refused.ensures refl
@@ -47,7 +47,7 @@ refused-requires-2 : tie.Need-refused-requires-2
 refused-requires-2 c κs = search rules
 
 returns-2 : tie.Need-returns-2
-unfolding matrixOf
+unfolding matrix_of
 returns-2 c =
     let start = c.before.before.before.before.before in
     of-outcome (short start.args.text.now start.args.matrix.now c.before.if2.true) c.refused2.ensures refl
@@ -87,7 +87,7 @@ returns-3 c =
     of-outcome (fits p.text.now p.matrix.now (omega arith) (omega arith) ∙ sym (made ∙ at-lines-of.lines_of.ensures.is)) c.accepted.ensures at_fill_lem.fill.ensures
 
 returns-4 : tie.Need-returns-4
-unfolding matrixOf
+unfolding matrix_of
 returns-4 c =
     let at-verdict = c.before.before in
     let at-lines-of = at-verdict.before.before in

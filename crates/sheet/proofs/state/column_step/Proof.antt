@@ -3,7 +3,7 @@ use mathlib.Core.Path.{◌≡◌, sym, ◌∙◌}
 use native.Mathlib.Omega.{arith}
 use borrow.Author.Rules.{rules}
 use lib.ListN.{drop}
-use Rattle.sheet.specs.Sheet.{columnKey, behind, value, columnStep, columnNamed}
+use Rattle.sheet.specs.Sheet.{column_key, behind, value, column_step, column_named}
 use Rattle.sheet.proofs.Keys.{missing, there, reaches}
 use Rattle.sheet.proofs.Steps.{column-read}
 use Rattle.sheet.proofs.state.column_step.Statement.{statement}
@@ -19,21 +19,21 @@ stopped-requires : tie.Need-stopped-requires
 stopped-requires c κs = search rules
 
 returns : tie.Need-returns
-unfolding columnKey columnStep
+unfolding column_key column_step
 returns c =
     let at-starts = c.before.before in
     let start = at-starts.before.before.before in
-    rw (missing columnKey start.args.line.now _ at-starts.starts.ensures c.before.if1.true) c.stopped.ensures
+    rw (missing column_key start.args.line.now _ at-starts.starts.ensures c.before.if1.true) c.stopped.ensures
 
 sub-from-bytes : tie.Need-overflow-sub-from-bytes
-unfolding columnKey
-sub-from-bytes c = omega (arith, reaches columnKey c.before.before.before.before.args.line.now _ c.before.starts.ensures c.if1.false)
+unfolding column_key
+sub-from-bytes c = omega (arith, reaches column_key c.before.before.before.before.args.line.now _ c.before.starts.ensures c.if1.false)
 
 part-from-bytes-start : tie.Need-slice-bounds-from-bytes-start
-unfolding columnKey
+unfolding column_key
 part-from-bytes-start c =
     let start = c.before.before.before.before in
-    omega (arith, reaches columnKey start.args.line.now _ c.before.starts.ensures c.if1.false)
+    omega (arith, reaches column_key start.args.line.now _ c.before.starts.ensures c.if1.false)
 
 part-from-bytes-end : tie.Need-slice-bounds-from-bytes-end
 part-from-bytes-end c = search rules
@@ -54,7 +54,7 @@ stopped-requires-2 : tie.Need-stopped-requires-2
 stopped-requires-2 c κs = search rules
 
 returns-2 : tie.Need-returns-2
-unfolding columnKey
+unfolding column_key
 returns-2 c =
     let at_n = c.before.before in
     let at-from-bytes = at_n.before.before in
@@ -62,20 +62,20 @@ returns-2 c =
     let at-starts = at-if1.before in
     let start = at-starts.before.before.before in
     let line = start.args.line.now in
-    let e : behind columnKey line ≡ value (drop 7 line) = there columnKey line _ at-starts.starts.ensures at-if1.if1.false in
-    let long = reaches columnKey line _ at-starts.starts.ensures at-if1.if1.false in
+    let e : behind column_key line ≡ value (drop 7 line) = there column_key line _ at-starts.starts.ensures at-if1.if1.false in
+    let long = reaches column_key line _ at-starts.starts.ensures at-if1.if1.false in
     rw (column-read _ line _ e long (sym at_n.n.given.1 ∙ at-from-bytes.from_bytes.ensures)) c.with-column.ensures
 
 returns-3 : tie.Need-returns-3
-unfolding columnKey columnNamed
+unfolding column_key column_named
 returns-3 c =
     let at-from-bytes = c.before.before.before in
     let at-if1 = at-from-bytes.before.before in
     let at-starts = at-if1.before in
     let start = at-starts.before.before.before in
     let line = start.args.line.now in
-    let e : behind columnKey line ≡ value (drop 7 line) = there columnKey line _ at-starts.starts.ensures at-if1.if1.false in
-    let long = reaches columnKey line _ at-starts.starts.ensures at-if1.if1.false in
+    let e : behind column_key line ≡ value (drop 7 line) = there column_key line _ at-starts.starts.ensures at-if1.if1.false in
+    let long = reaches column_key line _ at-starts.starts.ensures at-if1.if1.false in
     rw (column-read _ line _ e long (sym c.before.enum_told.given.1 ∙ at-from-bytes.from_bytes.ensures)) c.stopped2.ensures
 
 pub column-step-spec : {M : Type 1} → statement M

@@ -5,7 +5,7 @@ use native.Mathlib.Omega.{arith}
 use borrow.Author.Rules.{rules}
 use lib.ListN.{drop}
 use Rattle.sheet.specs.Reader.{Steps}
-use Rattle.sheet.specs.Sheet.{channelsKey, behind, value, countStep, goes, SoFar}
+use Rattle.sheet.specs.Sheet.{channels_key, behind, value, count_step, goes, SoFar}
 use Rattle.sheet.proofs.Keys.{missing, there, reaches}
 use Rattle.sheet.proofs.Steps.{count_long, count_low, count-high, count-digit}
 use Rattle.sheet.proofs.state.count_step.Statement.{statement}
@@ -21,24 +21,24 @@ stopped-requires : tie.Need-stopped-requires
 stopped-requires c κs = search rules
 
 returns : tie.Need-returns
-unfolding channelsKey countStep
+unfolding channels_key count_step
 returns c =
     let at-starts = c.before.before in
     let start = at-starts.before.before.before in
-    rw (missing channelsKey start.args.line.now _ at-starts.starts.ensures c.before.if1.true) c.stopped.ensures
+    rw (missing channels_key start.args.line.now _ at-starts.starts.ensures c.before.if1.true) c.stopped.ensures
 
 stopped-requires-2 : tie.Need-stopped-requires-2
 stopped-requires-2 c κs = search rules
 
 returns-2 : tie.Need-returns-2
-unfolding channelsKey
+unfolding channels_key
 returns-2 c =
     let at-if1 = c.before.before in
     let at-starts = at-if1.before in
     let start = at-starts.before.before.before in
     let line = start.args.line.now in
-    let e : behind channelsKey line ≡ value (drop 9 line) = there channelsKey line _ at-starts.starts.ensures at-if1.if1.false in
-    let long = reaches channelsKey line _ at-starts.starts.ensures at-if1.if1.false in
+    let e : behind channels_key line ≡ value (drop 9 line) = there channels_key line _ at-starts.starts.ensures at-if1.if1.false in
+    let long = reaches channels_key line _ at-starts.starts.ensures at-if1.if1.false in
     rw (e, count_long line c.before.if2.true long) c.stopped2.ensures
 
 shared-slice-read-digit : tie.Need-shared-slice-read-digit
@@ -48,27 +48,27 @@ stopped-requires-3 : tie.Need-stopped-requires-3
 stopped-requires-3 c κs = search rules
 
 returns-3 : tie.Need-returns-3
-unfolding channelsKey
+unfolding channels_key
 returns-3 c =
     let at-if1 = c.before.before.before.before in
     let at-starts = at-if1.before in
     let start = at-starts.before.before.before in
     let line = start.args.line.now in
-    let e : behind channelsKey line ≡ value (drop 9 line) = there channelsKey line _ at-starts.starts.ensures at-if1.if1.false in
+    let e : behind channels_key line ≡ value (drop 9 line) = there channels_key line _ at-starts.starts.ensures at-if1.if1.false in
     rw (e, count_low line (omega arith) c.before.if3.true) c.stopped3.ensures
 
 stopped-requires-4 : tie.Need-stopped-requires-4
 stopped-requires-4 c κs = search rules
 
 returns-4 : tie.Need-returns-4
-unfolding channelsKey
+unfolding channels_key
 returns-4 c =
     let at-if3 = c.before.before in
     let at-if1 = at-if3.before.before.before in
     let at-starts = at-if1.before in
     let start = at-starts.before.before.before in
     let line = start.args.line.now in
-    let e : behind channelsKey line ≡ value (drop 9 line) = there channelsKey line _ at-starts.starts.ensures at-if1.if1.false in
+    let e : behind channels_key line ≡ value (drop 9 line) = there channels_key line _ at-starts.starts.ensures at-if1.if1.false in
     rw (e, count-high line (omega arith) at-if3.if3.false c.before.if4.true) c.stopped4.ensures
 
 sub-count : tie.Need-overflow-sub-count
@@ -84,7 +84,7 @@ went-requires : tie.Need-went-requires
 went-requires c κs = search rules
 
 returns-5 : tie.Need-returns-5
-unfolding channelsKey
+unfolding channels_key
 returns-5 c =
     let at-if4 = c.before.before in
     let at-if3 = at-if4.before in
@@ -92,7 +92,7 @@ returns-5 c =
     let at-starts = at-if1.before in
     let start = at-starts.before.before.before in
     let line = start.args.line.now in
-    let e : behind channelsKey line ≡ value (drop 9 line) = there channelsKey line _ at-starts.starts.ensures at-if1.if1.false in
+    let e : behind channels_key line ≡ value (drop 9 line) = there channels_key line _ at-starts.starts.ensures at-if1.if1.false in
     rw (e, count-digit line (omega arith) at-if3.if3.false at-if4.if4.false)
     (subst (λ (s : SoFar). Steps c.went.result (goes s)) c.before.fresh.ensures.is c.went.ensures)
 

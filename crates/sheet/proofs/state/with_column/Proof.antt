@@ -3,8 +3,8 @@ use mathlib.Core.Bool.{true, false}
 use mathlib.Core.Path.{◌≡◌, sym, ◌∙◌}
 use borrow.Author.Rules.{rules}
 use lib.ListN.{take}
-use Rattle.naming.specs.Name.{isIn}
-use Rattle.sheet.specs.Sheet.{columnNamed}
+use Rattle.naming.specs.Name.{is_in}
+use Rattle.sheet.specs.Sheet.{column_named}
 use Rattle.sheet.proofs.Steps.{column-goes, column_fits}
 use Rattle.sheet.proofs.state.with_column.Statement.{statement}
 use Rattle.sheet.proofs.state.with_column.Tie as tie
@@ -16,12 +16,12 @@ stopped-requires : tie.Need-stopped-requires
 stopped-requires c κs = search rules
 
 returns : tie.Need-returns
-unfolding columnNamed
+unfolding column_named
 returns c =
     let at-stands-in = c.before.before in
     let start = at-stands-in.before.before in
     let s = start.args.s in
-    let e : isIn start.args.n (take s.column s.columns) ≡ true = sym at-stands-in.stands-in.ensures ∙ c.before.if1.true in
+    let e : is_in start.args.n (take s.column s.columns) ≡ true = sym at-stands-in.stands_in.ensures ∙ c.before.if1.true in
     rw e c.stopped.ensures
 
 mul-n : tie.Need-overflow-mul-n
@@ -43,7 +43,7 @@ returns-2 c =
     let at-stands-in = c.before.before in
     let start = at-stands-in.before.before in
     let s = start.args.s in
-    let e : isIn start.args.n (take s.column s.columns) ≡ false = sym at-stands-in.stands-in.ensures ∙ c.before.if1.false in
+    let e : is_in start.args.n (take s.column s.columns) ≡ false = sym at-stands-in.stands_in.ensures ∙ c.before.if1.false in
     rw (column-goes s start.requires.0 start.requires.1 start.args.n e) c.went.ensures
 
 pub with-column-spec : {M : Type 1} → statement M

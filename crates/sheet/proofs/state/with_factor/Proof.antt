@@ -6,7 +6,7 @@ use borrow.Author.Rules.{rules}
 use lib.Ieee.{binary64, of_bits}
 use lib.Ieee.Scale.{finite}
 use Rattle.quant.proofs.Judging.{taken, passed}
-use Rattle.sheet.specs.Sheet.{factorBits}
+use Rattle.sheet.specs.Sheet.{factor_bits}
 use Rattle.sheet.proofs.Steps.{rows_few, factor-goes, factor-fits}
 use Rattle.sheet.proofs.state.with_factor.Statement.{statement}
 use Rattle.sheet.proofs.state.with_factor.Tie as tie
@@ -21,7 +21,7 @@ stopped-requires : tie.Need-stopped-requires
 stopped-requires c κs = search rules
 
 returns : tie.Need-returns
-unfolding factorBits
+unfolding factor_bits
 returns c =
     let at-is-finite = c.before.before in
     let at-float-of = at-is-finite.before in

@@ -1,12 +1,12 @@
 -- `spline::check::not_falling` meets its contract. Assumes nothing.
 use Rattle.std.proofs.Common.{◌≡◌, ◌+◌, ◌-◌, ◌≤◌, Bool, not, ◌&&◌, length, drop, sym, refl, ap, ◌∙◌, arith, rules}
-use Rattle.spline.specs.Spline.{notFalling}
+use Rattle.spline.specs.Spline.{not_falling}
 use Rattle.spline.proofs.Falls.{falls-next, falls-end}
 use Rattle.spline.proofs.check.not_falling.Statement.{statement}
 use Rattle.spline.proofs.check.not_falling.Tie as tie
 
 abbrev invariant-loop : tie.invariant-loop
-invariant-loop knots i₀ i = (i ≤ length knots) × (notFalling knots ≡ notFalling (drop i knots))
+invariant-loop knots i₀ i = (i ≤ length knots) × (not_falling knots ≡ not_falling (drop i knots))
 
 abbrev decreases-loop : tie.decreases-loop
 decreases-loop knots i₀ i = length knots - i
@@ -36,7 +36,7 @@ returns : tie.Need-returns invariant-loop decreases-loop
 returns c =
     let at = c.before.before.before.before.loop in
     let l = c.before.before.before.before.before.args.knots.now in
-    sym (at.invariant.1 ∙ falls-next l at.i (omega arith) ∙ ap (λ (b : Bool). not b && notFalling (drop (at.i + 1) l)) c.if1.true)
+    sym (at.invariant.1 ∙ falls-next l at.i (omega arith) ∙ ap (λ (b : Bool). not b && not_falling (drop (at.i + 1) l)) c.if1.true)
 
 add-i : tie.Need-overflow-add-i invariant-loop decreases-loop
 add-i c = search rules
@@ -48,7 +48,7 @@ loop-again : tie.Need-loop-preserved invariant-loop decreases-loop
 loop-again c =
     let at = c.before.before.before.before.loop in
     let l = c.before.before.before.before.before.args.knots.now in
-    (omega arith, at.invariant.1 ∙ falls-next l at.i (omega arith) ∙ ap (λ (b : Bool). not b && notFalling (drop (at.i + 1) l)) c.if1.false)
+    (omega arith, at.invariant.1 ∙ falls-next l at.i (omega arith) ∙ ap (λ (b : Bool). not b && not_falling (drop (at.i + 1) l)) c.if1.false)
 
 returns-2 : tie.Need-returns-2 invariant-loop decreases-loop
 returns-2 c = let at = c.before.loop in sym (at.invariant.1 ∙ falls-end c.before.before.args.knots.now at.i (omega arith))

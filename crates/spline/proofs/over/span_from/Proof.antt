@@ -2,7 +2,7 @@
 use Rattle.std.proofs.Common.{sym, ap, ◌∙◌, rules}
 use lib.Ieee.{Float, le}
 use Rattle.exact.proofs.Truth.{both}
-use Rattle.spline.specs.Spline.{inDomain}
+use Rattle.spline.specs.Spline.{in_domain}
 use Rattle.spline.proofs.over.span_from.Statement.{statement}
 use Rattle.spline.proofs.over.span_from.Tie as tie
 
@@ -18,7 +18,7 @@ returns : tie.Need-returns
 returns c = search rules
 
 span-up-requires-2 : tie.Need-span-up-requires-2
-unfolding inDomain
+unfolding in_domain
 span-up-requires-2 c κs =
     let start = c.before.before.before in
     (start.requires.0, (search rules, search rules, (both _ _ start.requires.1.2).0))

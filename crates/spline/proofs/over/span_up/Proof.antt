@@ -1,13 +1,13 @@
 -- `spline::over::span_up` meets its contract. The invariant: the knot k is not over x. Assumes nothing.
 use Rattle.std.proofs.Common.{◌≡◌, ◌-◌, ◌<◌, ◌≤◌, true, T, sym, ap, ◌∙◌, subst, arith, rules}
 use lib.Ieee.{lt, le}
-use Rattle.spline.specs.Spline.{knotAt}
+use Rattle.spline.specs.Spline.{knot_at}
 use Rattle.spline.proofs.Rising.{next-knot, span-found}
 use Rattle.spline.proofs.over.span_up.Statement.{statement}
 use Rattle.spline.proofs.over.span_up.Tie as tie
 
 abbrev invariant-loop : tie.invariant-loop
-invariant-loop row p n from x k₀ k = (p ≤ k) × (k < n) × (le (knotAt row k) x ≡ true)
+invariant-loop row p n from x k₀ k = (p ≤ k) × (k < n) × (le (knot_at row k) x ≡ true)
 
 abbrev decreases-loop : tie.decreases-loop
 decreases-loop row p n from x k₀ k = n - k

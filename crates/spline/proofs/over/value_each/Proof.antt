@@ -2,12 +2,12 @@
 use Rattle.std.proofs.Common.{◌-◌, length, refl, arith, rules}
 use Rattle.rows.proofs.Turns.{upto}
 use Rattle.rows.proofs.Valued.{Valued, valued-turn, valued-all}
-use Rattle.spline.specs.Value.{splineAt}
+use Rattle.spline.specs.Value.{spline_at}
 use Rattle.spline.proofs.over.value_each.Statement.{statement}
 use Rattle.spline.proofs.over.value_each.Tie as tie
 
 abbrev invariant-loop : tie.invariant-loop
-invariant-loop part₀ row p n i₀ part i = Valued (splineAt row p n) part₀ part i
+invariant-loop part₀ row p n i₀ part i = Valued (spline_at row p n) part₀ part i
 
 abbrev decreases-loop : tie.decreases-loop
 decreases-loop part₀ row p n i₀ part i = length part₀ - i
@@ -41,7 +41,7 @@ loop-again : tie.Need-loop-preserved invariant-loop decreases-loop
 loop-again c =
     let at = c.before.before.before.loop in
     let a = c.before.before.before.before.before.before.args in
-    valued-turn (splineAt a.row.now a.p a.n) a.part.now at.part at.i (omega arith) at.invariant c.value_of.result
+    valued-turn (spline_at a.row.now a.p a.n) a.part.now at.part at.i (omega arith) at.invariant c.value_of.result
     c.value_of.ensures
 
 same_length : tie.Need-same-length invariant-loop decreases-loop
@@ -51,7 +51,7 @@ returns : tie.Need-returns invariant-loop decreases-loop
 returns c =
     let at = c.before.loop in
     let a = c.before.before.before.before.args in
-    valued-all (splineAt a.row.now a.p a.n) a.part.now at.part at.i (omega arith) at.invariant
+    valued-all (spline_at a.row.now a.p a.n) a.part.now at.part at.i (omega arith) at.invariant
 
 pub value-each-spec : {M : Type 1} → statement M
 value-each-spec =

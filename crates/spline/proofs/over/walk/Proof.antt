@@ -4,13 +4,13 @@ use lib.Ieee.{nan}
 use Rattle.exact.specs.Doubles.{nought}
 use Rattle.rows.proofs.Turns.{upto}
 use Rattle.rows.proofs.Valued.{Valued, valued-turn, valued-all}
-use Rattle.spline.specs.Value.{splineAt}
+use Rattle.spline.specs.Value.{spline_at}
 use Rattle.spline.proofs.Span.{value-inside, value-outside}
 use Rattle.spline.proofs.over.walk.Statement.{statement}
 use Rattle.spline.proofs.over.walk.Tie as tie
 
 abbrev invariant-loop : tie.invariant-loop
-invariant-loop part₀ row p n k₀ i₀ part k i = Valued (splineAt row p n) part₀ part i × (p ≤ k) × (k < n)
+invariant-loop part₀ row p n k₀ i₀ part k i = Valued (spline_at row p n) part₀ part i × (p ≤ k) × (k < n)
 
 abbrev decreases-loop : tie.decreases-loop
 decreases-loop part₀ row p n k₀ i₀ part k i = length part₀ - i
@@ -58,7 +58,7 @@ loop-again : tie.Need-loop-preserved invariant-loop decreases-loop
 loop-again c =
     let at = c.before.before.before.before.loop in
     let a = c.before.before.before.before.before.before.before.args in
-    let turn = valued-turn (splineAt a.row.now a.p a.n) a.part.now at.part at.i (omega arith) at.invariant.0 in
+    let turn = valued-turn (spline_at a.row.now a.p a.n) a.part.now at.part at.i (omega arith) at.invariant.0 in
     let x = get_or at.part at.i nan in
     let tested = c.before.in-domain.ensures in
     ⊎_elim
@@ -77,7 +77,7 @@ returns : tie.Need-returns invariant-loop decreases-loop
 returns c =
     let at = c.before.loop in
     let a = c.before.before.before.before.args in
-    valued-all (splineAt a.row.now a.p a.n) a.part.now at.part at.i (omega arith) at.invariant.0
+    valued-all (spline_at a.row.now a.p a.n) a.part.now at.part at.i (omega arith) at.invariant.0
 
 pub walk-spec : {M : Type 1} → statement M
 walk-spec =

@@ -2,14 +2,14 @@
 use Rattle.std.proofs.Common.{ℕ, ◌+◌, ◌-◌, ◌<◌, ◌≤◌, subst, arith, rules, below_more}
 use mathlib.Core.Bool.{false≢true}
 use borrow.Author.Tests.{not-false}
-use Rattle.spline.specs.Spline.{controlAt}
+use Rattle.spline.specs.Spline.{control_at}
 use Rattle.spline.specs.Walk.{Tamed}
 use Rattle.spline.proofs.Tested.{Tested, tested-first, tested-more}
 use Rattle.spline.proofs.tame.is_tame.Statement.{statement}
 use Rattle.spline.proofs.tame.is_tame.Tie as tie
 
 abbrev invariant-loop : tie.invariant-loop
-invariant-loop row p n i₀ i = (i ≤ n) × ((m : ℕ) → m < i → Tamed (controlAt row m))
+invariant-loop row p n i₀ i = (i ≤ n) × ((m : ℕ) → m < i → Tamed (control_at row m))
 
 abbrev decreases-loop : tie.decreases-loop
 decreases-loop row p n i₀ i = n - i

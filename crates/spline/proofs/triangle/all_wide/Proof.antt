@@ -3,7 +3,7 @@ use Rattle.std.proofs.Common.{◌≡◌, ◌+◌, ◌-◌, ◌<◌, ◌≤◌, B
 use borrow.Author.Tests.{not-true, not-false}
 use lib.Ieee.{Float, binary64, sub}
 use lib.Ieee.Scale.{finite}
-use Rattle.spline.specs.Walk.{wideRound, wideRounds}
+use Rattle.spline.specs.Walk.{wide_round, wide_rounds}
 use Rattle.spline.proofs.Wide.{round-more, rounds-more, not_wide}
 use Rattle.spline.proofs.triangle.all_wide.Statement.{statement}
 use Rattle.spline.proofs.triangle.all_wide.Tie as tie
@@ -12,26 +12,26 @@ tested : (a b u v : Float) {t s : Bool} → u ≡ a → v ≡ b → t ≡ finite
 tested a b u v e f g h = cc
 
 abbrev invariant-loop2 : tie.invariant-loop2
-invariant-loop2 row p k r j₀ j = (r < j) × (j ≤ p + 1) × (wideRound row p k r (j - 1 - r) ≡ true)
+invariant-loop2 row p k r j₀ j = (r < j) × (j ≤ p + 1) × (wide_round row p k r (j - 1 - r) ≡ true)
 
 abbrev decreases-loop2 : tie.decreases-loop2
 decreases-loop2 row p k r j₀ j = p + 1 - j
 
 abbrev invariant-loop : tie.invariant-loop
-invariant-loop row p k r₀ r = (r ≤ p) × (wideRounds row p k r ≡ true)
+invariant-loop row p k r₀ r = (r ≤ p) × (wide_rounds row p k r ≡ true)
 
 abbrev decreases-loop : tie.decreases-loop
 decreases-loop row p k r₀ r = p - r
 
 loop-holds : tie.Need-loop-init invariant-loop2 decreases-loop2 invariant-loop decreases-loop
-unfolding wideRounds
+unfolding wide_rounds
 loop-holds c = (search rules, refl)
 
 add-j : tie.Need-overflow-add-j invariant-loop2 decreases-loop2 invariant-loop decreases-loop
 add-j c = search rules
 
 loop2-holds : tie.Need-loop2-init invariant-loop2 decreases-loop2 invariant-loop decreases-loop
-unfolding wideRound
+unfolding wide_round
 loop2-holds c =
     let r = c.before.loop.r in
     let start : r + 1 - 1 - r ≡ 0 = omega arith in
@@ -102,7 +102,7 @@ returns-2 c =
     let at = c.before.loop in
     let a = c.before.before.before.args in
     let end : at.r ≡ a.p = omega arith in
-    sym (ap (wideRounds a.row.now a.p a.k) (sym end) ∙ at.invariant.1)
+    sym (ap (wide_rounds a.row.now a.p a.k) (sym end) ∙ at.invariant.1)
 
 pub all-wide-spec : {M : Type 1} → statement M
 all-wide-spec =

@@ -1,6 +1,6 @@
 -- `spline::triangle::de_boor` meets its contract. Assumes nothing.
 use Rattle.std.proofs.Common.{◌≡◌, ℕ, ◌-◌, ◌≤◌, ap, ◌∙◌, arith, rules}
-use Rattle.spline.specs.Spline.{dAt}
+use Rattle.spline.specs.Spline.{d_at}
 use Rattle.spline.specs.Walk.{Column}
 use Rattle.spline.proofs.triangle.de_boor.Statement.{statement}
 use Rattle.spline.proofs.triangle.de_boor.Tie as tie
@@ -42,7 +42,7 @@ returns c =
     let at = c.before.loop in
     let a = c.before.before.before.before.before.args in
     let end : at.r ≡ a.p = omega arith in
-    at.invariant.1.at a.p (omega arith) (omega arith) ∙ ap (λ (r : ℕ). dAt a.row.now a.p a.k a.x r a.p) end
+    at.invariant.1.at a.p (omega arith) (omega arith) ∙ ap (λ (r : ℕ). d_at a.row.now a.p a.k a.x r a.p) end
 
 pub de-boor-spec : {M : Type 1} → statement M
 de-boor-spec =

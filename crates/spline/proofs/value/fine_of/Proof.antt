@@ -1,6 +1,6 @@
 -- `spline::value::fine_of` meets its contract. Assumes nothing.
 use Rattle.std.proofs.Common.{sym, ◌∙◌, arith, rules}
-use Rattle.spline.specs.Value.{splineFine}
+use Rattle.spline.specs.Value.{spline_fine}
 use Rattle.spline.specs.Walk.{Within}
 use Rattle.spline.proofs.Judged.{judged}
 use Rattle.spline.proofs.value.fine_of.Statement.{statement}
@@ -25,7 +25,7 @@ both-requires : tie.Need-both-requires
 both-requires c κs = search rules
 
 returns : tie.Need-returns
-unfolding splineFine
+unfolding spline_fine
 returns c =
     let a = c.before.before.before.before.before.before.before.before.args in
     let k = c.before.before.before.before.span in
@@ -38,7 +38,7 @@ returns c =
     (sym (judged a.row.now a.p k.result a.x within)))
 
 returns-2 : tie.Need-returns-2
-unfolding splineFine
+unfolding spline_fine
 returns-2 c = let outside = sym c.before.in-domain.ensures ∙ c.if1.false in rw outside
 
 pub fine-of-spec : {M : Type 1} → statement M

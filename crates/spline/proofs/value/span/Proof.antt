@@ -1,13 +1,13 @@
 -- `spline::value::span` meets its contract. Assumes nothing.
 use Rattle.std.proofs.Common.{◌≡◌, ◌-◌, ◌<◌, ◌≤◌, true, false, sym, refl, ap, ◌∙◌, arith, rules}
 use lib.Ieee.{Float, le}
-use Rattle.spline.specs.Spline.{spanTo}
+use Rattle.spline.specs.Spline.{span_to}
 use Rattle.spline.proofs.Span.{span-turn}
 use Rattle.spline.proofs.value.span.Statement.{statement}
 use Rattle.spline.proofs.value.span.Tie as tie
 
 abbrev invariant-loop : tie.invariant-loop
-invariant-loop row p n x k₀ k = (p ≤ k) × (k < n) × (spanTo row p x (n - 1 - p) ≡ spanTo row p x (k - p))
+invariant-loop row p n x k₀ k = (p ≤ k) × (k < n) × (span_to row p x (n - 1 - p) ≡ span_to row p x (k - p))
 
 abbrev decreases-loop : tie.decreases-loop
 decreases-loop row p n x k₀ k = k
@@ -44,12 +44,12 @@ loop-again c =
     (omega arith, omega arith, at.invariant.2 ∙ span-turn a.row.now a.p a.x at.k false more not-below)
 
 returns-2 : tie.Need-returns-2 invariant-loop decreases-loop
-unfolding spanTo
+unfolding span_to
 returns-2 c =
     let at = c.before.loop in
     let a = c.before.before.before.args in
     let none : at.k - a.p ≡ 0 = omega arith in
-    (sym (at.invariant.2 ∙ ap (spanTo a.row.now a.p a.x) none), (omega arith, omega arith))
+    (sym (at.invariant.2 ∙ ap (span_to a.row.now a.p a.x) none), (omega arith, omega arith))
 
 pub span-spec : {M : Type 1} → statement M
 span-spec =

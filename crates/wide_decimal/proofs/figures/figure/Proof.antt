@@ -5,7 +5,7 @@ use native.Mathlib.Numerals.{add-one}
 use native.Mathlib.Omega.{arith}
 use borrow.Author.Rules.{rules}
 use lib.ListN.{get_or}
-use Rattle.wide_decimal.specs.Figures.{figureOf}
+use Rattle.wide_decimal.specs.Figures.{figure_of}
 use Rattle.wide_decimal.proofs.Texts.{at_most, before-point, behind-within, behind-point}
 use Rattle.wide_decimal.proofs.figures.figure.Statement.{statement}
 use Rattle.wide_decimal.proofs.figures.figure.Tie as tie
@@ -21,7 +21,7 @@ worth-of-requires c κs = search rules
 returns : tie.Need-returns
 returns c =
     let s = c.before.before.before.before in
-    c.worth-of.ensures ∙ ap figureOf (sym (before-point s.args.point s.args.text.now s.args.k s.requires c.before.before.if1.true))
+    c.worth-of.ensures ∙ ap figure_of (sym (before-point s.args.point s.args.text.now s.args.k s.requires c.before.before.if1.true))
 
 add-worth-of : tie.Need-overflow-add-worth-of
 add-worth-of c =
@@ -40,8 +40,8 @@ returns-2 : tie.Need-returns-2
 returns-2 c =
     let s = c.before.before.before.before in
     c.worth-of2.ensures
-    ∙ ap (λ (x : ℕ). figureOf (get_or s.args.text.now x 0)) (add-one s.args.k)
-    ∙ ap figureOf (sym (behind-point s.args.point s.args.text.now s.args.k s.requires (omega (arith, c.before.before.if1.false))))
+    ∙ ap (λ (x : ℕ). figure_of (get_or s.args.text.now x 0)) (add-one s.args.k)
+    ∙ ap figure_of (sym (behind-point s.args.point s.args.text.now s.args.k s.requires (omega (arith, c.before.before.if1.false))))
 
 pub figure-spec : {M : Type 1} → statement M
 figure-spec =

@@ -9,9 +9,9 @@ use borrow.Author.Rules.{rules}
 use lib.Dec.{lit<}
 use lib.ListN.{length, get_or, take, drop, length-drop}
 use lib.Seq.{get_or-drop}
-use Rattle.wide_decimal.specs.Figures.{figureOf, worthFrom, worth, without}
+use Rattle.wide_decimal.specs.Figures.{figure_of, worth_from, worth, without}
 use Rattle.wide_decimal.proofs.Texts.{at_most}
-use Rattle.wide_decimal.proofs.Worth.{figure-most, worth-next, group-most}
+use Rattle.wide_decimal.proofs.Worth.{figure_most, worth-next, group-most}
 use Rattle.wide_decimal.proofs.figures.group.Statement.{statement}
 use Rattle.wide_decimal.proofs.figures.group.Tie as tie
 
@@ -22,7 +22,7 @@ abbrev decreases-loop : tie.decreases-loop
 decreases-loop text point k n all₀ i₀ all i = n - i
 
 loop-holds : tie.Need-loop-init invariant-loop decreases-loop
-unfolding worthFrom
+unfolding worth_from
 loop-holds c = (omega arith, refl)
 
 -- what is gone through is small
@@ -53,7 +53,7 @@ add-all : tie.Need-overflow-add-all invariant-loop decreases-loop
 add-all c =
     let l = c.before.before.loop in
     let s = c.before.before.before.before in
-    omega (arith, few c.before, c.figure.ensures, figure-most (get_or (without s.args.point s.args.text.now) (s.args.k + l.i) 0))
+    omega (arith, few c.before, c.figure.ensures, figure_most (get_or (without s.args.point s.args.text.now) (s.args.k + l.i) 0))
 
 add-i : tie.Need-overflow-add-i invariant-loop decreases-loop
 add-i c = search rules
@@ -69,7 +69,7 @@ loop-again c =
     let rest : l.i < length (drop s.args.k a) = rw (length-drop s.args.k a) (omega (arith, s.requires.1)) in (
       omega arith,
       rw (add-one l.i, c.figure.ensures, worth-next (drop s.args.k a) l.i rest, get_or-drop s.args.k a l.i 0)
-          (ap (λ (x : ℕ). x * 10 + figureOf (get_or a (s.args.k + l.i) 0)) l.invariant.1),
+          (ap (λ (x : ℕ). x * 10 + figure_of (get_or a (s.args.k + l.i) 0)) l.invariant.1),
     )
 
 returns : tie.Need-returns invariant-loop decreases-loop

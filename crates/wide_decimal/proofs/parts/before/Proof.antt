@@ -5,9 +5,9 @@ use native.Mathlib.Omega.{arith}
 use native.Mathlib.Nat.{le_trans}
 use borrow.Author.Rules.{rules}
 use lib.ListN.{length, take}
-use Rattle.wide_decimal.specs.Figures.{worthFrom, worth, without}
+use Rattle.wide_decimal.specs.Figures.{worth_from, worth, without}
 use Rattle.wide_decimal.specs.Limbs.{value, weight}
-use Rattle.wide_decimal.proofs.Powers.{ten-small}
+use Rattle.wide_decimal.proofs.Powers.{ten_small}
 use Rattle.wide_decimal.proofs.Worth.{group-most, worth-upto}
 use Rattle.wide_decimal.proofs.Zeros.{worth-grows, spills, fitting, spilling}
 use Rattle.wide_decimal.proofs.parts.before.Statement.{statement}
@@ -20,7 +20,7 @@ abbrev decreases-loop : tie.decreases-loop
 decreases-loop high₀ text point first i₀ high i = first - i
 
 loop-holds : tie.Need-loop-init invariant-loop decreases-loop
-unfolding worthFrom
+unfolding worth_from
 loop-holds c = (omega arith, refl, c.before.before.requires.0)
 
 sub-least : tie.Need-overflow-sub-least invariant-loop decreases-loop
@@ -56,7 +56,7 @@ times-requires : tie.Need-times-requires invariant-loop decreases-loop
 times-requires c κs =
     let s = c.before.before.before.before.before.before.before.before in
     let a = without s.args.point s.args.text.now in
-    (omega (arith, c.before.ten-to.ensures, ten-small (n c) (at_most c)), omega (arith, c.group.ensures, group-most a (i c) (n c) (fit c), ten-small (n c) (at_most c)))
+    (omega (arith, c.before.ten-to.ensures, ten_small (n c) (at_most c)), omega (arith, c.group.ensures, group-most a (i c) (n c) (fit c), ten_small (n c) (at_most c)))
 
 named : (v m c x p g : ℕ) → v ≡ x → m ≡ p → c ≡ g → v * m + c ≡ x * p + g
 named v m c x p g e f h = rw (e, f, h)

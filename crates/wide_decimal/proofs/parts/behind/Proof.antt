@@ -7,7 +7,7 @@ use lib.ListN.{length, drop}
 use Rattle.wide_decimal.specs.Figures.{worth, without}
 use Rattle.wide_decimal.specs.Limbs.{value, weight}
 use Rattle.wide_decimal.specs.Near.{Near}
-use Rattle.wide_decimal.proofs.Powers.{ten-small, weight-even}
+use Rattle.wide_decimal.proofs.Powers.{ten_small, weight-even}
 use Rattle.wide_decimal.proofs.Worth.{group-most}
 use Rattle.wide_decimal.proofs.Zeros.{behind-none, behind-next}
 use Rattle.wide_decimal.proofs.parts.behind.Statement.{statement}
@@ -70,7 +70,7 @@ cut-requires c κs =
     let s = c.before.before.before.before.before.before.before.before.before in
     let a = without s.args.point s.args.text.now in (
       omega (arith, c.before.ten-to.ensures, c.group.ensures, group-most a (i c - n c) (n c) (fit c)),
-      omega (arith, c.before.ten-to.ensures, ten-small (n c) (few c)),
+      omega (arith, c.before.ten-to.ensures, ten_small (n c) (few c)),
       omega (arith, s.requires.1, c.before.before.before.before.before.loop.invariant.2),
     )
 

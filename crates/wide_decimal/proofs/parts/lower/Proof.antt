@@ -8,7 +8,7 @@ use lib.ListN.{length}
 use Rattle.wide_decimal.specs.Limbs.{value, weight}
 use Rattle.wide_decimal.specs.Near.{Near}
 use Rattle.wide_decimal.proofs.Digits.{value-below}
-use Rattle.wide_decimal.proofs.Powers.{ten-small, ten-pos}
+use Rattle.wide_decimal.proofs.Powers.{ten_small, ten_pos}
 use Rattle.wide_decimal.proofs.Zeros.{lower-next, lower-all}
 use Rattle.wide_decimal.proofs.parts.lower.Statement.{statement}
 use Rattle.wide_decimal.proofs.parts.lower.Tie as tie
@@ -43,7 +43,7 @@ cut-requires c κs =
     let few : n ≤ 9 = omega (arith, c.before.before.least2.ensures) in
     let l = c.before.before.before.before.loop in
     let s = c.before.before.before.before.before.before.before in
-    (omega (arith, c.ten-to.ensures, ten-pos n), omega (arith, c.ten-to.ensures, ten-small n few), omega (arith, s.requires.0, l.invariant.1))
+    (omega (arith, c.ten-to.ensures, ten_pos n), omega (arith, c.ten-to.ensures, ten_small n few), omega (arith, s.requires.0, l.invariant.1))
 
 add-i : tie.Need-overflow-add-i invariant-loop decreases-loop
 add-i c = omega (arith, c.before.before.before.before.before.least2.ensures)

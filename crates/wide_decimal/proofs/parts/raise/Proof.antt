@@ -5,8 +5,8 @@ use native.Mathlib.Omega.{arith}
 use borrow.Author.Rules.{rules}
 use lib.ListN.{length}
 use Rattle.wide_decimal.specs.Limbs.{value, weight}
-use Rattle.wide_decimal.proofs.Powers.{ten-small}
-use Rattle.wide_decimal.proofs.Zeros.{spills, fitting, spilling, ten-behind, zeros-more, all-zeros}
+use Rattle.wide_decimal.proofs.Powers.{ten_small}
+use Rattle.wide_decimal.proofs.Zeros.{spills, fitting, spilling, ten_behind, zeros-more, all-zeros}
 use Rattle.wide_decimal.proofs.parts.raise.Statement.{statement}
 use Rattle.wide_decimal.proofs.parts.raise.Tie as tie
 
@@ -37,7 +37,7 @@ ten-to-requires c κs = omega (arith, c.before.least2.ensures)
 times-requires : tie.Need-times-requires invariant-loop decreases-loop
 times-requires c κs =
     let n = c.before.before.least2.result in
-    (omega (arith, c.ten-to.ensures, ten-small n (omega (arith, c.before.before.least2.ensures))), omega arith)
+    (omega (arith, c.ten-to.ensures, ten_small n (omega (arith, c.before.before.least2.ensures))), omega arith)
 
 named : (v m x i n y : ℕ) → v ≡ x * 10 ^ i → m ≡ 10 ^ n → x * 10 ^ i * 10 ^ n ≡ y → v * m + 0 ≡ y
 named v m x i n y e f h = rw (e, f) (plain (x * 10 ^ i * 10 ^ n) ∙ h)
@@ -51,7 +51,7 @@ product t =
     let l = t.before.before.before.before.before.loop in
     let v = value t.before.before.before.before.before.before.before.before.args.high.now in
     let n = t.before.before.before.least2.result in
-    t.times.ensures.0 ∙ named (value l.high) _ v l.i n _ l.invariant.2 t.before.ten-to.ensures (ten-behind v l.i n)
+    t.times.ensures.0 ∙ named (value l.high) _ v l.i n _ l.invariant.2 t.before.ten-to.ensures (ten_behind v l.i n)
 
 same_length : tie.Need-same-length invariant-loop decreases-loop
 same_length c =

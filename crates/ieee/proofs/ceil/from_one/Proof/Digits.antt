@@ -7,7 +7,7 @@ use lib.Ieee.{binary64, of_bits, nan_bits}
 use lib.Ieee.Exact.{HasValue}
 use lib.Ieee.Bits.{of_bits-fits}
 use borrow.Author.Tests.{lt-leb}
-use Rattle.ieee.specs.Ceiling.{wholeToward, ceiling}
+use Rattle.ieee.specs.Ceiling.{whole_toward, ceiling}
 use Rattle.exact.proofs.Value.{rescale}
 use Rattle.ieee.proofs.Bits.{no_nan, value-normal, value-carried, digits_lt}
 use Rattle.ieee.proofs.Fractions.{above-rest}
@@ -178,7 +178,7 @@ module _ (b p : ℕ) (f : Fraction b p) where
   positive h n =
       is-ceiling (of_bits binary64 b) (of_bits binary64 (c + P)) false M P (pow_pos p) (of_bits-fits binary64 b) (of_bits-fits binary64 (c + P))
       (own false (lt-leb (2 ^ 63) b h))
-      (subst (λ (z : Bool). HasValue (of_bits binary64 (c + P)) z (wholeToward false M P) 1) (lt-leb (2 ^ 63) (c + P) (next-lt h))
+      (subst (λ (z : Bool). HasValue (of_bits binary64 (c + P)) z (whole_toward false M P) 1) (lt-leb (2 ^ 63) (c + P) (next-lt h))
       (subst (λ (z : ℕ). HasValue (of_bits binary64 (c + P)) (leb (2 ^ 63) (c + P)) z 1)
       (sym (above-rest M P (pow_pos p) (subst (λ (z : ℕ). 0 < z) (sym rest-M) (some c (b % P) b cut-is n))))
       (whole-next h)))

@@ -1,4 +1,4 @@
--- `hex::read` meets its contract. The invariant: the bytes passed are digits, and `word` is the number that they stand for.
+-- `hexadecimal::read` meets its contract. The invariant: the bytes passed are digits, and `word` is the number that they stand for.
 -- Assumes nothing.
 use Prim.Native.Nat.{ℕ, ◌+◌, ◌-◌, ◌*◌, ◌^◌, ◌≤◌, ◌<◌}
 use mathlib.Core.Path.{◌≡◌, refl, ap, sym}
@@ -12,11 +12,11 @@ use borrow.Author.Tests.{le-leb, lt-leb}
 use lib.Dec.{lit<}
 use lib.ListN.{length, get_or, take, drop, length-drop}
 use lib.Seq.{take-suc, get_or-drop, get_or-take, length-take-le}
-use Rattle.hex.specs.declared.Word.TheVariants.{Bits, Bad}
-use Rattle.hex.specs.Hex.{allDigits, digitValue, field, number, room, word_at}
-use Rattle.hex.proofs.Number.{all_more, not-all, number_lt, number_more}
-use Rattle.hex.proofs.read.Statement.{statement}
-use Rattle.hex.proofs.read.Tie as tie
+use Rattle.hexadecimal.specs.declared.Word.TheVariants.{Bits, Bad}
+use Rattle.hexadecimal.specs.Hex.{all_digits, digit_value, field, number, room, word_at}
+use Rattle.hexadecimal.proofs.Number.{all_more, not-all, number_lt, number_more}
+use Rattle.hexadecimal.proofs.read.Statement.{statement}
+use Rattle.hexadecimal.proofs.read.Tie as tie
 
 short : (text : List ℕ) (at : ℕ) → length text < at + 16 → word_at text at ≡ Bad
 unfolding word_at room
@@ -25,7 +25,7 @@ short text at h = simp (lt-leb (at + 16) (length text) h)
 -- what is known once i bytes are passed
 record Passed (text : List ℕ) (at word i : ℕ) : Type 0 where
   within : i ≤ 16
-  all : allDigits (take i (drop at text)) ≡ true
+  all : all_digits (take i (drop at text)) ≡ true
   is : word ≡ number (take i (drop at text))
 
 module _ (text : List ℕ) (at : ℕ) (fits : at + 16 ≤ length text) where
@@ -33,7 +33,7 @@ module _ (text : List ℕ) (at : ℕ) (fits : at + 16 ≤ length text) where
   left = simp length-drop (omega arith)
 
   none : Passed text at 0 0
-  unfolding allDigits number
+  unfolding all_digits number
   none = record { within = omega arith; all = refl; is = refl }
 
   whole : (word i : ℕ) → Passed text at word i → 16 ≤ i → Bits word ≡ word_at text at
@@ -48,11 +48,11 @@ module _ (text : List ℕ) (at : ℕ) (fits : at + 16 ≤ length text) where
         let there : i < length (drop at text) = omega (arith, left) in
         rw (add-one, take-suc (drop at text) i 0, get_or-drop)
 
-    bad : 16 ≤ digitValue (get_or text (at + i) 0) → word_at text at ≡ Bad
+    bad : 16 ≤ digit_value (get_or text (at + i) 0) → word_at text at ≡ Bad
     unfolding word_at room field
     bad d =
         let there : i < length (take 16 (drop at text)) = rw (length-take-le 16 (drop at text) left) h in
-        let found : 16 ≤ digitValue (get_or (take 16 (drop at text)) i 0) = rw (get_or-take 16 (drop at text) i 0 h, get_or-drop) d in
+        let found : 16 ≤ digit_value (get_or (take 16 (drop at text)) i 0) = rw (get_or-take 16 (drop at text) i 0 h, get_or-drop) d in
         simp (le-leb (at + 16) (length text) fits, not-all (take 16 (drop at text)) i there found)
 
     small : word < 16 ^ 15
@@ -64,7 +64,7 @@ module _ (text : List ℕ) (at : ℕ) (fits : at + 16 ≤ length text) where
         let most : 16 ^ i ≤ 16 ^ 15 = pow-le-pow_right (lit< tt) {j = 15} few in
         rw p.is (lt_of_lt_of_le below most)
 
-    more : digitValue (get_or text (at + i) 0) < 16 → Passed text at (word * 16 + digitValue (get_or text (at + i) 0)) (i + 1)
+    more : digit_value (get_or text (at + i) 0) < 16 → Passed text at (word * 16 + digit_value (get_or text (at + i) 0)) (i + 1)
     more d =
         record {
           within = omega arith;
@@ -104,7 +104,7 @@ returns-3 c =
     let at-loop = c.before.before.before.before in
     let args = at-loop.before.before.before.before.args in
     let loop = at-loop.loop in
-    let worth : 16 ≤ digitValue (get_or args.text.now (args.at + loop.i) 0) = rw c.before.digit_value.ensures at c.if3.true in
+    let worth : 16 ≤ digit_value (get_or args.text.now (args.at + loop.i) 0) = rw c.before.digit_value.ensures at c.if3.true in
     sym (bad args.text.now args.at (omega arith) loop.word loop.i loop.invariant (omega arith) worth)
 
 low : (c : tie.Else3 invariant-loop decreases-loop) → c.before.before.before.before.loop.word < 16 ^ 15
@@ -127,7 +127,7 @@ loop-again c =
     let at-loop = c.before.before.before.before in
     let args = at-loop.before.before.before.before.args in
     let loop = at-loop.loop in
-    let worth : digitValue (get_or args.text.now (args.at + loop.i) 0) < 16 = rw c.before.digit_value.ensures at c.if3.false in
+    let worth : digit_value (get_or args.text.now (args.at + loop.i) 0) < 16 = rw c.before.digit_value.ensures at c.if3.false in
     rw c.before.digit_value.ensures
     (more args.text.now args.at (omega arith) loop.word loop.i loop.invariant (omega arith) worth)
 

@@ -1,10 +1,10 @@
--- `hex::digit_value` meets its contract: its five answers are the five ranges of bytes that `digitValue` tells apart. Assumes nothing.
+-- `hexadecimal::digit_value` meets its contract: its five answers are the five ranges of bytes that `digit_value` tells apart. Assumes nothing.
 use mathlib.Core.Path.{sym}
 use native.Mathlib.Omega.{arith}
 use borrow.Author.Rules.{rules}
-use Rattle.hex.proofs.Digits.{value-below, value-figure, value-between, value-letter, value-above}
-use Rattle.hex.proofs.digit_value.Statement.{statement}
-use Rattle.hex.proofs.digit_value.Tie as tie
+use Rattle.hexadecimal.proofs.Digits.{value-below, value_figure, value-between, value-letter, value-above}
+use Rattle.hexadecimal.proofs.digit_value.Statement.{statement}
+use Rattle.hexadecimal.proofs.digit_value.Tie as tie
 
 returns : tie.Need-returns
 returns c = sym (value-below _ (omega arith))
@@ -13,7 +13,7 @@ cast-result : tie.Need-overflow-cast-result
 cast-result c = search rules
 
 returns-2 : tie.Need-returns-2
-returns-2 c = sym (value-figure _ (omega arith) (omega arith))
+returns-2 c = sym (value_figure _ (omega arith) (omega arith))
 
 returns-3 : tie.Need-returns-3
 returns-3 c = sym (value-between _ (omega arith) (omega arith))

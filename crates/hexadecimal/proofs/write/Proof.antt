@@ -1,4 +1,4 @@
--- `hex::write` meets its contract. The digits are put from the last to the first. The invariant: `rest` is the word without the digits
+-- `hexadecimal::write` meets its contract. The digits are put from the last to the first. The invariant: `rest` is the word without the digits
 -- that are written, and those stand in the text as it came. Assumes nothing.
 use Prim.Native.Nat.{ℕ, suc, ◌+◌, ◌-◌, ◌/◌, ◌%◌, ◌^◌, ◌≤◌, ◌<◌}
 use mathlib.Core.Path.{◌≡◌, refl, ◌∙◌, sym}
@@ -10,9 +10,9 @@ use borrow.Author.Rules.{rules}
 use borrow.Author.Tests.{le-leb, lt-leb}
 use lib.ListN.{length, get_or, set, take, drop, length-set, take-append-drop}
 use lib.Seq.{take-suc, length-take-le, set_at}
-use Rattle.hex.specs.Hex.{Wrote, digitOf, digits, room, written}
-use Rattle.hex.proofs.write.Statement.{statement}
-use Rattle.hex.proofs.write.Tie as tie
+use Rattle.hexadecimal.specs.Hex.{Wrote, digit_of, digits, room, written}
+use Rattle.hexadecimal.proofs.write.Statement.{statement}
+use Rattle.hexadecimal.proofs.write.Tie as tie
 
 refused : (word : ℕ) (text : List ℕ) (at : ℕ) → length text < at + 16 → Wrote word text at false text
 unfolding room written
@@ -51,19 +51,19 @@ module _ (word : ℕ) (text : List ℕ) (at : ℕ) (fits : at + 16 ≤ length te
       record { answered = sym there; left = simp there (simp add-zero at (rw end at p.is)) }
 
   module _ (out : List ℕ) (rest i : ℕ) (p : Put word text at out rest i) (h : 0 < i) where
-    one_more : set out (at + (i - 1)) (digitOf (rest % 16)) ≡ partly word text at (i - 1) (suc (16 - i))
+    one_more : set out (at + (i - 1)) (digit_of (rest % 16)) ≡ partly word text at (i - 1) (suc (16 - i))
     unfolding digits
     one_more =
         let there : at + (i - 1) < length text = omega arith in
         let up : at + i ≡ suc (at + (i - 1)) = omega arith in
-        rw (p.is, up, stored text (at + (i - 1)) (digits (16 - i) word ++ drop (at + 16) text) (digitOf (rest % 16)) there, p.left)
+        rw (p.is, up, stored text (at + (i - 1)) (digits (16 - i) word ++ drop (at + 16) text) (digit_of (rest % 16)) there, p.left)
 
-    next : Put word text at (set out (at + (i - 1)) (digitOf (rest % 16))) (rest / 16) (i - 1)
+    next : Put word text at (set out (at + (i - 1)) (digit_of (rest % 16))) (rest / 16) (i - 1)
     next =
         let count : 16 - (i - 1) ≡ suc (16 - i) = omega arith in
         record {
           within = omega arith;
-          long = length-set out (at + (i - 1)) (digitOf (rest % 16)) ∙ p.long;
+          long = length-set out (at + (i - 1)) (digit_of (rest % 16)) ∙ p.long;
           left = rw (count, pow-suc, p.left) (div-div-eq-div-mul word (16 ^ (16 - i)) 16);
           is = rw count one_more;
         }

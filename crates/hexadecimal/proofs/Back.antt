@@ -8,9 +8,9 @@ use native.Mathlib.Nat.{mod-eq_of_lt}
 use borrow.Author.Tests.{le-leb}
 use lib.ListN.{length, take, drop, length-append, length-drop}
 use lib.Seq.{length-take-le, take_at, drop_at}
-use Rattle.hex.specs.declared.Word.TheVariants.{Bits}
-use Rattle.hex.specs.Hex.{allDigits, digits, field, room, word_at, written}
-use Rattle.hex.proofs.Number.{all_digits, length_digits, number_digits}
+use Rattle.hexadecimal.specs.declared.Word.TheVariants.{Bits}
+use Rattle.hexadecimal.specs.Hex.{all_digits, digits, field, room, word_at, written}
+use Rattle.hexadecimal.proofs.Number.{all_digits_lem, length_digits, number_digits}
 
 module _ (word : ℕ) (text : List ℕ) (at : ℕ) (fits : at + 16 ≤ length text) where
   front : length (take at text) ≡ at
@@ -27,8 +27,8 @@ module _ (word : ℕ) (text : List ℕ) (at : ℕ) (fits : at + 16 ≤ length te
       rw (spelled, drop_at (take at text) (digits 16 word ++ drop (at + 16) text) at front)
       (take_at (digits 16 word) (drop (at + 16) text) 16 (length_digits 16 word))
 
-  pub digits-written : allDigits (field (written word text at) at) ≡ true
-  digits-written = rw field-written (all_digits 16 word)
+  pub digits-written : all_digits (field (written word text at) at) ≡ true
+  digits-written = rw field-written (all_digits_lem 16 word)
 
   pub length-written : length (written word text at) ≡ length text
   length-written = rw spelled (simp (length-append, length_digits, front, length-drop) (omega arith))

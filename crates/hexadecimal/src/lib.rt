@@ -1,6 +1,6 @@
 // A 64-bit word as text: 16 lowercase hex digits, the most significant first.
 ghost use Rattle.std.specs.Prelude.{◌≡◌, ◌<◌};
-ghost use Rattle.hex.specs.Hex.{digitValue, digitOf, word_at, Wrote};
+ghost use Rattle.hexadecimal.specs.Hex.{digit_value, digit_of, word_at, Wrote};
 
 // What the 16 bytes at a place of a text say.
 #[derive(Drop)]
@@ -55,7 +55,7 @@ pub fn write(word: u64, out: &mut [u8], at: usize) -> bool
 
 // What a byte is worth as a digit; 16 for a byte that is none.
 fn digit_value(b: u8) -> u64
-    ensures { result ≡ digitValue b }
+    ensures { result ≡ digit_value b }
 {
     if b < b'0' {
         return 16;
@@ -75,7 +75,7 @@ fn digit_value(b: u8) -> u64
 // The digit that is worth n.
 fn digit_of(n: u64) -> u8
     requires { n < 16 }
-    ensures { result ≡ digitOf n }
+    ensures { result ≡ digit_of n }
 {
     if n < 10 {
         return b'0' + n as u8;

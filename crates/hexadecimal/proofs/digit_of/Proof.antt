@@ -1,10 +1,10 @@
--- `hex::digit_of` meets its contract: its two answers are the two cases of `digitOf`. Assumes nothing.
+-- `hexadecimal::digit_of` meets its contract: its two answers are the two cases of `digit_of`. Assumes nothing.
 use mathlib.Core.Path.{sym}
 use native.Mathlib.Omega.{arith}
 use borrow.Author.Rules.{rules}
-use Rattle.hex.proofs.Digits.{figure-of, letter-of}
-use Rattle.hex.proofs.digit_of.Statement.{statement}
-use Rattle.hex.proofs.digit_of.Tie as tie
+use Rattle.hexadecimal.proofs.Digits.{figure-of, letter-of}
+use Rattle.hexadecimal.proofs.digit_of.Statement.{statement}
+use Rattle.hexadecimal.proofs.digit_of.Tie as tie
 
 cast-result : tie.Need-overflow-cast-result
 cast-result c = search rules
