@@ -11,7 +11,7 @@ use quant::refusal::{Answer, number};
 use tables::{Channel, Tables};
 
 // What a line is answered.
-#[derive(Drop)]
+#[derive(Clone, Copy)]
 pub enum Reply {
     // Nothing, or not yet.
     Nothing,

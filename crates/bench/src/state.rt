@@ -15,7 +15,7 @@ use sampler::Request;
 use sheet::names::blank;
 use tables::{Tabled, Tables};
 
-#[derive(Drop)]
+#[derive(Clone, Copy)]
 pub struct State {
     pub tables: Tables,
     pub rows: usize,
@@ -40,7 +40,7 @@ pub(crate) fn start() -> State {
 }
 
 // The state after a line, and the reply.
-#[derive(Drop)]
+#[derive(Clone, Copy)]
 pub struct Changed {
     pub state: State,
     pub reply: Reply,

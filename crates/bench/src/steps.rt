@@ -16,7 +16,7 @@ use numbers::numbers;
 use quant::refusal::Answer;
 
 // The state after a line, and the reply; and the job goes on at `next`, behind the line and so many lines more.
-#[derive(Drop)]
+#[derive(Clone, Copy)]
 pub struct Told {
     pub state: State,
     pub reply: Reply,
@@ -25,7 +25,7 @@ pub struct Told {
 }
 
 // The steps on rows that have numbers.
-#[derive(Drop)]
+#[derive(Clone, Copy)]
 pub enum RowStep {
     Mixer,
     Iir,

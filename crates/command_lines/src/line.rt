@@ -6,7 +6,7 @@ use quant::quantity::{Amplitude, Frequency, Phase, Time};
 use sampler::Request;
 use words::{choice, float, level, name, readable, word};
 
-#[derive(Drop)]
+#[derive(Clone, Copy)]
 pub(crate) enum Line {
     Tables(Amplitude, Time, bool),
     Channel(Name, OscState),
@@ -20,7 +20,7 @@ pub(crate) enum Line {
 }
 
 // A sampling: what is asked for, the lengths and the samples of what is lent, and where the rows are printed from.
-#[derive(Drop)]
+#[derive(Clone, Copy)]
 pub(crate) struct Ask {
     pub(crate) request: Request,
     pub(crate) i: usize,

@@ -9,7 +9,7 @@ use naming::Name;
 use quant::quantity::{Amplitude, Time};
 use tables::{Tabled, Tables};
 
-#[derive(Drop)]
+#[derive(Clone, Copy)]
 pub(crate) struct State {
     pub(crate) tables: Tables,
     pub(crate) count: usize,

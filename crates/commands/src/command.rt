@@ -9,7 +9,7 @@ use quant::quantity::{Amplitude, Frequency, Phase, Time};
 use tables::Tables;
 
 // Without a shape, `shaped` is false and the shape's name is not read.
-#[derive(Drop)]
+#[derive(Clone, Copy)]
 pub struct Play {
     pub channel: Name,
     pub shaped: bool,
@@ -23,7 +23,7 @@ pub struct Play {
     pub flexible: bool,
 }
 
-#[derive(Drop)]
+#[derive(Clone, Copy)]
 pub enum Command {
     Play(Play),
     ShiftPhase(Name, Phase),
@@ -34,7 +34,7 @@ pub enum Command {
     Barrier,
 }
 
-#[derive(Drop)]
+#[derive(Clone, Copy)]
 pub struct Arranged {
     pub start: Time,
     pub span: Time,

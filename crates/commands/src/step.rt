@@ -14,7 +14,7 @@ use tables::{Channel, Found, Tables, find, with_channel};
 
 // `stop`: refused, by `why`. `put`: a pulse is to be stored behind the first `count` records from `from` on. `opens`: its bin is new, and
 // its row, the head with the numbers at the place `spline` behind it, goes to the place `at`. The tables are those afterwards.
-#[derive(Drop)]
+#[derive(Clone, Copy)]
 pub struct Step {
     pub stop: bool,
     pub why: Refusal,

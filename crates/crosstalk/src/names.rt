@@ -7,7 +7,7 @@ use quant::refusal::{Answer, Refusal};
 use tables::{Found, Tables, find};
 
 // The first `count` names are there.
-#[derive(Drop)]
+#[derive(Clone, Copy)]
 pub struct Crosstalk {
     pub count: usize,
     pub names: [Name; 8],

@@ -10,7 +10,7 @@ use quant::refusal::{Answer, Refusal};
 use tables::{Found, Tables, find};
 
 // Refused, no list takes part.
-#[derive(Drop)]
+#[derive(Clone, Copy)]
 pub struct Plan {
     pub refused: bool,
     pub answer: Answer,

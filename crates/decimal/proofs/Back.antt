@@ -10,7 +10,7 @@ use lib.Ieee.Bits.{nan_bits_is, of_bits-to_bits, to_bits-of_bits, to_bits-lt}
 use Rattle.lines.proofs.Nan.{is-not}
 use Rattle.hexadecimal.specs.declared.Word.TheVariants.{Bits}
 use Rattle.hexadecimal.specs.Hex.{digits, field, room, word_at}
-use Rattle.hexadecimal.proofs.Number.{all_digits, length_digits, number_digits}
+use Rattle.hexadecimal.proofs.Number.{all_digits_lem, length_digits, number_digits}
 use Rattle.decimal.specs.declared.number.Number.TheVariants.{Double}
 use Rattle.decimal.specs.Number.{number_of}
 
@@ -18,7 +18,7 @@ word-is : (b : ℕ) → b < 2 ^ 64 → word_at (digits 16 b) 0 ≡ Bits b
 unfolding word_at room field
 word-is b small =
     let all = take_all 16 (digits 16 b) (rw (length_digits 16 b) (lit≤ tt)) in
-    rw (length_digits 16 b, all, all_digits 16 b, number_digits 16 b) (ap Bits (mod-eq_of_lt small))
+    rw (length_digits 16 b, all, all_digits_lem 16 b, number_digits 16 b) (ap Bits (mod-eq_of_lt small))
 
 -- the 16 digits of a pattern are read as the double that it stands for
 pub pattern-read : (b : ℕ) → b < 2 ^ 64 → number_of (digits 16 b) ≡ Double (of_bits binary64 b)

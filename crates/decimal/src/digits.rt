@@ -3,7 +3,7 @@ ghost use Rattle.std.specs.Prelude.{◌≡◌, ◌+◌, ◌-◌, ◌*◌, ◌^�
 ghost use Rattle.decimal.specs.Digits.{place_of, digit_of, digits_from, digits_of};
 ghost use Rattle.decimal.specs.Number.{mark_of};
 
-#[derive(Drop)]
+#[derive(Clone, Copy)]
 pub enum Digits {
     Value(u64),
     // There are none, too many, or another byte stands among them.

@@ -7,7 +7,7 @@ use super::digits::{Digits, figures, mark};
 use super::scale::{decimal_scaled, hex_scaled};
 use hexadecimal::Word;
 
-#[derive(Drop)]
+#[derive(Clone, Copy)]
 pub enum Number {
     Double(f64),
     // The word is no number.
@@ -15,7 +15,7 @@ pub enum Number {
 }
 
 // What stands behind the mark.
-#[derive(Drop)]
+#[derive(Clone, Copy)]
 pub enum Power {
     Up(u64),
     Down(u64),

@@ -5,7 +5,7 @@ ghost use Rattle.decimal.specs.Number.{few_of};
 use super::digits::{Digits, behind, follow, place};
 
 // As a whole number, and how many of them stand behind the point.
-#[derive(Drop)]
+#[derive(Clone, Copy)]
 pub enum Significand {
     Whole(u64, u64),
     Bad,

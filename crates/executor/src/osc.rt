@@ -9,7 +9,7 @@ use quant::quantity::{Frequency, Phase, Time};
 
 // Base frequency, delta frequency, phase.
 #[repr(C)]
-#[derive(Drop)]
+#[derive(Clone, Copy)]
 pub struct OscState {
     pub base: Frequency,
     pub delta: Frequency,
@@ -19,7 +19,7 @@ pub struct OscState {
 // The state after a command. Where a number worked out on the way is not finite the command is refused, and the state is the one that came.
 // `moved_answer` and `swapped_answer` say by which number.
 #[repr(C)]
-#[derive(Drop)]
+#[derive(Clone, Copy)]
 pub struct Moved {
     pub refused: bool,
     pub osc: OscState,
@@ -27,7 +27,7 @@ pub struct Moved {
 
 // The same of two channels.
 #[repr(C)]
-#[derive(Drop)]
+#[derive(Clone, Copy)]
 pub struct Swapped {
     pub refused: bool,
     pub one: OscState,

@@ -6,7 +6,7 @@ ghost use Rattle.fields.specs.Value.{pair_field};
 use super::value::number_in;
 use decimal::number::Number;
 
-#[derive(Drop)]
+#[derive(Clone, Copy)]
 pub enum Pair {
     Both(f64, f64),
     Bad,

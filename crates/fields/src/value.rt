@@ -10,26 +10,26 @@ use naming::{Name, Naming, from_bytes};
 use sheet::names::blank;
 
 // A name that breaks document 01's rule is handed on as the name of no bytes, which breaks it too.
-#[derive(Drop)]
+#[derive(Clone, Copy)]
 pub enum Called {
     Name(Name),
     Bad,
 }
 
 // Whether there is a shape, and its name.
-#[derive(Drop)]
+#[derive(Clone, Copy)]
 pub enum Shaped {
     As(bool, Name),
     Bad,
 }
 
-#[derive(Drop)]
+#[derive(Clone, Copy)]
 pub enum Flag {
     Is(bool),
     Bad,
 }
 
-#[derive(Drop)]
+#[derive(Clone, Copy)]
 pub enum Level {
     Is(i32),
     Bad,

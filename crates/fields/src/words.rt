@@ -6,7 +6,7 @@ use decimal::digits::place;
 use sheet::line::starts;
 
 // Where a value stands in a line.
-#[derive(Drop)]
+#[derive(Clone, Copy)]
 pub enum Span {
     At(usize, usize),
     // The word starts otherwise than with the key.

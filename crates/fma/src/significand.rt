@@ -3,7 +3,7 @@ ghost use Rattle.std.specs.Prelude.{◌*◌, ◌%◌, ◌^◌, ◌<◌};
 ghost use Rattle.fma.specs.Significand.{Shifted, Significand};
 
 // m * 2^e
-#[derive(Drop)]
+#[derive(Clone, Copy)]
 pub struct Scaled {
     pub m: u64,
     pub e: u64,

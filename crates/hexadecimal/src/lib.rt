@@ -3,7 +3,7 @@ ghost use Rattle.std.specs.Prelude.{◌≡◌, ◌<◌};
 ghost use Rattle.hexadecimal.specs.Hex.{digit_value, digit_of, word_at, Wrote};
 
 // What the 16 bytes at a place of a text say.
-#[derive(Drop)]
+#[derive(Clone, Copy)]
 pub enum Word {
     Bits(u64),
     // The text is too short there, or one of the bytes is no digit.

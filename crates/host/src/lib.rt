@@ -52,7 +52,7 @@ pub extern "C" fn skierralu_sin(x: f64) -> f64
 
 // An aligned index: the code is 0, or 8.
 #[repr(C)]
-#[derive(Drop)]
+#[derive(Clone, Copy)]
 pub struct Index {
     pub code: usize,
     pub index: f64,
@@ -60,7 +60,7 @@ pub struct Index {
 
 // A start and an offset: the code is 0, or 8, 9 or 10.
 #[repr(C)]
-#[derive(Drop)]
+#[derive(Clone, Copy)]
 pub struct Place {
     pub code: usize,
     pub start: usize,

@@ -35,6 +35,8 @@ pub value : (x : Float) (s : Bool) (a d : ℕ) → 0 < d → T (fits binary64 x)
 value (fin t m e) s a d D f v =
     subst (λ (u : Bool). HasValue (ceiling (fin t m e)) u (whole_toward u a d) 1) v.0
     (subst (λ (n : ℕ). HasValue (ceiling (fin t m e)) t n 1) (toward-same t (m * up e) (down e) a d (down_pos e) D v.1) (own_value t m e f))
+value nan s a d D f v = elim v [ ]
+value (inf _) s a d D f v = elim v [ ]
 
 -- the same with n's bounds, in plain whole numbers
 pub ceiling-at : (x : Float) (s : Bool) (a d : ℕ) → 0 < d → T (fits binary64 x) → HasValue x s a d → CeilingAt s a d (ceiling x)
@@ -53,9 +55,13 @@ ceiling-fits (fin s m e) = round-fits binary64 s (whole_toward s (m * up e) (dow
 
 pub finite-of-value : (x : Float) (s : Bool) (a d : ℕ) → HasValue x s a d → T (finite x)
 finite-of-value (fin t m e) s a d v = tt
+finite-of-value nan s a d v = elim v [ ]
+finite-of-value (inf _) s a d v = elim v [ ]
 
 pub ceiling-finite : (x : Float) → T (fits binary64 x) → T (finite x) → T (finite (ceiling x))
 ceiling-finite (fin s m e) f t = finite-of-value (ceiling (fin s m e)) s (whole_toward s (m * up e) (down e)) 1 (own_value s m e f)
+ceiling-finite nan f t = elim t [ ]
+ceiling-finite (inf _) f t = elim t [ ]
 
 -- what has the ceiling's value is the ceiling
 pub is-ceiling : (x y : Float) (s : Bool) (a d : ℕ) → 0 < d → T (fits binary64 x) → T (fits binary64 y) → HasValue x s a d → HasValue y s (whole_toward s a d) 1 → y ≡ ceiling x
@@ -81,6 +87,8 @@ large-fixed s m (negsuc k) f h = absurd (too_large m (2 ^ suc k) (2 ^ k) (held s
 
 whole-of-value : (x : Float) (s : Bool) (n : ℕ) → HasValue x s n 1 → T (is_whole x)
 whole-of-value (fin t m e) s n v = eq→eqb (ap (λ (z : ℕ). z % down e) (sym (mul-one (m * up e)) ∙ v.1) ∙ mul-mod_left n (down e))
+whole-of-value nan s n v = elim v [ ]
+whole-of-value (inf _) s n v = elim v [ ]
 
 -- a whole number is a natural one with a sign
 pub record Natural (x : Float) : Type 0 where
@@ -94,6 +102,8 @@ natural (fin s m e) t = record {
   n = m * up e / down e;
   value = (refl, mul-one (m * up e) ∙ sym (divided (m * up e) (down e) (eqb→eq (m * up e % down e) 0 t)));
 }
+natural nan t = elim t [ ]
+natural (inf _) t = elim t [ ]
 
 not-below : (s : Bool) (a d n : ℕ) → TowardPositive s a d n → AtMost s (a * 1) s (n * d)
 not-below true a d n h = le_trans h.reaches (le_of_eq (sym (mul-one a)))
@@ -124,3 +134,5 @@ least (fin s m e) f t =
           le-of-fractions (ceiling x) z s i.s n 1 i.n 1 (pow_pos 0) (pow_pos 0) v i.value
           (no_more s i.s a d n i.n (down_pos e) o (fractions-of-le x z s i.s a d i.n 1 (down_pos e) (pow_pos 0) (refl, refl) i.value h));
     }
+least nan f t = elim t [ ]
+least (inf _) f t = elim t [ ]

@@ -1,7 +1,7 @@
 -- `le` of two finite values is the order of the signed fractions that they equal. Assumes nothing.
 use Rattle.std.proofs.Common.{◌≡◌, ℕ, ◌+◌, ◌*◌, ◌<◌, ◌≤◌, Bool, true, false, ◌&&◌, ◌||◌, T, eqb, ltb, ◌⊎◌, sym, ◌∙◌, subst, inl, inr, zero-le, le_trans, le_of_eq, le_of_lt, eq-zero-or-pos, eq-or-lt_of_le, zero-mul, arith, eqb→eq, ltb→lt, lt→ltb}
 use lib.Arith.{le-zero}
-use lib.Ieee.{Float, fin, up, down, below, level, le}
+use lib.Ieee.{Float, fin, up, down, below, level, le, inf, nan}
 use lib.Ieee.Fits.{down_pos, and_i, and_l, and_r, eq→eqb}
 use lib.Ieee.Exact.{HasValue}
 use lib.Ieee.Order.{transfer}
@@ -61,6 +61,10 @@ le-of-fractions (fin s m e) (fin t n g) s' t' a c b d C D v w h =
     tested s t (m * up e * down g) (n * up g * down e)
     (move s t (m * up e) (n * up g) (down e) (down g) a b c d C D v.1 w.1
     (subst (λ (u : Bool). AtMost u (a * d) t (b * c)) (sym v.0) (subst (λ (u : Bool). AtMost s' (a * d) u (b * c)) (sym w.0) h)))
+le-of-fractions nan y s' t' a c b d C D v w h = elim v [ ]
+le-of-fractions (inf _) y s' t' a c b d C D v w h = elim v [ ]
+le-of-fractions (fin s m e) nan s' t' a c b d C D v w h = elim w [ ]
+le-of-fractions (fin s m e) (inf _) s' t' a c b d C D v w h = elim w [ ]
 
 pub fractions-of-le : (x y : Float) (s t : Bool) (a c b d : ℕ) → 0 < c → 0 < d → HasValue x s a c → HasValue y t b d → T (le x y) → AtMost s (a * d) t (b * c)
 unfolding le
@@ -68,3 +72,7 @@ fractions-of-le (fin s m e) (fin t n g) s' t' a c b d C D v w h =
     subst (λ (u : Bool). AtMost u (a * d) t' (b * c)) v.0
     (subst (λ (u : Bool). AtMost s (a * d) u (b * c)) w.0
     (move s t a b c d (m * up e) (n * up g) (down e) (down g) (down_pos e) (down_pos g) (sym v.1) (sym w.1) (says s t (m * up e * down g) (n * up g * down e) h)))
+fractions-of-le nan y s' t' a c b d C D v w h = elim v [ ]
+fractions-of-le (inf _) y s' t' a c b d C D v w h = elim v [ ]
+fractions-of-le (fin s m e) nan s' t' a c b d C D v w h = elim w [ ]
+fractions-of-le (fin s m e) (inf _) s' t' a c b d C D v w h = elim w [ ]

@@ -1,6 +1,6 @@
 -- Laws of `cut_of`, by the fraction that a number equals: it sees only the number's sign and whole part. Assumes nothing.
 use Rattle.std.proofs.Common.{◌≡◌, ℕ, ◌*◌, ◌/◌, ◌^◌, ◌<◌, ◌≤◌, Bool, true, false, cond, T, ap, ◌∙◌, div-one, pow_pos, le-ltb, lt-ltb, ne_eqb}
-use lib.Ieee.{Float, fin, binary64, up, down, fits}
+use lib.Ieee.{Float, fin, binary64, up, down, fits, inf, nan}
 use lib.Ieee.Fits.{down_pos}
 use lib.Ieee.Exact.{HasValue}
 use lib.Ieee.Nearest.{div_same}
@@ -22,6 +22,8 @@ index_below w h = ap (λ (b : Bool). cond b (Index 0) Below) (ne_eqb w 0 h)
 pub cut-value : (x : Float) (s : Bool) (a c : ℕ) → 0 < c → HasValue x s a c → cut_of x ≡ index_of s (a / c)
 unfolding cut_of
 cut-value (fin t m e) s a c C v = ap (λ (b : Bool). index_of b (m * up e / down e)) v.0 ∙ ap (index_of s) (div_same (m * up e) (down e) a c (down_pos e) C v.1)
+cut-value nan s a c C v = elim v [ ]
+cut-value (inf _) s a c C v = elim v [ ]
 
 -- a number that is not negative, with its whole part below 2 ^ 64
 pub cut-within : (x : Float) (a c : ℕ) → 0 < c → HasValue x false a c → a / c < 2 ^ 64 → cut_of x ≡ Index (a / c)

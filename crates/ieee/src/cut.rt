@@ -5,7 +5,7 @@ ghost use Rattle.ieee.specs.Cut.{cut_of};
 use std::num::truncating_f64_to_u64;
 
 // An index, a number below or above every index, or no number.
-#[derive(Drop)]
+#[derive(Clone, Copy)]
 pub enum Cut {
     Index(usize),
     Below,

@@ -77,7 +77,7 @@ data AllKin : List Biquad → List Biquad → Type 0 where
 through-kin : {b c : Biquad} {xs ys : List Float} → Kin b c → AlikeRows xs ys → AlikeRows (through b xs) (through c ys)
 unfolding through
 through-kin h ended = ended
-through-kin h (next k ks) = let g = ran-kin h k in next g.y (through-kin g ks)
+through-kin {b = b} {c = c} h (next {x = x} {y = y} {xs = xs} {ys = ys} k ks) = let g = ran-kin h k in next g.y (through-kin {b = ran b x} {c = ran c y} g ks)
 
 passed-kin : {bs cs : List Biquad} {xs ys : List Float} → AllKin bs cs → AlikeRows xs ys → AlikeRows (passed bs xs) (passed cs ys)
 passed-kin no_more k = k

@@ -4,7 +4,7 @@ ghost use Rattle.iir.specs.Section.{ran, section_at, a0s_judged};
 
 use quant::refusal::{Answer, Refusal};
 
-#[derive(Drop)]
+#[derive(Clone, Copy)]
 pub struct Biquad {
     pub b0: f64,
     pub b1: f64,

@@ -21,7 +21,7 @@ pub(crate) fn one(row: &mut [f64], a: Biquad)
 }
 
 // A section for each of two rows.
-#[derive(Drop)]
+#[derive(Clone, Copy)]
 pub struct Beside {
     pub i: Biquad,
     pub q: Biquad,

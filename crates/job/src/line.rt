@@ -14,7 +14,7 @@ use fields::words::{count, is_word};
 use naming::Name;
 use quant::quantity::{Amplitude, Frequency, Phase, Time};
 
-#[derive(Drop)]
+#[derive(Clone, Copy)]
 pub struct Sampling {
     pub channel: Name,
     pub rate: Frequency,
@@ -23,7 +23,7 @@ pub struct Sampling {
 }
 
 // Lists are told by their counts; a caller takes their names and numbers from the line.
-#[derive(Drop)]
+#[derive(Clone, Copy)]
 pub enum Line {
     // An empty line, or one that begins with `#`.
     Nothing,

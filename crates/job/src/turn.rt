@@ -9,7 +9,7 @@ use fields::value::{Called, name_in, number_in};
 use fields::words::count;
 use naming::Name;
 
-#[derive(Drop)]
+#[derive(Clone, Copy)]
 pub enum Turn {
     By(Name, f64, f64, f64),
     Bad,

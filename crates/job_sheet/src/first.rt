@@ -4,7 +4,7 @@ ghost use Rattle.job_sheet.specs.First.{lines_bytes, first_of};
 
 use lines::text::line_end;
 
-#[derive(Drop)]
+#[derive(Clone, Copy)]
 pub enum First {
     // How many bytes they have.
     Bytes(usize),

@@ -9,7 +9,7 @@ use sheet::read::{Reading, read};
 
 pub mod first;
 
-#[derive(Drop)]
+#[derive(Clone, Copy)]
 pub enum Inset {
     // The job has fewer lines behind it.
     Fewer,
@@ -18,7 +18,7 @@ pub enum Inset {
 }
 
 // The crosstalk of the samplings that follow, and how many lines and bytes the sheet has: the job goes on behind them.
-#[derive(Drop)]
+#[derive(Clone, Copy)]
 pub struct Taken {
     pub inset: Inset,
     pub crosstalk: Crosstalk,

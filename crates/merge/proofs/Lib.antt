@@ -1,8 +1,6 @@
 -- What is proved of no one function.
 pub mod Over
 pub mod Kept
-pub mod Lending
-pub mod Callees
 pub mod Turns
 pub mod Spans
 pub mod Lists

@@ -20,9 +20,8 @@ use Rattle.merge.specs.Sum.{together_in_bin, summed}
 use Rattle.merge.specs.Taking.{Part, records_of, list_of, zipped, parts_in}
 use Rattle.merge.specs.Work.{row_of_pulse, mark_of, over, Laid, laid, laid_on, lists_of, in_one, ends_from, no_ends, sizes_fit, Gathered, gathered, gathered_of}
 use Rattle.merge.specs.Keep.{lists_in, span_of, with_end}
-use Rattle.merge.proofs.Callees.{Rows, IsEnds}
 use Rattle.merge.proofs.Kept.{summed-length}
-use Rattle.merge.proofs.Over.{over-nil, over-cons, over-append}
+use Rattle.merge.proofs.Over.{Rows, over-nil, over-cons, over-append}
 use Rattle.merge.proofs.Spans.{spans}
 
 -- ---- the lists that take part are those of the first places
@@ -157,7 +156,6 @@ pub record Upto (t : Tables) (taking : Taking) (ps : List Pulse) (rows : Rows) (
   pub ys : Rows
   pub ms : List ℕ
   pub es : Ends
-  pub good : IsEnds es
   pub within : k ≤ lists_in taking
   pub near : at ≤ 1024 * k
   pub long-w : length ys ≡ length rows
@@ -165,16 +163,15 @@ pub record Upto (t : Tables) (taking : Taking) (ps : List Pulse) (rows : Rows) (
   pub long-e : length es.ends ≡ 8
   pub left : still (lists t taking ps) k at ys ms es.ends ≡ gathered_of t (parts_in taking) ps rows marks
 
-unfoldable pub begun : (t : Tables) (taking : Taking) (ps : List Pulse) (rows : Rows) (marks : List ℕ) (es : Ends) → IsEnds es → es ≡ no_ends → sizes_fit (length ps) (length rows)
+unfoldable pub begun : (t : Tables) (taking : Taking) (ps : List Pulse) (rows : Rows) (marks : List ℕ) (es : Ends) → es ≡ no_ends → sizes_fit (length ps) (length rows)
     (length marks) ≡ true → Upto t taking ps rows marks
-begun t taking ps rows marks es g e fit =
+begun t taking ps rows marks es e fit =
     record {
       k = 0;
       at = 0;
       ys = rows;
       ms = marks;
       es = es;
-      good = g;
       within = zero-le;
       near = omega arith;
       long-w = refl;
@@ -212,8 +209,8 @@ module _ (t : Tables) (taking : Taking) (ps : List Pulse) (rows : Rows) (marks :
 
     unfoldable pub next : (r : ℕ) (zs : Rows) (us : List ℕ) (es : Ends) → laid zs us r ≡ laid_on (summed t.time.0 (take (span_of t place).count (drop (span_of t place).from ps))) u.at u.ys
         u.ms → length zs ≡ length u.ys → length us ≡ length u.ms
-        → es ≡ with_end u.es u.k r → IsEnds es → Upto t taking ps rows marks
-    next r zs us es lays lz lu ee g =
+        → es ≡ with_end u.es u.k r → Upto t taking ps rows marks
+    next r zs us es lays lz lu ee =
         let s = spans t ps long.pulses place in
         let lays-l : laid zs us r ≡ laid_on (list_of t ps place) u.at u.ys u.ms = rw s.same at lays in
         let short : length (list_of t ps place) ≤ length (records_of t ps place) = summed-length (together_in_bin t.time.0) (records_of t ps place) in
@@ -227,8 +224,7 @@ module _ (t : Tables) (taking : Taking) (ps : List Pulse) (rows : Rows) (marks :
           ys = zs;
           ms = us;
           es = es;
-          good = g;
-          within = add-one-le less;
+              within = add-one-le less;
           near = omega (arith, u.near);
           long-w = lz ∙ u.long-w;
           long-m = lu ∙ u.long-m;

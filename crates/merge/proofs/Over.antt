@@ -4,9 +4,14 @@ use mathlib.Core.Path.{◌≡◌, sym}
 use Prim.{⊥}
 use mathlib.Core.List.{List, [], ◌∷◌, ◌++◌}
 use native.Mathlib.Omega.{arith}
+use lib.Ieee.{Float}
 use lib.ListN.{length, take, drop, get_or, set, length-set, take-append-drop}
 use lib.Seq.{take-suc-set, drop-set-lt, set-set, set-get_or, append_snoc}
 use Rattle.merge.specs.Work.{over}
+
+-- rows of numbers
+abbrev pub Rows : Type 0
+Rows = List (List Float)
 
 module _ {A : Type 0} where
   pub over-nil : (n : ℕ) (l : List A) → over n [] l ≡ l

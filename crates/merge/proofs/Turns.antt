@@ -14,7 +14,7 @@ use Rattle.pulse.proofs.Placed.{none}
 use Rattle.merge.specs.Sum.{together_in_bin, summed}
 use Rattle.merge.specs.Work.{Laid, laid, laid_on}
 use Rattle.merge.specs.Keep.{last_in, kept_in, kept_all}
-use Rattle.merge.proofs.Callees.{Rows}
+use Rattle.merge.proofs.Over.{Rows}
 use Rattle.merge.proofs.Kept.{kept-summed}
 
 -- one pulse takes at most one row more

@@ -1,5 +1,4 @@
 // The summed lists in lent work rows: a row of five numbers for each pulse (time, amp, drag), and beside it the place of its bin.
-// `sum_lists` and `sum_list` take a slice of records and are proved by hand; all else is covered.
 ghost use Rattle.std.specs.Prelude.{◌≡◌, ◌+◌, ◌<◌, ◌≤◌, length, get_or, take, drop};
 ghost use Rattle.merge.specs.Sum.{together_in_bin, summed};
 ghost use Rattle.merge.specs.Taking.{parts_in};
@@ -15,13 +14,13 @@ use quant::quantity::Time;
 use tables::Tables;
 
 // Where the rows of each list end; the first begins at 0, each other where the one before it ends.
-#[derive(Drop)]
+#[derive(Clone, Copy)]
 pub struct Ends {
     pub ends: [usize; 8],
 }
 
 // Where the records of a list lie.
-#[derive(Drop)]
+#[derive(Clone, Copy)]
 pub struct Span {
     pub from: usize,
     pub count: usize,

@@ -13,7 +13,7 @@ use pulse::bin::{head_in, place};
 use tables::Tables;
 
 // Where a bin stands among those of one list.
-#[derive(Drop)]
+#[derive(Clone, Copy)]
 pub struct Target {
     pub some: bool,
     pub place: usize,

@@ -16,13 +16,13 @@ use quant::settings::Settings;
 use shape::envelope::envelope;
 
 // Whether the scratch holds an envelope of the bin at hand, and at which offset.
-#[derive(Drop)]
+#[derive(Clone, Copy)]
 pub struct Held {
     pub some: bool,
     pub offset: f64,
 }
 
-#[derive(Drop)]
+#[derive(Clone, Copy)]
 pub enum Added {
     Onto(Held),
     Refused(Refusal),

@@ -8,7 +8,7 @@ use quant::complex::Complex;
 use quant::quantity::Time;
 
 // What is left of one list: its rows from `at` up to `end` whose mark is the bin's place in that list.
-#[derive(Drop)]
+#[derive(Clone, Copy)]
 pub struct Run {
     pub at: usize,
     pub end: usize,
@@ -17,14 +17,14 @@ pub struct Run {
 }
 
 // The first `count` are there.
-#[derive(Drop)]
+#[derive(Clone, Copy)]
 pub struct Runs {
     pub count: usize,
     pub runs: [Run; 8],
 }
 
 // The pulse that comes next: its list, and its row.
-#[derive(Drop)]
+#[derive(Clone, Copy)]
 pub struct Picked {
     pub some: bool,
     pub list: usize,

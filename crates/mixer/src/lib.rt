@@ -181,7 +181,7 @@ fn two_by_doubles(
 }
 
 // m x + n y and m z + n w, fused: m is h + l, x is g + s, and z is u + v.
-#[derive(Drop)]
+#[derive(Clone, Copy)]
 struct Fused {
     first: f64,
     second: f64,

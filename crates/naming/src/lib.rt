@@ -5,14 +5,14 @@ ghost use Rattle.naming.specs.Name.{name_byte, every, word_of, bytes_of_word, si
 
 // Byte i of a name is byte i of first, counted from the least significant, for i < 8, and byte i - 8 of second from 8 on.
 // The three numbers may be any: `is_name` judges them.
-#[derive(Drop)]
+#[derive(Clone, Copy)]
 pub struct Name {
     pub first: u64,
     pub second: u64,
     pub len: usize,
 }
 
-#[derive(Drop)]
+#[derive(Clone, Copy)]
 pub enum Naming {
     Named(Name),
     // The text breaks the rule: refusal 2.

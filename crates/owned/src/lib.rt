@@ -10,7 +10,7 @@ use pulse::list::Pulse;
 use quant::refusal::{Answer, Refusal};
 use tables::{Tabled, Tables};
 
-#[derive(Drop)]
+#[derive(Clone, Copy)]
 pub struct Executed {
     pub tabled: Tabled,
     pub pulses: [Pulse; 8192],

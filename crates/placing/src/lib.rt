@@ -20,7 +20,7 @@ use shape::envelope::{Enveloped, measure};
 use shape::parts::samples;
 
 // A pulse without a shape: `count` samples from `start` on. The carrier starts at phaser*amp.
-#[derive(Drop)]
+#[derive(Clone, Copy)]
 pub struct Flat {
     pub start: usize,
     pub count: usize,
@@ -29,7 +29,7 @@ pub struct Flat {
 }
 
 // A pulse with a shape: its envelope, `offset` samples behind the aligned index, has `points` points. The drag is multiplied by the rate.
-#[derive(Drop)]
+#[derive(Clone, Copy)]
 pub struct Curved {
     pub start: usize,
     pub offset: f64,
@@ -40,7 +40,7 @@ pub struct Curved {
     pub rotation: Complex,
 }
 
-#[derive(Drop)]
+#[derive(Clone, Copy)]
 pub enum Judged {
     Plateau(Flat),
     Shaped(Curved),

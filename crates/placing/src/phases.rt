@@ -10,7 +10,7 @@ use quant::settings::Settings;
 use rows::all_finite;
 use std::num::nearest_u64_to_f64;
 
-#[derive(Drop)]
+#[derive(Clone, Copy)]
 pub enum Turned {
     // At the start, and from one sample to the next.
     Pairs(Complex, Complex),

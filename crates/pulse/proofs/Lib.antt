@@ -1,12 +1,9 @@
 -- What is proved of no one function.
 pub mod Envelopes
 pub mod Filled
-pub mod Lent
 pub mod Order
 pub mod Place
 pub mod Placed
-pub mod Records
 pub mod Rows
 pub mod Sorted
 pub mod Stored
-pub mod Walk

@@ -12,7 +12,7 @@ use quant::judge::both;
 use quant::quantity::{Frequency, Time};
 use spline::same::same;
 
-#[derive(Drop)]
+#[derive(Clone, Copy)]
 pub struct Bin {
     pub envelope: Envelope,
     pub global: Frequency,

@@ -5,14 +5,14 @@ ghost use Rattle.pulse.specs.Envelope.{is_shaped, envelope_of};
 use quant::quantity::Time;
 
 // `Plain`: no shape, a plateau only. `Spline`: its 72 numbers stand beside it, since an enum holds no array.
-#[derive(Drop)]
+#[derive(Clone, Copy)]
 pub enum Shape {
     Plain,
     Hann,
     Spline,
 }
 
-#[derive(Drop)]
+#[derive(Clone, Copy)]
 pub struct Envelope {
     pub shape: Shape,
     pub width: Time,

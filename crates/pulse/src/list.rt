@@ -1,5 +1,4 @@
 // The records of a channel, in a lent slice: by bin, then by time, equal times in order of pushing.
-// `store` takes a slice of records and is proved by hand; all else is covered.
 ghost use Rattle.std.specs.Prelude.{◌≡◌, ◌+◌, ltb};
 ghost use Rattle.pulse.specs.List.{stays_before, stored};
 
@@ -7,7 +6,7 @@ use quant::complex::Complex;
 use quant::quantity::Time;
 
 // `bin` is the place of its bin in the channel.
-#[derive(Drop)]
+#[derive(Clone, Copy)]
 pub struct Pulse {
     pub bin: usize,
     pub time: Time,

@@ -10,14 +10,14 @@ use quant::phaser::{Phased, phaser};
 use quant::quantity::{Amplitude, Phase};
 
 // The drag is not yet multiplied by the sample rate.
-#[derive(Drop)]
+#[derive(Clone, Copy)]
 pub struct Weight {
     pub amp: Complex,
     pub drag: Complex,
 }
 
 // `weighed_answer` says which refusal.
-#[derive(Drop)]
+#[derive(Clone, Copy)]
 pub enum Weighed {
     Fine(Weight),
     // A number worked out is not finite.

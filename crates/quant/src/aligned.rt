@@ -10,7 +10,7 @@ use ieee::exp2::exp2;
 use ieee::finite::is_finite;
 
 // An index that is a multiple of 2^level, in samples. `aligned_answer` and `placed_answer` say which case is which refusal.
-#[derive(Drop)]
+#[derive(Clone, Copy)]
 pub enum Aligned {
     Index(f64),
     // A number worked out on the way.
@@ -18,7 +18,7 @@ pub enum Aligned {
 }
 
 // The sample that a pulse starts at, and how far that lies behind the aligned index, from 0 up to 1.
-#[derive(Drop)]
+#[derive(Clone, Copy)]
 pub enum Placed {
     Start(usize, f64),
     NotFinite,

@@ -7,7 +7,7 @@ use super::quantity::Phase;
 use ieee::finite::is_finite;
 
 // `phased_answer` says which refusal.
-#[derive(Drop)]
+#[derive(Clone, Copy)]
 pub enum Phased {
     Pair(Complex),
     // phase*TAU is not finite.

@@ -6,21 +6,21 @@ ghost use Rattle.exact.specs.Doubles.{one};
 
 // Seconds.
 #[repr(C)]
-#[derive(Drop)]
+#[derive(Clone, Copy)]
 pub struct Time(pub f64);
 
 // Turns a second.
 #[repr(C)]
-#[derive(Drop)]
+#[derive(Clone, Copy)]
 pub struct Frequency(pub f64);
 
 // Turns.
 #[repr(C)]
-#[derive(Drop)]
+#[derive(Clone, Copy)]
 pub struct Phase(pub f64);
 
 #[repr(C)]
-#[derive(Drop)]
+#[derive(Clone, Copy)]
 pub struct Amplitude(pub f64);
 
 impl Time {

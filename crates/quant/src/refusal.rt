@@ -4,7 +4,7 @@ ghost use Rattle.quant.specs.Refusal.{number_of, code_of};
 
 // One case for each number of document 01's table and of document 02, in their order: `number_of` gives the number. No case gives 14: 17, 18 and 19
 // are told instead.
-#[derive(Drop)]
+#[derive(Clone, Copy)]
 pub enum Refusal {
     // 1: sample rate, 1/rate, delay, tolerance or align level unfit
     Unfit,
@@ -47,7 +47,7 @@ pub enum Refusal {
 }
 
 // The count of commands run or pulses added; or the refusal and its place. `reply_of` gives number, place and count.
-#[derive(Drop)]
+#[derive(Clone, Copy)]
 pub enum Answer {
     Done(usize),
     Refused(Refusal, usize),

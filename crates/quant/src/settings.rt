@@ -6,7 +6,7 @@ use super::judge::both;
 use super::quantity::{Frequency, Time};
 use ieee::finite::is_finite;
 
-#[derive(Drop)]
+#[derive(Clone, Copy)]
 pub struct Settings {
     pub rate: Frequency,
     pub dt: Time,
@@ -15,7 +15,7 @@ pub struct Settings {
 }
 
 // `fitting_answer` says which refusal.
-#[derive(Drop)]
+#[derive(Clone, Copy)]
 pub enum Fitting {
     Fit(Settings),
     Unfit,

@@ -70,7 +70,7 @@ pub(crate) fn two(row: &mut [f64], ring: &mut [f64], taps: &[f64], k: usize, s: 
     row[k + 1] = sums.second;
 }
 
-#[derive(Drop)]
+#[derive(Clone, Copy)]
 struct Sums {
     first: f64,
     second: f64,

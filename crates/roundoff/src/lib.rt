@@ -20,7 +20,7 @@ pub fn product_off(a: f64, h: f64, l: f64, x: f64, g: f64, m: f64) -> f64
 
 // Of two doubles between which s - (t + e), exactly, lies, the one farther from s, and by how much it is more than the other. Where that is 0, `far` is that sum,
 // rounded once.
-#[derive(Drop)]
+#[derive(Clone, Copy)]
 pub struct Enclosure {
     pub far: f64,
     pub off: f64,

@@ -23,7 +23,7 @@ use rows::rows_fit;
 use tables::Tables;
 
 // What is asked for: the channel, the clock, and whether there are one or two rows.
-#[derive(Drop)]
+#[derive(Clone, Copy)]
 pub struct Request {
     pub channel: Name,
     pub rate: Frequency,
@@ -33,7 +33,7 @@ pub struct Request {
 }
 
 // Refused, with an answer, before any pulse; or what the pulses are sampled with.
-#[derive(Drop)]
+#[derive(Clone, Copy)]
 pub struct Prepared {
     pub refused: bool,
     pub answer: Answer,

@@ -11,7 +11,7 @@ use quant::quantity::{Frequency, Time};
 use quant::refusal::Refusal;
 use spline::over::always_fine;
 
-#[derive(Drop)]
+#[derive(Clone, Copy)]
 pub enum Enveloped {
     // How many points the scratch holds.
     Points(usize),

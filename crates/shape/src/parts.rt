@@ -11,7 +11,7 @@ use std::num::nearest_u64_to_f64;
 
 // The head, points from x0 on, lies below `start`; ones lie from there below `end`; the tail, points from x2 on, from there below `length`.
 // Points are dx apart. Without a plateau all points are of the head.
-#[derive(Drop)]
+#[derive(Clone, Copy)]
 pub struct Parts {
     pub x0: f64,
     pub dx: f64,
@@ -21,7 +21,7 @@ pub struct Parts {
     pub length: usize,
 }
 
-#[derive(Drop)]
+#[derive(Clone, Copy)]
 pub enum Parted {
     Within(Parts),
     // ShapeTooShort or EndPastRow, in this order. `parted_answer` says what it answers.

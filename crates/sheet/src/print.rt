@@ -10,7 +10,7 @@ use naming::{Name, is_name};
 use quant::refusal::{Answer, Refusal};
 
 // How many bytes were printed; or the refusal, and the line that would be bad, 0 for 13. Refused, the bytes stay as they came.
-#[derive(Drop)]
+#[derive(Clone, Copy)]
 pub enum Printed {
     Bytes(usize),
     Refused(Refusal, usize),

@@ -12,14 +12,14 @@ use naming::Name;
 use quant::refusal::{Answer, Refusal};
 
 // Done with N, or refused with the line. The first N names are the columns; the others, and all of a refused sheet, are blank.
-#[derive(Drop)]
+#[derive(Clone, Copy)]
 pub struct Reading {
     pub answer: Answer,
     pub names: [Name; 8],
 }
 
 // What the lines of a text say, or the refusal and its line.
-#[derive(Drop)]
+#[derive(Clone, Copy)]
 pub struct Parsed {
     pub verdict: Verdict,
     pub line: usize,

@@ -13,7 +13,7 @@ use naming::{Name, Naming, from_bytes};
 use quant::refusal::Refusal;
 
 // A count of 0: the first line is still to come. `column`, `row` and `factor` are how many of each are read; a column not read is blank.
-#[derive(Drop)]
+#[derive(Clone, Copy)]
 pub struct State {
     pub count: usize,
     pub columns: [Name; 8],
@@ -24,14 +24,14 @@ pub struct State {
     pub factor: usize,
 }
 
-#[derive(Drop)]
+#[derive(Clone, Copy)]
 pub enum Verdict {
     Good,
     Bad(Refusal),
 }
 
 // The verdict on a line, and the state with it where it is good.
-#[derive(Drop)]
+#[derive(Clone, Copy)]
 pub struct Stepped {
     pub verdict: Verdict,
     pub state: State,

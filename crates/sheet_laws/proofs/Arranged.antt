@@ -39,6 +39,7 @@ pub ordered_in : (t : SoFar) (n : Name) (ns : List Name) → In n ns → In (rec
 unfolding ordered
 ordered_in t n (m ∷ ms) here = here
 ordered_in t n (m ∷ ms) (there h) = there (ordered_in t n ms h)
+ordered_in t n [] x' = elim x' [ ]
 
 ordered-full : (t : SoFar) (count : ℕ) (ns : List Name) → ((n : Name) → In n ns → length (under t n) ≡ count)
     → ((n : Name) → In n ns → finite_bits (under t n) ≡ true) → full_blocks count (ordered t ns) ≡ true
@@ -58,6 +59,7 @@ block-fine count b (x ∷ xs) full here =
     (both (eqb (length b.factors) count) (finite_bits b.factors) (both (eqb (length b.factors) count && finite_bits b.factors) (full_blocks count xs) full).0).1
 block-fine count b (x ∷ xs) full (there h) =
     block-fine count b xs (both (eqb (length x.factors) count && finite_bits x.factors) (full_blocks count xs) full).1 h
+block-fine count b [] full x'' = elim x'' [ ]
 
 module _ (s : Sheet) (w : WellFormed s) where
   pub fine : (n : Name) → In n s.columns → finite_bits (under (contents s) n) ≡ true
@@ -111,6 +113,7 @@ without b (y ∷ ys) (there h) =
     go : (r : Without b ys) (x : Block) → In x (y ∷ ys) → (x.row ≡ b.row → ⊥) → In x (y ∷ r.left)
     go r x here other = here
     go r x (there k) other = there (r.others x k other)
+without b [] x' = elim x' [ ]
 
 all_moved : (l m : List Block) → single (row_names l) ≡ true → length l ≡ length m → ((x : Block) → In x l → In x m) → Permuted l m
 unfolding row_names

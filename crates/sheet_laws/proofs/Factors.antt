@@ -32,11 +32,13 @@ place-below n (m ∷ ms) (there h) = by (same_name m n) (place-below n ms h)
     by : (t : Bool) → position n ms < length ms → cond t 0 (suc (position n ms)) < suc (length ms)
     by true k = omega arith
     by false k = omega arith
+place-below n [] x' = elim x' [ ]
 
 pub place-front : (n : Name) (ns more : List Name) → In n ns → position n (ns ++ more) ≡ position n ns
 unfolding position
 place-front n (m ∷ ms) more here = rw (same_self n)
 place-front n (m ∷ ms) more (there h) = rw (place-front n ms more h)
+place-front n [] more x' = elim x' [ ]
 
 pub eight_are : (ns : List Name) → length ns ≤ 8 → eight ns ≡ ns ++ take (8 - length ns) (replicate 8 blank)
 unfolding eight
@@ -52,17 +54,22 @@ place-back n ns short h = rw (eight_are ns short) (place-front n ns (take (8 - l
 pub column_in : (c : Name) (bits : ℕ) (cs : List Name) (fs : List ℕ) → AtColumn c bits cs fs → In c cs
 column_in c bits (d ∷ cs) (f ∷ fs) first = here
 column_in c bits (d ∷ cs) (f ∷ fs) (later h) = there (column_in c bits cs fs h)
+column_in c bits [] fs x' = elim x' [ ]
+column_in c bits (d ∷ cs) [] x3 = elim x3 [ ]
 
 at_place : (c : Name) (bits : ℕ) (cs : List Name) (fs : List ℕ) → single cs ≡ true → AtColumn c bits cs fs → get_or fs (position c cs) 0 ≡ bits
 unfolding position
 at_place c bits (d ∷ cs) (f ∷ fs) one first = rw (same_self c)
 at_place c bits (d ∷ cs) (f ∷ fs) one (later h) =
     rw (unlike d c cs one (column_in c bits cs fs h)) (at_place c bits cs fs (single-rest d cs one) h)
+at_place c bits [] fs one x'' = elim x'' [ ]
+at_place c bits (d ∷ cs) [] one x5 = elim x5 [ ]
 
 some_at : (c : Name) (cs : List Name) (fs : List ℕ) → length fs ≡ length cs → In c cs → (bits : ℕ) × AtColumn c bits cs fs
 some_at c (d ∷ cs) [] long h = absurd (omega arith)
 some_at c (d ∷ cs) (f ∷ fs) long here = (f, first)
 some_at c (d ∷ cs) (f ∷ fs) long (there h) = let r = some_at c cs fs (omega arith) h in (r.0, later r.1)
+some_at c [] fs long h = elim h [ ]
 
 doubles-at : (fs : List ℕ) (i : ℕ) → get_or (doubles fs) i (of_bits binary64 0) ≡ of_bits binary64 (get_or fs i 0)
 unfolding doubles
@@ -90,6 +97,7 @@ module _ (t : SoFar) (count : ℕ) where
       by rest false other =
           let past : suc (position r ns) * count ≡ length (under t n) + position r ns * count = rw (wide n here) (omega (arith, suc-mul (position r ns) count)) in
           rw (past, drop-append-add (under t n) (rows_for t ns) (position r ns * count)) rest
+  under_at r [] wide x'' = elim x'' [ ]
 
   row_at : (r : Name) (ns : List Name) (j : ℕ) → ((n : Name) → In n ns → length (under t n) ≡ count) → In r ns → j < count
       → get_or (rows_for t ns) (position r ns * count + j) 0 ≡ get_or (under t r) j 0
@@ -153,11 +161,15 @@ pub at_entry : (c : Name) (bits : ℕ) (cs : List Name) (fs : List ℕ) → AtCo
 unfolding entries
 at_entry c bits (d ∷ cs) (f ∷ fs) first = here
 at_entry c bits (d ∷ cs) (f ∷ fs) (later h) = there (at_entry c bits cs fs h)
+at_entry c bits [] fs x' = elim x' [ ]
+at_entry c bits (d ∷ cs) [] x3 = elim x3 [ ]
 
 pub entry_at : (e : Entry) (cs : List Name) (fs : List ℕ) → In e (entries cs fs) → AtColumn e.column e.bits cs fs
 unfolding entries
 entry_at e (c ∷ cs) (f ∷ fs) here = first
 entry_at e (c ∷ cs) (f ∷ fs) (there h) = later (entry_at e cs fs h)
+entry_at e [] fs x' = elim x' [ ]
+entry_at e (c ∷ cs) [] x3 = elim x3 [ ]
 
 pub stands_too : (s t : Sheet) → SameUpToOrder s t → (r c : Name) (bits : ℕ) → Stands s r c bits → Stands t r c bits
 stands_too s t same r c bits st =

@@ -43,6 +43,7 @@ in_more : (m : Name) (ns : List Name) (n : Name) → In m (ns ++ n ∷ []) → (
 in_more m [] n here out = refl
 in_more m (x ∷ xs) n here out = absurd (out here)
 in_more m (x ∷ xs) n (there h) out = in_more m xs n h (λ k. out (there k))
+in_more m [] n (there h) out = elim h [ ]
 
 single_more : (ns : List Name) (n : Name) → single ns ≡ true → (In n ns → ⊥) → single (ns ++ n ∷ []) ≡ true
 unfolding single is_in

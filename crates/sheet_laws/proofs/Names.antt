@@ -30,6 +30,7 @@ in_is n (m ∷ ms) (there h) = rw (in_is n ms h) (or-true (same_name m n))
     or-true : (b : Bool) → (b || true) ≡ true
     or-true true = refl
     or-true false = refl
+in_is n [] x' = elim x' [ ]
 
 pub is-in : (n : Name) (l : List Name) → is_in n l ≡ true → In n l
 unfolding is_in
@@ -53,11 +54,13 @@ pub good-one : (ns : List Name) → good_names ns ≡ true → (n : Name) → In
 unfolding good_names
 good-one (m ∷ ms) e n here = (both (is_name m) (good_names ms) e).0
 good-one (m ∷ ms) e n (there h) = good-one ms (both (is_name m) (good_names ms) e).1 n h
+good-one [] e n x'' = elim x'' [ ]
 
 pub among_one : (all ns : List Name) → among all ns ≡ true → (n : Name) → In n ns → In n all
 unfolding among
 among_one all (m ∷ ms) e n here = is-in m all (both (is_in m all) (among all ms) e).0
 among_one all (m ∷ ms) e n (there h) = among_one all ms (both (is_in m all) (among all ms) e).1 n h
+among_one all [] e n x'' = elim x'' [ ]
 
 -- ---- no name twice
 
@@ -72,6 +75,7 @@ single-rest n ns e = (both (not (is_in n ns)) (single ns) e).1
 pub not-twice : (n : Name) (xs ys : List Name) → single (xs ++ n ∷ ys) ≡ true → In n xs → ⊥
 not-twice n (x ∷ xs) ys e here = single-first n (xs ++ n ∷ ys) e (in_right xs here)
 not-twice n (x ∷ xs) ys e (there h) = not-twice n xs ys (single-rest x (xs ++ n ∷ ys) e) h
+not-twice n [] ys e x'' = elim x'' [ ]
 
 pub fresh : (n : Name) (xs ys : List Name) → single (xs ++ n ∷ ys) ≡ true → is_in n xs ≡ false
 fresh n xs ys e = not_in n xs (not-twice n xs ys e)

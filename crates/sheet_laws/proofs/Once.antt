@@ -33,6 +33,7 @@ less n (x ∷ xs) (there h) = let r = less n xs h in record { left = x ∷ r.lef
     go : (r : Less n xs) (m : Name) → In m (x ∷ xs) → (m ≡ n → ⊥) → In m (x ∷ r.left)
     go r m here other = here
     go r m (there k) other = there (r.others m k other)
+less n [] x' = elim x' [ ]
 
 few : (ns all : List Name) → single ns ≡ true → ((m : Name) → In m ns → In m all) → length ns ≤ length all
 few [] all one sub = omega arith

@@ -27,6 +27,7 @@ pub row_of : (b : Block) (bs : List Block) → In b bs → In b.row (row_names b
 unfolding row_names
 row_of b (x ∷ xs) here = here
 row_of b (x ∷ xs) (there h) = there (row_of b xs h)
+row_of b [] x' = elim x' [ ]
 
 -- the block of a row
 pub record BlockOf (n : Name) (bs : List Block) : Type 0 where
@@ -38,6 +39,7 @@ pub block_of : (n : Name) (bs : List Block) → In n (row_names bs) → BlockOf 
 unfolding row_names
 block_of n (x ∷ xs) here = record { block = x; listed = here; named = refl }
 block_of n (x ∷ xs) (there h) = let r = block_of n xs h in record { block = r.block; listed = there r.listed; named = r.named }
+block_of n [] x' = elim x' [ ]
 
 pub unlike : (m n : Name) (ns : List Name) → single (m ∷ ns) ≡ true → In n ns → same_name m n ≡ false
 unlike m n ns one h = by (same_name m n) refl
@@ -57,6 +59,7 @@ wide count b bs e =
 pub block-wide : (count : ℕ) (b : Block) (bs : List Block) → full_blocks count bs ≡ true → In b bs → length b.factors ≡ count
 block-wide count b (x ∷ xs) full here = (wide count b xs full).0
 block-wide count b (x ∷ xs) full (there h) = block-wide count b xs (wide count x xs full).1 h
+block-wide count b [] full x'' = elim x'' [ ]
 
 own : (count : ℕ) (b : Block) (bs : List Block) → full_blocks count bs ≡ true → single (row_names bs) ≡ true → In b bs
     → take count (drop (position b.row (row_names bs) * count) (factors_of bs)) ≡ b.factors
@@ -68,6 +71,7 @@ own count b (x ∷ xs) full one (there h) =
     let past : suc p * count ≡ length x.factors + p * count = rw parts.0 (omega (arith, suc-mul p count)) in
     rw (unlike x.row b.row (row_names xs) one (row_of b xs h), past, drop-append-add x.factors (factors_of xs) (p * count))
     (own count b xs parts.1 (single-rest x.row (row_names xs) one) h)
+own count b [] full one x3 = elim x3 [ ]
 
 module _ (s : Sheet) (w : WellFormed s) where
   pub under-own : (b : Block) → In b s.blocks → under (contents s) b.row ≡ b.factors

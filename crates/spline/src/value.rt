@@ -10,7 +10,7 @@ use ieee::finite::is_finite;
 use quant::judge::both;
 
 // What a row tells: a degree and a count of controls that fit, or no spline.
-#[derive(Drop)]
+#[derive(Clone, Copy)]
 pub enum Told {
     Spline(usize, usize),
     Nothing,

@@ -1,8 +1,8 @@
 -- The arrays of tables that came as an argument have eight places: what owning them tells, at the array's field. Assumes nothing.
-use mathlib.Core.Path.{◌≡◌, sym, ◌∙◌}
+use mathlib.Core.Path.{◌≡◌}
 use mathlib.Core.List.{List}
 use mir.Val.{Val}
-use lib.ListN.{length, length-map}
+use lib.ListN.{length}
 use denote.Laws.{Is}
 use denote.Struct.Declared.{row}
 use denote.Struct.Laws as LL
@@ -12,7 +12,7 @@ use Rattle.tables.proofs.Tables.TheLaws as T'
 
 module _ (t : Tables) (vs : List Val) (is : Is (row T.the_type) t vs) where
   pub eight_channels : length t.channels ≡ 8
-  eight_channels = sym (length-map t.channels _) ∙ (LL.owed T.the_type T'.the_laws t vs is).1.1.1.0.1.0.1
+  eight_channels = (LL.owed T.the_type T'.the_laws t vs is).1.1.1.0.1.0.1
 
   pub eight-shapes : length t.shapes ≡ 8
-  eight-shapes = sym (length-map t.shapes _) ∙ (LL.owed T.the_type T'.the_laws t vs is).1.1.1.1.1.0.1.0.1
+  eight-shapes = (LL.owed T.the_type T'.the_laws t vs is).1.1.1.1.1.0.1.0.1

@@ -14,7 +14,7 @@ use rows::all_finite;
 use spline::check::check;
 use spline::row::row_of;
 
-#[derive(Drop)]
+#[derive(Clone, Copy)]
 pub struct Channel {
     pub name: Name,
     pub osc: OscState,
@@ -24,7 +24,7 @@ pub struct Channel {
 
 // `amp` and `time` are the tolerances. The first `count` channels are there, and the first `named` names are names of shapes. What each of these stands for
 // lies beside the tables, in a lent row.
-#[derive(Drop)]
+#[derive(Clone, Copy)]
 pub struct Tables {
     pub amp: Amplitude,
     pub time: Time,
@@ -36,20 +36,20 @@ pub struct Tables {
 }
 
 // Refused, the tables are those that came.
-#[derive(Drop)]
+#[derive(Clone, Copy)]
 pub struct Tabled {
     pub answer: Answer,
     pub tables: Tables,
 }
 
-#[derive(Drop)]
+#[derive(Clone, Copy)]
 pub enum Found {
     At(usize),
     Nowhere,
 }
 
 // `told_answer` says which case is which refusal.
-#[derive(Drop)]
+#[derive(Clone, Copy)]
 pub enum Told {
     Of(OscState),
     // The name breaks the rule.

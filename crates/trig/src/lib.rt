@@ -27,7 +27,7 @@ const BOTTOM: f64 = 6755399438958592.0;
 // MIDDLE + 2^21
 const TOP: f64 = 6755399443152896.0;
 
-#[derive(Drop)]
+#[derive(Clone, Copy)]
 pub struct Pair {
     pub cos: f64,
     pub sin: f64,

@@ -44,7 +44,7 @@ fn at_length(minus: bool, text: &[u8], point: usize, whole: usize, zeros: usize)
     }
 }
 
-#[derive(Drop)]
+#[derive(Clone, Copy)]
 pub enum Tried {
     Sure(f64),
     // The digits before the point are too few,

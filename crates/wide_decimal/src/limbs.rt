@@ -54,7 +54,7 @@ pub(crate) fn cut(a: &mut [u32], m: u64, c: u64)
 }
 
 // Leading bits: two words, and how many bits stand below them.
-#[derive(Drop)]
+#[derive(Clone, Copy)]
 pub struct Front {
     pub hi: u64,
     pub lo: u64,

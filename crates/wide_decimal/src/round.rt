@@ -8,7 +8,7 @@ use super::limbs::top;
 use fma::pack::nearest_double;
 
 // What the digits come to.
-#[derive(Drop)]
+#[derive(Clone, Copy)]
 pub enum Rounded {
     Sure(f64),
     // The digits behind the point are too few to tell.

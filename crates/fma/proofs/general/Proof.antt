@@ -54,13 +54,13 @@ meets x y z s t u m e n f o g h l v w q p =
 
 -- ---- the three doubles
 held-a : (c : tie.Start) → T (fits binary64 c.args.a)
-held-a c = subst T (sym c.well-formed.0.1) tt
+held-a c = subst T (sym c.well_formed.0.1) tt
 
 held-b : (c : tie.Start) → T (fits binary64 c.args.b)
-held-b c = subst T (sym c.well-formed.1.0.1) tt
+held-b c = subst T (sym c.well_formed.1.0.1) tt
 
 held-c : (c : tie.Start) → T (fits binary64 c.args.c)
-held-c c = subst T (sym c.well-formed.1.1.0.1) tt
+held-c c = subst T (sym c.well_formed.1.1.0.1) tt
 
 negative : Float → Bool
 negative x = leb (2 ^ 63) (to_bits binary64 x)
@@ -70,69 +70,69 @@ unfolding negative
 own x m e f s = subst (λ (y : Float). HasValue y (leb (2 ^ 63) (to_bits binary64 x)) (m * 2 ^ e) (2 ^ 1136)) (of_bits-to_bits binary64 x f) s.value
 
 -- ---- once the product is there
-module _ (p : tie.After-product) where
+module _ (p : tie.After-product-p) where
   abbrev start : tie.Start
   start = p.before.before.before.before
 
   abbrev hi : ℕ
-  hi = p.product.result.hi
+  hi = p.product-p.result.hi
 
   abbrev lo : ℕ
-  lo = p.product.result.lo
+  lo = p.product-p.result.lo
 
   abbrev ep : ℕ
-  ep = p.before.before.before.significand.result.e + p.before.before.significand2.result.e
+  ep = p.significand-x.result.e + p.significand-y.result.e
 
   abbrev mz : ℕ
-  mz = p.before.significand3.result.m
+  mz = p.significand-z.result.m
 
   abbrev ez : ℕ
-  ez = p.before.significand3.result.e + 1072
+  ez = p.significand-z.result.e + 1072
 
   product : Product hi lo
   product =
-      let x = p.before.before.before.significand in
-      let y = p.before.before.significand2 in
-      product_is hi lo x.result.m y.result.m (to_bits binary64 start.args.a) (to_bits binary64 start.args.b) x.result.e y.result.e p.product.ensures.0 p.product.ensures.1 x.ensures y.ensures
+      let x = p.significand-x in
+      let y = p.significand-y in
+      product_is hi lo x.result.m y.result.m (to_bits binary64 start.args.a) (to_bits binary64 start.args.b) x.result.e y.result.e p.product-p.ensures.0 p.product-p.ensures.1 x.ensures y.ensures
 
   whole : sum binary64 (unlike (leb (2 ^ 63) (to_bits binary64 start.args.a)) (leb (2 ^ 63) (to_bits binary64 start.args.b))) (words hi lo * 2 ^ ep) (leb (2 ^ 63) (to_bits binary64 start.args.c)) (words mz 0 * 2 ^ ez) (2 ^ 2272) ≡ fma binary64 start.args.a start.args.b start.args.c
   unfolding negative
   whole =
       let a = start.args in
-      let x = p.before.before.before.significand in
-      let y = p.before.before.significand2 in
-      let z = p.before.significand3 in
+      let x = p.significand-x in
+      let y = p.significand-y in
+      let z = p.significand-z in
       meets a.a a.b a.c (negative a.a) (negative a.b) (negative a.c) x.result.m x.result.e y.result.m y.result.e z.result.m z.result.e hi lo
       (own a.a x.result.m x.result.e (held-a start) x.ensures)
       (own a.b y.result.m y.result.e (held-b start) y.ensures)
       (own a.c z.result.m z.result.e (held-c start) z.ensures)
-      p.product.ensures.0
+      p.product-p.ensures.0
 
-float-to-bits-i : tie.Need-float-to-bits-i
+float-to-bits-i : tie.Need-float_to_bits-i
 float-to-bits-i c = not-nan c.args.a c.requires.0
 
-float-to-bits-j : tie.Need-float-to-bits-j
+float-to-bits-j : tie.Need-float_to_bits-j
 float-to-bits-j c = not-nan c.args.b c.requires.1
 
-float-to-bits-k : tie.Need-float-to-bits-k
+float-to-bits-k : tie.Need-float_to_bits-k
 float-to-bits-k c = not-nan c.args.c c.requires.2
 
-significand-requires : tie.Need-significand-requires
+significand-requires : tie.Need-significand-x-requires
 significand-requires c κs = bits_range c.args.a c.requires.0 (held-a c)
 
-significand-requires-2 : tie.Need-significand-requires-2
-significand-requires-2 c κs = bits_range c.before.args.b c.before.requires.1 (held-b c.before)
+significand-requires-2 : tie.Need-significand-y-requires
+significand-requires-2 c κs = bits_range c.args.b c.requires.1 (held-b c.before)
 
-significand-requires-3 : tie.Need-significand-requires-3
-significand-requires-3 c κs = bits_range c.before.before.args.c c.before.before.requires.2 (held-c c.before.before)
+significand-requires-3 : tie.Need-significand-z-requires
+significand-requires-3 c κs = bits_range c.args.c c.requires.2 (held-c c.before.before)
 
-product-requires : tie.Need-product-requires
+product-requires : tie.Need-product-p-requires
 product-requires c κs = search rules
 
-add-ep : tie.Need-overflow-add-ep
+add-ep : tie.Need-overflow_add-ep
 add-ep c = search rules
 
-add-ez : tie.Need-overflow-add-ez
+add-ez : tie.Need-overflow_add-ez
 add-ez c = search rules
 
 even : (l : ℕ) → l % 2 ^ 20 ≡ 0 → l % 2 ≡ 0
@@ -141,7 +141,7 @@ even l e = omega arith
 combine-requires : tie.Need-combine-requires
 combine-requires c κs =
     let p = c.before.before.before.before in
-    let z = p.before.significand3.ensures in
+    let z = p.significand-z.ensures in
     record {
       x-low = (product p).low;
       x-high = (product p).high;
@@ -149,18 +149,18 @@ combine-requires c κs =
       y-low = le_trans (lit≤ tt) z.low;
       y-high = z.high;
       y-clear = refl;
-      e-low = omega (arith, c.if1.true);
-      e-high = omega (arith, p.before.before.before.significand.ensures.small, p.before.before.significand2.ensures.small);
+      e-low = omega (arith, c.if-ez-ep.true);
+      e-high = omega (arith, p.significand-x.ensures.small, p.significand-y.ensures.small);
       within = omega arith;
     }
 
-sub-combine : tie.Need-overflow-sub-combine
+sub-combine : tie.Need-overflow_sub-ez
 sub-combine c = search rules
 
-combine-requires-2 : tie.Need-combine-requires-2
+combine-requires-2 : tie.Need-combine-requires-else-ez-ep
 combine-requires-2 c κs =
     let p = c.before.before.before.before in
-    let z = p.before.significand3.ensures in
+    let z = p.significand-z.ensures in
     record {
       x-low = le_trans (lit≤ tt) z.low;
       x-high = z.high;
@@ -173,27 +173,27 @@ combine-requires-2 c κs =
       within = omega arith;
     }
 
-returns : tie.Need-returns
+returns : tie.Need-returns-then-ez-ep
 returns c =
     let p = c.before.before.before.before.before in
     let a = (start p).args in
     c.combine.ensures
-    ∙ ap (λ (x : ℕ). sum binary64 (unlike (leb (2 ^ 63) (to_bits binary64 a.a)) (leb (2 ^ 63) (to_bits binary64 a.b))) (words (hi p) (lo p) * 2 ^ ep p) (leb (2 ^ 63) (to_bits binary64 a.c)) (words (mz p) 0 * 2 ^ x) (2 ^ 2272)) (sub-sub_self c.before.if1.true)
+    ∙ ap (λ (x : ℕ). sum binary64 (unlike (leb (2 ^ 63) (to_bits binary64 a.a)) (leb (2 ^ 63) (to_bits binary64 a.b))) (words (hi p) (lo p) * 2 ^ ep p) (leb (2 ^ 63) (to_bits binary64 a.c)) (words (mz p) 0 * 2 ^ x) (2 ^ 2272)) (sub-sub_self c.if-ez-ep.true)
     ∙ whole p
 
-returns-2 : tie.Need-returns-2
+returns-2 : tie.Need-returns-else-ez-ep
 returns-2 c =
     let p = c.before.before.before.before.before in
     let a = (start p).args in
     let np = unlike (leb (2 ^ 63) (to_bits binary64 a.a)) (leb (2 ^ 63) (to_bits binary64 a.b)) in
     let nz = leb (2 ^ 63) (to_bits binary64 a.c) in
-    c.combine2.ensures
-    ∙ ap (λ (x : ℕ). sum binary64 nz (words (mz p) 0 * 2 ^ ez p) np (words (hi p) (lo p) * 2 ^ x) (2 ^ 2272)) (sub-sub_self (le_of_lt c.before.if1.false))
+    c.combine-else-ez-ep.ensures
+    ∙ ap (λ (x : ℕ). sum binary64 nz (words (mz p) 0 * 2 ^ ez p) np (words (hi p) (lo p) * 2 ^ x) (2 ^ 2272)) (sub-sub_self (le_of_lt c.if-ez-ep.false))
     ∙ sum_comm binary64 nz np (words (mz p) 0 * 2 ^ ez p) (words (hi p) (lo p) * 2 ^ ep p) (2 ^ 2272)
     ∙ whole p
 
-pub general-spec : {M : Type 1} → statement M
-general-spec =
+pub general_spec : {M : Type 1} → statement M
+general_spec =
     tie.close
     (tie.spec
     float-to-bits-i

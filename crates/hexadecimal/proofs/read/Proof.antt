@@ -72,67 +72,67 @@ module _ (text : List ℕ) (at : ℕ) (fits : at + 16 ≤ length text) where
           is = rw (next, number_more (take i (drop at text)) (get_or text (at + i) 0), ← p.is);
         }
 
-abbrev invariant-loop : tie.invariant-loop
+abbrev invariant-loop : tie.invariant-loop-i
 invariant-loop text at word₀ i₀ word i = Passed text at word i
 
-abbrev decreases-loop : tie.decreases-loop
+abbrev decreases-loop : tie.decreases-loop-i
 decreases-loop text at word₀ i₀ word i = 16 - i
 
-returns : tie.Need-returns invariant-loop decreases-loop
+returns : tie.Need-returns-then-text-lt16 invariant-loop decreases-loop
 returns c = sym (short _ _ (omega arith))
 
-sub-if2 : tie.Need-overflow-sub-if2 invariant-loop decreases-loop
+sub-if2 : tie.Need-overflow_sub-text invariant-loop decreases-loop
 sub-if2 c = search rules
 
-returns-2 : tie.Need-returns-2 invariant-loop decreases-loop
+returns-2 : tie.Need-returns-then-text-at invariant-loop decreases-loop
 returns-2 c = sym (short _ _ (omega arith))
 
-loop-holds : tie.Need-loop-init invariant-loop decreases-loop
+loop-holds : tie.Need-loop-i-init invariant-loop decreases-loop
 loop-holds c = none _ _ (omega arith)
 
-add-digit-value : tie.Need-overflow-add-digit-value invariant-loop decreases-loop
+add-digit-value : tie.Need-overflow_add-at invariant-loop decreases-loop
 add-digit-value c = search rules
 
-shared-slice-read-digit-value : tie.Need-shared-slice-read-digit-value invariant-loop decreases-loop
+shared-slice-read-digit-value : tie.Need-bounds-text-at invariant-loop decreases-loop
 shared-slice-read-digit-value c = search rules
 
-digit-value-requires : tie.Need-digit-value-requires invariant-loop decreases-loop
+digit-value-requires : tie.Need-digit_value-d-requires invariant-loop decreases-loop
 digit-value-requires c κs = search rules
 
-returns-3 : tie.Need-returns-3 invariant-loop decreases-loop
+returns-3 : tie.Need-returns-then-d-ge16 invariant-loop decreases-loop
 returns-3 c =
     let at-loop = c.before.before.before.before in
     let args = at-loop.before.before.before.before.args in
-    let loop = at-loop.loop in
-    let worth : 16 ≤ digit_value (get_or args.text.now (args.at + loop.i) 0) = rw c.before.digit_value.ensures at c.if3.true in
+    let loop = at-loop.loop-i in
+    let worth : 16 ≤ digit_value (get_or args.text.now (args.at + loop.i) 0) = rw c.before.digit_value-d.ensures at c.if-d-ge16.true in
     sym (bad args.text.now args.at (omega arith) loop.word loop.i loop.invariant (omega arith) worth)
 
-low : (c : tie.Else3 invariant-loop decreases-loop) → c.before.before.before.before.loop.word < 16 ^ 15
-low c = small _ _ (omega arith) _ _ c.before.before.before.before.loop.invariant (omega arith)
+low : (c : tie.Else-d-ge16 invariant-loop decreases-loop) → c.before.before.before.before.loop-i.word < 16 ^ 15
+low c = small _ _ (omega arith) _ _ c.before.before.before.before.loop-i.invariant (omega arith)
 
-mul-word : tie.Need-overflow-mul-word invariant-loop decreases-loop
+mul-word : tie.Need-overflow_mul-word invariant-loop decreases-loop
 mul-word c = omega (arith, low c)
 
-add-word : tie.Need-overflow-add-word invariant-loop decreases-loop
+add-word : tie.Need-overflow_add-word invariant-loop decreases-loop
 add-word c = omega (arith, low c)
 
-add-i : tie.Need-overflow-add-i invariant-loop decreases-loop
+add-i : tie.Need-overflow_add-i invariant-loop decreases-loop
 add-i c = search rules
 
-loop-less : tie.Need-loop-smaller invariant-loop decreases-loop
+loop-less : tie.Need-loop-i-smaller invariant-loop decreases-loop
 loop-less c = omega arith
 
-loop-again : tie.Need-loop-preserved invariant-loop decreases-loop
+loop-again : tie.Need-loop-i-preserved invariant-loop decreases-loop
 loop-again c =
     let at-loop = c.before.before.before.before in
     let args = at-loop.before.before.before.before.args in
-    let loop = at-loop.loop in
-    let worth : digit_value (get_or args.text.now (args.at + loop.i) 0) < 16 = rw c.before.digit_value.ensures at c.if3.false in
-    rw c.before.digit_value.ensures
+    let loop = at-loop.loop-i in
+    let worth : digit_value (get_or args.text.now (args.at + loop.i) 0) < 16 = rw c.before.digit_value-d.ensures at c.if-d-ge16.false in
+    rw c.before.digit_value-d.ensures
     (more args.text.now args.at (omega arith) loop.word loop.i loop.invariant (omega arith) worth)
 
-returns-4 : tie.Need-returns-4 invariant-loop decreases-loop
-returns-4 c = whole _ _ (omega arith) _ _ c.before.loop.invariant (omega arith)
+returns-4 : tie.Need-returns invariant-loop decreases-loop
+returns-4 c = whole _ _ (omega arith) _ _ c.before.loop-i.invariant (omega arith)
 
 pub read_spec : {M : Type 1} → statement M
 read_spec =

@@ -68,52 +68,52 @@ module _ (word : ℕ) (text : List ℕ) (at : ℕ) (fits : at + 16 ≤ length te
           is = rw count one_more;
         }
 
-abbrev invariant-loop : tie.invariant-loop
+abbrev invariant-loop : tie.invariant-loop-i
 invariant-loop word out₀ at rest₀ i₀ out rest i = Put word out₀ at out rest i
 
-abbrev decreases-loop : tie.decreases-loop
+abbrev decreases-loop : tie.decreases-loop-i
 decreases-loop word out₀ at rest₀ i₀ out rest i = i
 
-returns : tie.Need-returns invariant-loop decreases-loop
+returns : tie.Need-returns-then-out-lt16 invariant-loop decreases-loop
 returns c = refused _ _ _ (omega arith)
 
-sub-if2 : tie.Need-overflow-sub-if2 invariant-loop decreases-loop
+sub-if2 : tie.Need-overflow_sub-out invariant-loop decreases-loop
 sub-if2 c = search rules
 
-returns-2 : tie.Need-returns-2 invariant-loop decreases-loop
+returns-2 : tie.Need-returns-then-out-at invariant-loop decreases-loop
 returns-2 c = refused _ _ _ (omega arith)
 
-loop-holds : tie.Need-loop-init invariant-loop decreases-loop
+loop-holds : tie.Need-loop-i-init invariant-loop decreases-loop
 loop-holds c = none _ _ _ (omega arith)
 
-sub-i : tie.Need-overflow-sub-i invariant-loop decreases-loop
+sub-i : tie.Need-overflow_sub-i invariant-loop decreases-loop
 sub-i c = search rules
 
-digit-of-requires : tie.Need-digit-of-requires invariant-loop decreases-loop
+digit-of-requires : tie.Need-digit_of-requires invariant-loop decreases-loop
 digit-of-requires c κs = search rules
 
-add-out : tie.Need-overflow-add-out invariant-loop decreases-loop
+add-out : tie.Need-overflow_add-out invariant-loop decreases-loop
 add-out c = omega arith
 
-slice-write-out : tie.Need-slice-write-out invariant-loop decreases-loop
+slice-write-out : tie.Need-bounds-out-at invariant-loop decreases-loop
 slice-write-out c = omega arith
 
-loop-less : tie.Need-loop-smaller invariant-loop decreases-loop
+loop-less : tie.Need-loop-i-smaller invariant-loop decreases-loop
 loop-less c = omega arith
 
-loop-again : tie.Need-loop-preserved invariant-loop decreases-loop
+loop-again : tie.Need-loop-i-preserved invariant-loop decreases-loop
 loop-again c =
     let at-loop = c.before.before in
     let args = at-loop.before.before.before.before.args in
-    let loop = at-loop.loop in
-    rw c.digit-of.ensures
+    let loop = at-loop.loop-i in
+    rw c.digit_of.ensures
     (next args.word args.out.now args.at (omega arith) loop.out loop.rest loop.i loop.invariant (omega arith))
 
-same_length : tie.Need-same-length invariant-loop decreases-loop
-same_length c = c.before.loop.invariant.long
+same_length : tie.Need-shape_of-out invariant-loop decreases-loop
+same_length c = c.before.loop-i.invariant.long
 
-returns-3 : tie.Need-returns-3 invariant-loop decreases-loop
-returns-3 c = whole _ _ _ (omega arith) _ _ _ c.before.loop.invariant (omega arith)
+returns-3 : tie.Need-returns invariant-loop decreases-loop
+returns-3 c = whole _ _ _ (omega arith) _ _ _ c.before.loop-i.invariant (omega arith)
 
 pub write_spec : {M : Type 1} → statement M
 write_spec =

@@ -24,40 +24,40 @@ settled rows i q l verdict a i' q' e is first second =
       q-row = by_answer (filtered (sections_of l) q) q (sym e ∙ is) second;
     }
 
-judged-requires : tie.Need-judged-requires
+judged-requires : tie.Need-judged-verdict-requires
 judged-requires c κs = search rules
 
-enum_told : tie.Need-enum-told
+enum_told : tie.Need-enum_told-1
 enum_told c = search rules
 
-enum-told-2 : tie.Need-enum-told-2
+enum-told-2 : tie.Need-enum_told-in_default
 enum-told-2 c = search rules
 
-returns : tie.Need-returns
+returns : tie.Need-returns-in_default
 returns c =
-    let asked = c.before.before in
-    let a = asked.before.before.before.before.args in
-    settled a.rows a.i.now a.q.now a.sections.now asked.judged.result _ _ _ asked.judged.ensures c.enum-told2.given.1 refl refl
+    let asked = c.before in
+    let a = asked.args in
+    settled a.rows a.i.now a.q.now a.sections.now asked.judged-verdict.result _ _ _ asked.judged-verdict.ensures c.in_default.is refl refl
 
-filter-rows-requires : tie.Need-filter-rows-requires
+filter-rows-requires : tie.Need-filter_rows-requires
 filter-rows-requires c κs = search rules
 
-same_length : tie.Need-same-length
+same_length : tie.Need-shape_of-i
 same_length c = search rules
 
-same-length-2 : tie.Need-same-length-2
+same-length-2 : tie.Need-shape_of-q
 same-length-2 c = search rules
 
-returns-2 : tie.Need-returns-2
+returns-2 : tie.Need-returns
 returns-2 c =
     let filtered = c.before.before.before.before in
     let told = filtered.before.before.before in
-    let asked = told.before.before in
-    let a = asked.before.before.before.before.args in
-    settled a.rows a.i.now a.q.now a.sections.now asked.judged.result _ _ _ asked.judged.ensures told.enum_told.given.1 filtered.filter-rows.ensures.0 filtered.filter-rows.ensures.1
+    let asked = told.before in
+    let a = asked.args in
+    settled a.rows a.i.now a.q.now a.sections.now asked.judged-verdict.result _ _ _ asked.judged-verdict.ensures told.in-Done.is filtered.filter_rows.ensures.0 filtered.filter_rows.ensures.1
 
-pub iir-spec : {M : Type 1} → statement M
-iir-spec =
+pub iir_spec : {M : Type 1} → statement M
+iir_spec =
     tie.close
     (tie.spec
     judged-requires

@@ -4,11 +4,15 @@ use Rattle.mixer.proofs.Turning.{equal, unequal}
 use Rattle.mixer.proofs.both_none.Statement.{statement}
 use Rattle.mixer.proofs.both_none.Tie as tie
 
-returns : tie.Need-returns
-returns c = rw (unequal c.before.args.a nought c.if1.true)
+returns : tie.Need-returns-then-a
+returns c = rw (unequal c.args.a nought c.if-a.true)
 
-returns-2 : tie.Need-returns-2
-returns-2 c = rw (equal c.before.args.a nought c.if1.false)
+returns-2 : tie.Need-returns
+returns-2 c = rw (equal c.args.a nought c.if-a.false)
 
-pub both-none-spec : {M : Type 1} → statement M
-both-none-spec = tie.close (tie.spec returns returns-2)
+pub both_none_spec : {M : Type 1} → statement M
+both_none_spec =
+    tie.close
+    (tie.spec
+    returns
+    returns-2)

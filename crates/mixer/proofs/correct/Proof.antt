@@ -9,97 +9,92 @@ use Rattle.mixer.proofs.Turning.{FirstDone, one-turn, two-turns, all_done}
 use Rattle.mixer.proofs.correct.Statement.{statement}
 use Rattle.mixer.proofs.correct.Tie as tie
 
-abbrev invariant-loop : tie.invariant-loop
+abbrev invariant-loop : tie.invariant-loop-i
 invariant-loop i₀ q₀ m00 m01 o0 m10 m11 o1 fit h0 l0 h1 l1 k₀ i q k = FirstDone i₀ q₀ m00 m01 o0 m10 m11 o1 i q k
 
-abbrev decreases-loop : tie.decreases-loop
+abbrev decreases-loop : tie.decreases-loop-i
 decreases-loop i₀ q₀ m00 m01 o0 m10 m11 o1 fit h0 l0 h1 l1 k₀ i q k = length i₀ - k
 
-both-roomy-requires : tie.Need-both-roomy-requires invariant-loop decreases-loop
+both-roomy-requires : tie.Need-both_roomy-fit-requires invariant-loop decreases-loop
 both-roomy-requires c κs = search rules
 
-upper-requires : tie.Need-upper-requires invariant-loop decreases-loop
+upper-requires : tie.Need-upper-h0-requires invariant-loop decreases-loop
 upper-requires c κs = search rules
 
-upper-requires-2 : tie.Need-upper-requires-2 invariant-loop decreases-loop
+upper-requires-2 : tie.Need-upper-h1-requires invariant-loop decreases-loop
 upper-requires-2 c κs = search rules
 
-loop-holds : tie.Need-loop-init invariant-loop decreases-loop
+loop-holds : tie.Need-loop-i-init invariant-loop decreases-loop
 unfolding upto
 loop-holds c = record { equal = search rules; within = search rules; same_i = refl; same_q = refl; done_i = refl; done_q = refl }
 
-sub-loop : tie.Need-overflow-sub-loop invariant-loop decreases-loop
-sub-loop c = omega (arith, c.loop.invariant.within, c.loop.invariant.same_i)
+sub-loop : tie.Need-overflow_sub-i invariant-loop decreases-loop
+sub-loop c = omega (arith, c.loop-i.invariant.within, c.loop-i.invariant.same_i)
 
 two-requires : tie.Need-two-requires invariant-loop decreases-loop
 two-requires c κs =
-    let at = c.before.before.before.loop in
-    let g = c.before.before.before.before in
-    let h = g.before in (
+    let at = c.loop-i in
+    (
       at.invariant.same_i ∙ at.invariant.equal ∙ sym at.invariant.same_q,
       omega (arith, at.invariant.within, at.invariant.same_i),
-      record { room = h.before.both-roomy.ensures; first = record { upper = h.upper.ensures; lower = refl }; second = record { upper = g.upper2.ensures; lower = refl } },
+      record { room = c.both_roomy-fit.ensures; first = record { upper = c.upper-h0.ensures; lower = refl }; second = record { upper = c.upper-h1.ensures; lower = refl } },
     )
 
-add-k : tie.Need-overflow-add-k invariant-loop decreases-loop
-add-k c = let at = c.before.before.before.before.before.before.before.before.loop in omega (arith, at.invariant.within, at.invariant.same_i)
+add-k : tie.Need-overflow_add-k invariant-loop decreases-loop
+add-k c = let at = c.loop-i in omega (arith, at.invariant.within, at.invariant.same_i)
 
-loop-less : tie.Need-loop-smaller invariant-loop decreases-loop
-loop-less c = let at = c.before.before.before.before.before.before.before.before.loop in omega (arith, at.invariant.within, at.invariant.same_i)
+loop-less : tie.Need-loop-i-smaller invariant-loop decreases-loop
+loop-less c = let at = c.loop-i in omega (arith, at.invariant.within, at.invariant.same_i)
 
-loop-again : tie.Need-loop-preserved invariant-loop decreases-loop
+loop-again : tie.Need-loop-i-preserved invariant-loop decreases-loop
 loop-again c =
-    let n = c.before.before.before.before in
-    let l = n.before.before.before.before in
-    let at = l.loop in
-    let a = l.before.before.before.before.before.before.args in
-    two-turns a.i.now a.q.now a.m00 a.m01 a.o0 a.m10 a.m11 a.o1 at.i at.q at.k at.invariant (omega (arith, at.invariant.within, at.invariant.same_i)) n.two.new.0 n.two.new.1.0 n.two.ensures.0 n.two.ensures.1
+    let at = c.loop-i in
+    let a = c.args in
+    two-turns a.i.now a.q.now a.m00 a.m01 a.o0 a.m10 a.m11 a.o1 at.i at.q at.k at.invariant (omega (arith, at.invariant.within, at.invariant.same_i)) c.two.new.i c.two.new.q c.two.ensures.0 c.two.ensures.1
 
 one-requires : tie.Need-one-requires invariant-loop decreases-loop
 one-requires c κs =
-    let at = c.before.before.before.before.loop in
+    let at = c.loop-i in
     (at.invariant.same_i ∙ at.invariant.equal ∙ sym at.invariant.same_q, omega (arith, at.invariant.within, at.invariant.same_i))
 
 -- a last sample, where their number is odd
-last_turn : (c : tie.After-slice-known6 invariant-loop decreases-loop) → let n = c.before.before.before.before in
-    let l = n.before.before.before.before.before in
-    let a = l.before.before.before.before.before.before.args in
-    FirstDone a.i.now a.q.now a.m00 a.m01 a.o0 a.m10 a.m11 a.o1 n.one.new.0 n.one.new.1.0 (l.loop.k + 1)
+last_turn : (c : tie.After-slice_known-then-k-i-2-1 invariant-loop decreases-loop) → let n = c in
+    let l = c in
+    let a = c.args in
+    FirstDone a.i.now a.q.now a.m00 a.m01 a.o0 a.m10 a.m11 a.o1 c.one.new.i c.one.new.q (c.loop-i.k + 1)
 last_turn c =
-    let n = c.before.before.before.before in
-    let l = n.before.before.before.before.before in
-    let at = l.loop in
-    let a = l.before.before.before.before.before.before.args in
-    one-turn a.i.now a.q.now a.m00 a.m01 a.o0 a.m10 a.m11 a.o1 at.i at.q at.k at.invariant (omega (arith, at.invariant.within, at.invariant.same_i)) n.one.new.0 n.one.new.1.0 n.one.ensures.0 n.one.ensures.1
+    let n = c in
+    let l = c in
+    let at = c.loop-i in
+    let a = c.args in
+    one-turn a.i.now a.q.now a.m00 a.m01 a.o0 a.m10 a.m11 a.o1 at.i at.q at.k at.invariant (omega (arith, at.invariant.within, at.invariant.same_i)) c.one.new.i c.one.new.q c.one.ensures.0 c.one.ensures.1
 
-same_length : tie.Need-same-length invariant-loop decreases-loop
+same_length : tie.Need-shape_of-i-then-k-i invariant-loop decreases-loop
 same_length c = (last_turn c).same_i
 
-same-length-2 : tie.Need-same-length-2 invariant-loop decreases-loop
+same-length-2 : tie.Need-shape_of-q-then-k-i invariant-loop decreases-loop
 same-length-2 c = (last_turn c).same_q
 
-returns : tie.Need-returns invariant-loop decreases-loop
+returns : tie.Need-returns-then-k-i invariant-loop decreases-loop
 returns c =
-    let n = c.before.before.before.before in
-    let l = n.before.before.before.before.before in
-    let at = l.loop in
-    let a = l.before.before.before.before.before.before.args in
-    all_done a.i.now a.q.now a.m00 a.m01 a.o0 a.m10 a.m11 a.o1 n.one.new.0 n.one.new.1.0 (at.k + 1) (last_turn c) (omega (arith, at.invariant.within, at.invariant.same_i))
+    let at = c.loop-i in
+    let a = c.args in
+    all_done a.i.now a.q.now a.m00 a.m01 a.o0 a.m10 a.m11 a.o1 c.one.new.i c.one.new.q (at.k + 1) (last_turn c) (omega (arith, at.invariant.within, at.invariant.same_i))
 
-same-length-3 : tie.Need-same-length-3 invariant-loop decreases-loop
-same-length-3 c = c.before.before.loop.invariant.same_i
+same-length-3 : tie.Need-shape_of-i-else-k-i invariant-loop decreases-loop
+same-length-3 c = c.loop-i.invariant.same_i
 
-same-length-4 : tie.Need-same-length-4 invariant-loop decreases-loop
-same-length-4 c = c.before.before.loop.invariant.same_q
+same-length-4 : tie.Need-shape_of-q-else-k-i invariant-loop decreases-loop
+same-length-4 c = c.loop-i.invariant.same_q
 
-returns-2 : tie.Need-returns-2 invariant-loop decreases-loop
+returns-2 : tie.Need-returns-else-k-i invariant-loop decreases-loop
 returns-2 c =
-    let at = c.before.before.loop in
-    let a = c.before.before.before.before.before.before.before.before.args in
+    let at = c.loop-i in
+    let a = c.args in
     all_done a.i.now a.q.now a.m00 a.m01 a.o0 a.m10 a.m11 a.o1 at.i at.q at.k at.invariant (omega (arith, at.invariant.within, at.invariant.same_i))
 
-pub correct-spec : {M : Type 1} → statement M
-correct-spec =
+pub correct_spec : {M : Type 1} → statement M
+correct_spec =
     tie.close
     (tie.spec
     invariant-loop

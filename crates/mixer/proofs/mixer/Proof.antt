@@ -1,8 +1,8 @@
 -- `mixer::mixer` meets its contract: each return is what the tests before it say. Assumes nothing.
 use borrow.Author.Rules.{rules}
 use borrow.Author.Tests.{eqb-true}
-use mathlib.Core.Path.{◌≡◌, refl, sym, ◌∙◌}
-use mathlib.Core.Bool.{Bool, true, false, ◌&&◌}
+use mathlib.Core.Path.{◌≡◌, refl, sym, ◌∙◌, ap}
+use mathlib.Core.Bool.{Bool, true, false, ◌&&◌, not}
 use mathlib.Core.List.{List}
 use Prim.Native.Nat.{ℕ}
 use native.Mathlib.Omega.{arith}
@@ -54,72 +54,65 @@ fits-requires c κs = search rules
 answer-requires : tie.Need-answer-requires
 answer-requires c κs = search rules
 
-returns : tie.Need-returns
-returns c = judged (taken _ _ c.before.before.fits2.ensures c.before.if1.true) refl c.answer.ensures refl refl
+returns : tie.Need-returns-then-not-fits
+returns c = judged (taken _ _ c.fits.ensures (ap not c.if-not-fits.true)) refl c.answer.ensures refl refl
 
-all-finite-requires : tie.Need-all-finite-requires
+all-finite-requires : tie.Need-all_finite-requires
 all-finite-requires c κs = search rules
 
-answer-requires-2 : tie.Need-answer-requires-2
+answer-requires-2 : tie.Need-answer-requires-then-not-all_finite
 answer-requires-2 c κs = search rules
 
-returns-2 : tie.Need-returns-2
+returns-2 : tie.Need-returns-then-not-all_finite
 returns-2 c =
-    let asked = c.before.before in
-    judged {fine = false} (passed _ _ asked.before.before.fits2.ensures asked.before.if1.false) (rw (taken _ _ asked.all-finite.ensures c.before.if2.true)) c.answer2.ensures refl refl
+    judged {fine = false} (passed _ _ c.fits.ensures (ap not c.if-not-fits.false)) (rw (taken _ _ c.all_finite.ensures (ap not c.if-not-all_finite.true))) c.answer-then-not-all_finite.ensures refl refl
 
-all-finite-requires-2 : tie.Need-all-finite-requires-2
+all-finite-requires-2 : tie.Need-all_finite-requires-2
 all-finite-requires-2 c κs = search rules
 
-answer-requires-3 : tie.Need-answer-requires-3
+answer-requires-3 : tie.Need-answer-requires-then-not-all_finite-2
 answer-requires-3 c κs = search rules
 
-returns-3 : tie.Need-returns-3
+returns-3 : tie.Need-returns-then-not-all_finite-2
 returns-3 c =
-    let again = c.before.before in
-    let asked = again.before.before in
-    judged {fine = false} (passed _ _ asked.before.before.fits2.ensures asked.before.if1.false) (rw (passed _ _ asked.all-finite.ensures again.before.if2.false, taken _ _ again.all-finite2.ensures c.before.if3.true)) c.answer3.ensures refl refl
+    judged {fine = false} (passed _ _ c.fits.ensures (ap not c.if-not-fits.false)) (rw (passed _ _ c.all_finite.ensures (ap not c.if-not-all_finite.false), taken _ _ c.all_finite-2.ensures (ap not c.if-not-all_finite-2.true))) c.answer-then-not-all_finite-2.ensures refl refl
 
-shared-slice-read-correct : tie.Need-shared-slice-read-correct
-shared-slice-read-correct c = let e = c.before.before.before in omega (arith, (sizes _ _ _ _ _ (passed _ _ e.before.before.before.before.before.fits2.ensures e.before.before.before.before.if1.false)).four)
+shared-slice-read-correct : tie.Need-bounds-matrix-0
+shared-slice-read-correct c = omega (arith, (sizes _ _ _ _ _ (passed _ _ c.fits.ensures (ap not c.if-not-fits.false))).four)
 
-shared-slice-read-correct-2 : tie.Need-shared-slice-read-correct-2
-shared-slice-read-correct-2 c = let e = c.before.before.before.before in omega (arith, (sizes _ _ _ _ _ (passed _ _ e.before.before.before.before.before.fits2.ensures e.before.before.before.before.if1.false)).four)
+shared-slice-read-correct-2 : tie.Need-bounds-matrix-1
+shared-slice-read-correct-2 c = omega (arith, (sizes _ _ _ _ _ (passed _ _ c.fits.ensures (ap not c.if-not-fits.false))).four)
 
-shared-slice-read-correct-3 : tie.Need-shared-slice-read-correct-3
-shared-slice-read-correct-3 c = let e = c.before.before.before.before.before in omega (arith, (sizes _ _ _ _ _ (passed _ _ e.before.before.before.before.before.fits2.ensures e.before.before.before.before.if1.false)).two)
+shared-slice-read-correct-3 : tie.Need-bounds-offsets-0
+shared-slice-read-correct-3 c = omega (arith, (sizes _ _ _ _ _ (passed _ _ c.fits.ensures (ap not c.if-not-fits.false))).two)
 
-shared-slice-read-correct-4 : tie.Need-shared-slice-read-correct-4
-shared-slice-read-correct-4 c = let e = c.before.before.before.before.before.before in omega (arith, (sizes _ _ _ _ _ (passed _ _ e.before.before.before.before.before.fits2.ensures e.before.before.before.before.if1.false)).four)
+shared-slice-read-correct-4 : tie.Need-bounds-matrix-2
+shared-slice-read-correct-4 c = omega (arith, (sizes _ _ _ _ _ (passed _ _ c.fits.ensures (ap not c.if-not-fits.false))).four)
 
-shared-slice-read-correct-5 : tie.Need-shared-slice-read-correct-5
-shared-slice-read-correct-5 c = let e = c.before.before.before.before.before.before.before in omega (arith, (sizes _ _ _ _ _ (passed _ _ e.before.before.before.before.before.fits2.ensures e.before.before.before.before.if1.false)).four)
+shared-slice-read-correct-5 : tie.Need-bounds-matrix-3
+shared-slice-read-correct-5 c = omega (arith, (sizes _ _ _ _ _ (passed _ _ c.fits.ensures (ap not c.if-not-fits.false))).four)
 
-shared-slice-read-correct-6 : tie.Need-shared-slice-read-correct-6
-shared-slice-read-correct-6 c = let e = c.before.before.before.before.before.before.before.before in omega (arith, (sizes _ _ _ _ _ (passed _ _ e.before.before.before.before.before.fits2.ensures e.before.before.before.before.if1.false)).two)
+shared-slice-read-correct-6 : tie.Need-bounds-offsets-1
+shared-slice-read-correct-6 c = omega (arith, (sizes _ _ _ _ _ (passed _ _ c.fits.ensures (ap not c.if-not-fits.false))).two)
 
 correct-requires : tie.Need-correct-requires
-correct-requires c κs = let e = c.before.before.before.before.before.before.before.before in (sizes _ _ _ _ _ (passed _ _ e.before.before.before.before.before.fits2.ensures e.before.before.before.before.if1.false)).equal
+correct-requires c κs = (sizes _ _ _ _ _ (passed _ _ c.fits.ensures (ap not c.if-not-fits.false))).equal
 
-answer-requires-4 : tie.Need-answer-requires-4
+answer-requires-4 : tie.Need-answer-requires-2
 answer-requires-4 c κs = search rules
 
-same_length : tie.Need-same-length
+same_length : tie.Need-shape_of-i
 same_length c = search rules
 
-same-length-2 : tie.Need-same-length-2
+same-length-2 : tie.Need-shape_of-q
 same-length-2 c = search rules
 
-returns-4 : tie.Need-returns-4
+returns-4 : tie.Need-returns
 returns-4 c =
-    let done = c.before.before.before.before.before in
-    let passes = done.before.before.before.before.before.before.before.before.before in
-    let again = passes.before in
-    let asked = again.before.before in
-    judged {fine = true} (passed _ _ asked.before.before.fits2.ensures asked.before.if1.false) (rw (passed _ _ asked.all-finite.ensures again.before.if2.false, passed _ _ again.all-finite2.ensures passes.if3.false)) c.answer4.ensures done.correct.ensures.0 done.correct.ensures.1
+    judged {fine = true} (passed _ _ c.fits.ensures (ap not c.if-not-fits.false)) (rw (passed _ _ c.all_finite.ensures (ap not c.if-not-all_finite.false), passed _ _ c.all_finite-2.ensures (ap not c.if-not-all_finite-2.false))) c.answer-2.ensures c.correct.ensures.0 c.correct.ensures.1
 
-pub mixer-spec : {M : Type 1} → statement M
-mixer-spec =
+pub mixer_spec : {M : Type 1} → statement M
+mixer_spec =
     tie.close
     (tie.spec
     fits-requires

@@ -46,64 +46,68 @@ module _ (text : List ℕ) where
         let rest : v ≡ word_of (drop 8 text) = f ∙ ap word_of all in
         reads ∙ ap Named (λ i. record { first = sym e i; second = sym rest i; len = length text })
 
-returns : tie.Need-returns
+returns : tie.Need-returns-then-text-lt1
 returns c = sym (empty _ (omega arith))
 
-returns-2 : tie.Need-returns-2
+returns-2 : tie.Need-returns-then-text-gt16
 returns-2 c = sym (long _ (omega arith))
 
-all-stand-requires : tie.Need-all-stand-requires
+all-stand-requires : tie.Need-all_stand-requires
 all-stand-requires c κs = search rules
 
-returns-3 : tie.Need-returns-3
+returns-3 : tie.Need-returns-then-not-all_stand
 returns-3 c =
-    let call = c.before.all-stand in
-    sym (stray _ (sym call.ensures ∙ not-true call.result c.if3.true))
+    let call = c.before.all_stand in
+    sym (stray _ (sym call.ensures ∙ c.if-not-all_stand.true))
 
-passed : (c : tie.Else3) → every name_byte c.before.before.before.before.before.args.text.now ≡ true
-passed c = sym c.before.all-stand.ensures ∙ not-false c.before.all-stand.result c.if3.false
+passed : (c : tie.Else-not-all_stand) → every name_byte c.before.before.before.before.before.args.text.now ≡ true
+passed c = sym c.before.all_stand.ensures ∙ c.if-not-all_stand.false
 
-word-of-requires : tie.Need-word-of-requires
+word-of-requires : tie.Need-word_of-first-requires
 word-of-requires c κs = search rules
 
-returns-4 : tie.Need-returns-4
+returns-4 : tie.Need-returns-then-len-le8
 returns-4 c =
     let else3 = c.before.before in
     let text = else3.before.before.before.before.before.args.text.now in
-    let call = c.word_of in
+    let call = c.word_of-first in
     sym (reads-one text (omega arith) (omega arith) (passed else3) (omega arith) call.result call.ensures)
 
-slice-aggregate-word-of : tie.Need-slice-aggregate-word-of
+slice-aggregate-word-of : tie.Need-slice_bounds-word_of-end
 slice-aggregate-word-of c =
-    let text = c.before.before.before.before.before.before.before.args.text.now in
+    let text = c.before.before.before.before.before.before.args.text.now in
     sym (length-take-le 8 text (omega arith))
 
-word-of-requires-2 : tie.Need-word-of-requires-2
+word-of-requires-2 : tie.Need-word_of-first-requires-2
 word-of-requires-2 c κs = simp length-take (min-le_left 8 _)
 
-sub-word-of : tie.Need-overflow-sub-word-of
+sub-word-of : tie.Need-slice_bounds-word_of-count
 sub-word-of c = search rules
 
-part-word-of-start : tie.Need-slice-bounds-word-of-start
+part-word-of-start : tie.Need-slice_bounds-word_of-start
 part-word-of-start c = search rules
 
-part-word-of-end : tie.Need-slice-bounds-word-of-end
+part-word-of-end : tie.Need-slice_bounds-word_of-end
 part-word-of-end c = search rules
 
-word-of-requires-3 : tie.Need-word-of-requires-3
+word-of-requires-3 : tie.Need-word_of-second-requires
 word-of-requires-3 c κs = search rules
 
-returns-5 : tie.Need-returns-5
+returns-5 : tie.Need-returns
 returns-5 c =
     let after_first = c.before.before in
-    let else3 = after_first.before.before.before in
+    let else3 = after_first.before.before in
     let text = else3.before.before.before.before.before.args.text.now in
-    let first = after_first.word-of2 in
-    let second = c.word-of3 in
+    let first = after_first.word_of-first-2 in
+    let second = c.word_of-second in
     sym (reads_two text (omega arith) (omega arith) (passed else3) first.result second.result first.ensures second.ensures)
 
-pub from-bytes-spec : {M : Type 1} → statement M
-from-bytes-spec =
+
+x-slice_bounds-word_of-end-2 : tie.Need-slice_bounds-word_of-end-2
+x-slice_bounds-word_of-end-2 = search rules
+
+pub from_bytes_spec : {M : Type 1} → statement M
+from_bytes_spec =
     tie.close
     (tie.spec
     returns
@@ -116,6 +120,6 @@ from-bytes-spec =
     word-of-requires-2
     sub-word-of
     part-word-of-start
-    part-word-of-end
+    x-slice_bounds-word_of-end-2
     word-of-requires-3
     returns-5)

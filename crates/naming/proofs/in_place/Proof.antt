@@ -8,13 +8,18 @@ use Rattle.naming.proofs.in_place.Tie as tie
 stands-requires : tie.Need-stands-requires
 stands-requires c κs = search rules
 
-returns : tie.Need-returns
+returns : tie.Need-returns-then-i-len
 unfolding in_place
-returns c = simp (lt-ltb _ _ c.before.if1.true) c.stands.ensures
+returns c = simp (lt-ltb _ _ c.before.if-i-len.true) c.stands.ensures
 
-returns-2 : tie.Need-returns-2
+returns-2 : tie.Need-returns
 unfolding in_place
-returns-2 c = simp (le-ltb _ _ c.if1.false)
+returns-2 c = simp (le-ltb _ _ c.if-i-len.false)
 
-pub in-place-spec : {M : Type 1} → statement M
-in-place-spec = tie.close (tie.spec stands-requires returns returns-2)
+pub in_place_spec : {M : Type 1} → statement M
+in_place_spec =
+    tie.close
+    (tie.spec
+    stands-requires
+    returns
+    returns-2)

@@ -82,63 +82,63 @@ module _ (n : Name) where
               (λ i h. let m : i < 16 - n.len = rw length-past at h in sym (past i) ∙ all (n.len + i) (omega arith));
         })
 
-abbrev invariant-loop : tie.invariant-loop
+abbrev invariant-loop : tie.invariant-loop-i
 invariant-loop first second len i₀ i = (i ≤ 16) × ((k : ℕ) → k < i → in_place len k (get_or (sixteen first second) k 0) ≡ true)
 
-abbrev decreases-loop : tie.decreases-loop
+abbrev decreases-loop : tie.decreases-loop-i
 decreases-loop first second len i₀ i = 16 - i
 
-returns : tie.Need-returns invariant-loop decreases-loop
+returns : tie.Need-returns-then-len-lt1 invariant-loop decreases-loop
 returns c = sym (empty _ (omega arith))
 
-returns-2 : tie.Need-returns-2 invariant-loop decreases-loop
+returns-2 : tie.Need-returns-then-len-gt16 invariant-loop decreases-loop
 returns-2 c = sym (long _ (omega arith))
 
-loop-holds : tie.Need-loop-init invariant-loop decreases-loop
+loop-holds : tie.Need-loop-i-init invariant-loop decreases-loop
 loop-holds c = (search rules, below_none _)
 
-byte-at-requires : tie.Need-byte-at-requires invariant-loop decreases-loop
+byte-at-requires : tie.Need-byte_at-b-requires invariant-loop decreases-loop
 byte-at-requires c κs = search rules
 
-in-place-requires : tie.Need-in-place-requires invariant-loop decreases-loop
+in-place-requires : tie.Need-in_place-requires invariant-loop decreases-loop
 in-place-requires c κs = search rules
 
 -- what a turn judges
-module _ (c : tie.After-in-place invariant-loop decreases-loop) where
+module _ (c : tie.After-in_place invariant-loop decreases-loop) where
   abbrev name : Name
   name = c.before.before.before.before.before.before.args.n
 
   abbrev place : ℕ
-  place = c.before.before.before.loop.i
+  place = c.before.before.before.loop-i.i
 
   judged : in_place name.len place (get_or (both_words name) place 0) ≡ c.in_place.result
-  judged = ap (in_place name.len place) (sym c.before.byte_at.ensures) ∙ sym c.in_place.ensures
+  judged = ap (in_place name.len place) (sym c.before.byte_at-b.ensures) ∙ sym c.in_place.ensures
 
-returns-3 : tie.Need-returns-3 invariant-loop decreases-loop
+returns-3 : tie.Need-returns-then-not-in_place invariant-loop decreases-loop
 returns-3 c =
     let turn = c.before in
-    let bad = judged turn ∙ not-true turn.in_place.result c.if3.true in
+    let bad = judged turn ∙ c.if-not-in_place.true in
     sym (out-of-place (name turn) (omega arith) (place turn) (omega arith) bad)
 
-add-i : tie.Need-overflow-add-i invariant-loop decreases-loop
+add-i : tie.Need-overflow_add-i invariant-loop decreases-loop
 add-i c = search rules
 
-loop-less : tie.Need-loop-smaller invariant-loop decreases-loop
+loop-less : tie.Need-loop-i-smaller invariant-loop decreases-loop
 loop-less c = omega arith
 
-loop-again : tie.Need-loop-preserved invariant-loop decreases-loop
+loop-again : tie.Need-loop-i-preserved invariant-loop decreases-loop
 loop-again c =
     let turn = c.before in
-    let good = judged turn ∙ not-false turn.in_place.result c.if3.false in
-    (search rules, below_more _ _ turn.before.before.before.loop.invariant.1 good)
+    let good = judged turn ∙ c.if-not-in_place.false in
+    (search rules, below_more _ _ turn.before.before.before.loop-i.invariant.1 good)
 
-returns-4 : tie.Need-returns-4 invariant-loop decreases-loop
+returns-4 : tie.Need-returns invariant-loop decreases-loop
 returns-4 c =
     let n = c.before.before.before.before.args.n in
-    sym (in_place_lem n (omega arith) (omega arith) (omega arith) (omega arith) (λ i h. c.before.loop.invariant.1 i (omega arith)))
+    sym (in_place_lem n (omega arith) (omega arith) (omega arith) (omega arith) (λ i h. c.before.loop-i.invariant.1 i (omega arith)))
 
-pub is-name-spec : {M : Type 1} → statement M
-is-name-spec =
+pub is_name_spec : {M : Type 1} → statement M
+is_name_spec =
     tie.close
     (tie.spec
     invariant-loop

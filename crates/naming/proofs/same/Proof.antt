@@ -22,14 +22,19 @@ module _ (a b : Name) where
   unfolding same_name
   by_length e f = simp (eq-eqb a.first b.first e, eq-eqb a.second b.second f)
 
-returns : tie.Need-returns
+returns : tie.Need-returns-then-a-b
 returns c = sym (other-first _ _ (λ e. omega arith))
 
-returns-2 : tie.Need-returns-2
+returns-2 : tie.Need-returns-then-a-b-2
 returns-2 c = sym (other-second _ _ (omega arith) (λ e. omega arith))
 
-returns-3 : tie.Need-returns-3
+returns-3 : tie.Need-returns
 returns-3 c = sym (by_length _ _ (omega arith) (omega arith))
 
 pub same_spec : {M : Type 1} → statement M
-same_spec = tie.close (tie.spec returns returns-2 returns-3)
+same_spec =
+    tie.close
+    (tie.spec
+    returns
+    returns-2
+    returns-3)

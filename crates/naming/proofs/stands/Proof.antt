@@ -22,14 +22,19 @@ module _ (b : ℕ) where
   unfolding name_byte
   within h k = simp (le-leb 0x21 b h, le-leb b 0x7E k)
 
-returns : tie.Need-returns
+returns : tie.Need-returns-then-b-lt33
 returns c = sym (below _ (omega arith))
 
-returns-2 : tie.Need-returns-2
+returns-2 : tie.Need-returns-then-b-gt126
 returns-2 c = sym (above _ (omega arith))
 
-returns-3 : tie.Need-returns-3
+returns-3 : tie.Need-returns
 returns-3 c = sym (within _ (omega arith) (omega arith))
 
-pub stands-spec : {M : Type 1} → statement M
-stands-spec = tie.close (tie.spec returns returns-2 returns-3)
+pub stands_spec : {M : Type 1} → statement M
+stands_spec =
+    tie.close
+    (tie.spec
+    returns
+    returns-2
+    returns-3)

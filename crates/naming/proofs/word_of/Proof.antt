@@ -49,49 +49,49 @@ module _ (part : List ℕ) (word left : ℕ) (g : Gathered part word left) (h : 
         few = rw (count, pow-succ') (omega arith);
       }
 
-abbrev invariant-loop : tie.invariant-loop
+abbrev invariant-loop : tie.invariant-loop-left
 invariant-loop part word₀ left₀ word left = Gathered part word left
 
-abbrev decreases-loop : tie.decreases-loop
+abbrev decreases-loop : tie.decreases-loop-left
 decreases-loop part word₀ left₀ word left = left
 
-loop-holds : tie.Need-loop-init invariant-loop decreases-loop
+loop-holds : tie.Need-loop-left-init invariant-loop decreases-loop
 loop-holds c = none _
 
-low : (c : tie.In-loop invariant-loop decreases-loop) → c.before.loop.word < 256 ^ 7
-low c = small _ _ _ c.before.loop.invariant c.loop-test.true c.before.before.requires
+low : (c : tie.In-loop-left invariant-loop decreases-loop) → c.before.loop-left.word < 256 ^ 7
+low c = small _ _ _ c.before.loop-left.invariant c.loop-left-test.true c.before.before.requires
 
-mul-word : tie.Need-overflow-mul-word invariant-loop decreases-loop
+mul-word : tie.Need-overflow_mul-word invariant-loop decreases-loop
 mul-word c = Fits-shl 56 8 tt (low c)
 
-sub_word : tie.Need-overflow-sub-word invariant-loop decreases-loop
+sub_word : tie.Need-overflow_sub-word invariant-loop decreases-loop
 sub_word c = search rules
 
-shared-slice-read-word : tie.Need-shared-slice-read-word invariant-loop decreases-loop
+shared-slice-read-word : tie.Need-bounds-part-left invariant-loop decreases-loop
 shared-slice-read-word c = omega arith
 
-cast-word : tie.Need-overflow-cast-word invariant-loop decreases-loop
-cast-word c = Fits-8_64 (c.shared-slice-known.given _)
+cast-word : tie.Need-overflow_cast-word invariant-loop decreases-loop
+cast-word c = Fits-8_64 (c.shared_slice_known-1.given _)
 
-add-word : tie.Need-overflow-add-word invariant-loop decreases-loop
-add-word c = Fits-cat 56 8 tt (low c.before) (c.shared-slice-known.given _).fits
+add-word : tie.Need-overflow_add-word invariant-loop decreases-loop
+add-word c = Fits-cat 56 8 tt (low c.before) (c.shared_slice_known-1.given _).fits
 
-sub-left : tie.Need-overflow-sub-left invariant-loop decreases-loop
+sub-left : tie.Need-overflow_sub-left invariant-loop decreases-loop
 sub-left c = search rules
 
-loop-less : tie.Need-loop-smaller invariant-loop decreases-loop
+loop-less : tie.Need-loop-left-smaller invariant-loop decreases-loop
 loop-less c = omega arith
 
-loop-again : tie.Need-loop-preserved invariant-loop decreases-loop
+loop-again : tie.Need-loop-left-preserved invariant-loop decreases-loop
 loop-again c =
-    let loop = c.before.before.loop in
-    more _ _ _ loop.invariant (omega arith) (c.shared-slice-known.given (loop.left - 1)).fits
+    let loop = c.before.before.loop-left in
+    more _ _ _ loop.invariant (omega arith) (c.shared_slice_known-1.given (loop.left - 1)).fits
 
 returns : tie.Need-returns invariant-loop decreases-loop
-returns c = whole _ _ _ c.before.loop.invariant (omega arith)
+returns c = whole _ _ _ c.before.loop-left.invariant (omega arith)
 
-pub word-of-spec : {M : Type 1} → statement M
-word-of-spec =
+pub word_of_spec : {M : Type 1} → statement M
+word_of_spec =
     tie.close
     (tie.spec
     invariant-loop

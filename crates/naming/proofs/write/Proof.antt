@@ -54,71 +54,71 @@ whole n text at out i e fits p h =
     let end : i ≡ n.len = omega arith in
     record { answered = simp (e, there); left = simp (e, there) (rw end at p.is) }
 
-abbrev invariant-loop : tie.invariant-loop
+abbrev invariant-loop : tie.invariant-loop-put
 invariant-loop out₀ at first second len put₀ out put = Put (sixteen first second) out₀ at len out put
 
-abbrev decreases-loop : tie.decreases-loop
+abbrev decreases-loop : tie.decreases-loop-put
 decreases-loop out₀ at first second len put₀ out put = len - put
 
-is-name-requires : tie.Need-is-name-requires invariant-loop decreases-loop
+is-name-requires : tie.Need-is_name-requires invariant-loop decreases-loop
 is-name-requires c κs = search rules
 
-returns : tie.Need-returns invariant-loop decreases-loop
+returns : tie.Need-returns-then-not-is_name invariant-loop decreases-loop
 returns c =
     let call = c.before.is_name in
-    no_name _ _ _ (sym call.ensures ∙ not-true call.result c.if1.true)
+    no_name _ _ _ (sym call.ensures ∙ c.if-not-is_name.true)
 
-a-name : (c : tie.Else1 invariant-loop decreases-loop) → is_name c.before.before.before.args.n ≡ true
-a-name c = sym c.before.is_name.ensures ∙ not-false c.before.is_name.result c.if1.false
+a-name : (c : tie.Else-not-is_name invariant-loop decreases-loop) → is_name c.before.before.before.args.n ≡ true
+a-name c = sym c.before.is_name.ensures ∙ c.if-not-is_name.false
 
-short : (c : tie.Else1 invariant-loop decreases-loop) → c.before.before.before.args.n.len ≤ 16
+short : (c : tie.Else-not-is_name invariant-loop decreases-loop) → c.before.before.before.args.n.len ≤ 16
 short c = ((well-formed c.before.before.before.args.n).0 (a-name c)).most
 
-returns-2 : tie.Need-returns-2 invariant-loop decreases-loop
+returns-2 : tie.Need-returns-then-out-len invariant-loop decreases-loop
 returns-2 c = no_room _ _ _ (a-name c.before) (omega arith)
 
-sub-if3 : tie.Need-overflow-sub-if3 invariant-loop decreases-loop
+sub-if3 : tie.Need-overflow_sub-out invariant-loop decreases-loop
 sub-if3 c = search rules
 
-returns-3 : tie.Need-returns-3 invariant-loop decreases-loop
+returns-3 : tie.Need-returns-then-out-len-2 invariant-loop decreases-loop
 returns-3 c = no_room _ _ _ (a-name c.before.before) (omega arith)
 
-loop-holds : tie.Need-loop-init invariant-loop decreases-loop
+loop-holds : tie.Need-loop-put-init invariant-loop decreases-loop
 loop-holds c = none _ _ _ _
 
-byte-at-requires : tie.Need-byte-at-requires invariant-loop decreases-loop
+byte-at-requires : tie.Need-byte_at-requires invariant-loop decreases-loop
 byte-at-requires c κs = omega (arith, short c.before.before.before.before)
 
-add-out : tie.Need-overflow-add-out invariant-loop decreases-loop
+add-out : tie.Need-overflow_add-out invariant-loop decreases-loop
 add-out c = omega arith
 
-slice-write-out : tie.Need-slice-write-out invariant-loop decreases-loop
+slice-write-out : tie.Need-bounds-out-at invariant-loop decreases-loop
 slice-write-out c = omega arith
 
-add-put : tie.Need-overflow-add-put invariant-loop decreases-loop
+add-put : tie.Need-overflow_add-put invariant-loop decreases-loop
 add-put c = omega arith
 
-loop-less : tie.Need-loop-smaller invariant-loop decreases-loop
+loop-less : tie.Need-loop-put-smaller invariant-loop decreases-loop
 loop-less c = omega arith
 
-loop-again : tie.Need-loop-preserved invariant-loop decreases-loop
+loop-again : tie.Need-loop-put-preserved invariant-loop decreases-loop
 loop-again c =
     let at-loop = c.before.before in
     let else1 = at-loop.before.before.before in
     let args = else1.before.before.before.args in
-    let loop = at-loop.loop in
+    let loop = at-loop.loop-put in
     let bytes = sixteen args.n.first args.n.second in
     let few : args.n.len ≤ length bytes = rw length-sixteen (short else1) in
     rw c.byte_at.ensures
     (more bytes args.out.now args.at args.n.len loop.out loop.put loop.invariant (omega arith) few (omega arith))
 
-same_length : tie.Need-same-length invariant-loop decreases-loop
-same_length c = c.before.loop.invariant.long
+same_length : tie.Need-shape_of-out invariant-loop decreases-loop
+same_length c = c.before.loop-put.invariant.long
 
-returns-4 : tie.Need-returns-4 invariant-loop decreases-loop
+returns-4 : tie.Need-returns invariant-loop decreases-loop
 returns-4 c =
     let at-loop = c.before in
-    whole _ _ _ _ _ (a-name at-loop.before.before.before) (omega arith) at-loop.loop.invariant (omega arith)
+    whole _ _ _ _ _ (a-name at-loop.before.before.before) (omega arith) at-loop.loop-put.invariant (omega arith)
 
 pub write_spec : {M : Type 1} → statement M
 write_spec =

@@ -22,40 +22,38 @@ module _ (s : Settings) (b : Bin) (numbers : List Float) (p : Pulse) (len start 
   shaped-started : is_shaped b.envelope.shape ≡ true → shaped_at s b p start offset (measured_at s b numbers offset (len - start)) ≡ started_at s b numbers p len start offset
   shaped-started e = ap (λ (x : Bool). cond x (shaped_at s b p start offset (measured_at s b numbers offset (len - start))) (plain_at s b p start offset (len - start))) (sym e) ∙ started
 
-returns : tie.Need-returns
-returns c = rw (le-ltb _ _ c.if1.true)
+returns : tie.Need-returns-then-len-start
+returns c = rw (le-ltb _ _ c.if-len-start.true)
 
-is-shaped-requires : tie.Need-is-shaped-requires
+is-shaped-requires : tie.Need-is_shaped-requires
 is-shaped-requires c κs = search rules
 
-sub-shaped : tie.Need-overflow-sub-shaped
+sub-shaped : tie.Need-overflow_sub-len
 sub-shaped c = search rules
 
 shaped-requires : tie.Need-shaped-requires
 shaped-requires c κs = search rules
 
-returns-2 : tie.Need-returns-2
+returns-2 : tie.Need-returns-then-is_shaped
 returns-2 c =
-    let d = c.before.before.before.before in
-    let a = d.before.before.args in
-    let is = sym c.before.before.is-shaped.ensures ∙ c.before.if2.true in
-    c.shaped.ensures ∙ shaped-started a.s a.b a.numbers.now a.p a.len a.start a.offset (lt-ltb _ _ d.if1.false) is
+    let a = c.args in
+    let is = sym c.is_shaped.ensures ∙ c.if-is_shaped.true in
+    c.shaped.ensures ∙ shaped-started a.s a.b a.numbers.now a.p a.len a.start a.offset (lt-ltb _ _ c.if-len-start.false) is
 
-sub-plain : tie.Need-overflow-sub-plain
+sub-plain : tie.Need-overflow_sub-len-2
 sub-plain c = search rules
 
 plain-requires : tie.Need-plain-requires
 plain-requires c κs = search rules
 
-returns-3 : tie.Need-returns-3
+returns-3 : tie.Need-returns
 returns-3 c =
-    let d = c.before.before.before.before in
-    let a = d.before.before.args in
-    let is = sym c.before.before.is-shaped.ensures ∙ c.before.if2.false in
-    c.plain.ensures ∙ plain-started a.s a.b a.numbers.now a.p a.len a.start a.offset (lt-ltb _ _ d.if1.false) is
+    let a = c.args in
+    let is = sym c.is_shaped.ensures ∙ c.if-is_shaped.false in
+    c.plain.ensures ∙ plain-started a.s a.b a.numbers.now a.p a.len a.start a.offset (lt-ltb _ _ c.if-len-start.false) is
 
-pub from-start-spec : {M : Type 1} → statement M
-from-start-spec =
+pub from_start_spec : {M : Type 1} → statement M
+from_start_spec =
     tie.close
     (tie.spec
     returns

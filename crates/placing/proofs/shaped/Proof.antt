@@ -7,29 +7,27 @@ use Rattle.placing.proofs.shaped.Tie as tie
 measure-requires : tie.Need-measure-requires
 measure-requires c κs = search rules
 
-enum-known-points : tie.Need-enum-known-points
+enum-known-points : tie.Need-enum_known-points
 enum-known-points c = search rules
 
-with-points-requires : tie.Need-with-points-requires
+with-points-requires : tie.Need-with_points-requires
 with-points-requires c κs = search rules
 
-enum-known-r : tie.Need-enum-known-r
+enum-known-r : tie.Need-enum_known-r
 enum-known-r c = search rules
 
-returns : tie.Need-returns
+returns : tie.Need-returns-in-Points
 returns c =
-    let d = c.before.before.before.before in
-    let a = d.before.before.before.args in
-    c.with-points.ensures ∙ ap (shaped_at a.s a.b a.p a.start a.offset) (sym c.before.before.points.given.1 ∙ d.measure.ensures)
+    let a = c.args in
+    c.with_points.ensures ∙ ap (shaped_at a.s a.b a.p a.start a.offset) (sym c.in-Points.is ∙ c.measure.ensures)
 
-returns-2 : tie.Need-returns-2
+returns-2 : tie.Need-returns-in-Refused
 returns-2 c =
-    let d = c.before.before.before in
-    let a = d.before.before.before.args in
-    ap (shaped_at a.s a.b a.p a.start a.offset) (sym c.before.r.given.1 ∙ d.measure.ensures)
+    let a = c.args in
+    ap (shaped_at a.s a.b a.p a.start a.offset) (sym c.in-Refused.is ∙ c.measure.ensures)
 
-pub shaped-spec : {M : Type 1} → statement M
-shaped-spec =
+pub shaped_spec : {M : Type 1} → statement M
+shaped_spec =
     tie.close
     (tie.spec
     measure-requires

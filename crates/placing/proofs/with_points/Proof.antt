@@ -1,6 +1,7 @@
 -- `placing::with_points` meets its contract: the rest judged, then what the phases gave. Assumes nothing.
+use mathlib.Core.Path.{ap}
 use Rattle.std.proofs.Common.{◌≡◌, ◌&&◌, sym, ◌∙◌, rules}
-use mathlib.Core.Bool.{and-false}
+use mathlib.Core.Bool.{and-false, not}
 use Rattle.quant.proofs.Judging.{taken, passed}
 use Rattle.rows.specs.Rows.{all_finite}
 use Rattle.placing.specs.Judged.{weight_numbers, drag_numbers}
@@ -8,55 +9,53 @@ use Rattle.placing.proofs.Turning.{turn-given, turn-missing}
 use Rattle.placing.proofs.with_points.Statement.{statement}
 use Rattle.placing.proofs.with_points.Tie as tie
 
-scale-requires : tie.Need-scale-requires
+scale-requires : tie.Need-scale-drag-requires
 scale-requires c κs = search rules
 
-is-finite-weight-requires : tie.Need-is-finite-weight-requires
+is-finite-weight-requires : tie.Need-is_finite_weight-requires
 is-finite-weight-requires c κs = search rules
 
-slice-aggregate-all-finite : tie.Need-slice-aggregate-all-finite
+slice-aggregate-all-finite : tie.Need-slice_bounds-all_finite-end
 slice-aggregate-all-finite c = search rules
 
-all-finite-requires : tie.Need-all-finite-requires
+all-finite-requires : tie.Need-all_finite-requires
 all-finite-requires c κs = search rules
 
 both-requires : tie.Need-both-requires
 both-requires c κs = search rules
 
 -- both judgements, of the numbers that the definition names
-weighed : (d : tie.After-both) → let a = d.before.before.before.before.before.before.before.before.args in
+weighed : (d : tie.After-both) → let a = d.args in
     d.both.result ≡ (all_finite (weight_numbers a.p) && all_finite (drag_numbers a.s a.p))
 weighed d =
-    rw (d.both.ensures, d.before.before.before.is-finite-weight.ensures, d.before.all-finite.ensures, d.before.before.before.before.scale.ensures)
+    rw (d.both.ensures, d.is_finite_weight.ensures, d.all_finite.ensures, d.scale-drag.ensures)
 
-returns : tie.Need-returns
-returns c = rw (taken c.before.both.result _ (weighed c.before) c.if1.true)
+returns : tie.Need-returns-then-not-both
+returns c = rw (taken c.both.result _ (weighed c.before) (ap not c.if-not-both.true))
 
 turn-requires : tie.Need-turn-requires
 turn-requires c κs = search rules
 
-enum-known-u : tie.Need-enum-known-u
+enum-known-u : tie.Need-enum_known-u
 enum-known-u c = search rules
 
-enum_told : tie.Need-enum-told
+enum_told : tie.Need-enum_told-1
 enum_told c = search rules
 
-returns-2 : tie.Need-returns-2
+returns-2 : tie.Need-returns-in-Pairs
 returns-2 c =
-    let d = c.before.before.before in
-    let e = d.before.before in
-    let a = e.before.before.before.before.before.before.before.before.args in
-    let g = turn-given a.s a.b a.start a.offset _ _ (sym d.turn.ensures ∙ c.before.u.given.1) in
-    rw (passed e.both.result _ (weighed e) d.before.if1.false, g.fine, e.before.before.before.before.scale.ensures, g.first, g.rotation)
+    let a = c.args in
+    let g = turn-given a.s a.b a.start a.offset _ _ (sym c.turn.ensures ∙ c.in-Pairs.is) in
+    rw (passed c.both.result _ (weighed c.before.before.before) (ap not c.if-not-both.false), g.fine, c.scale-drag.ensures, g.first, g.rotation)
 
-returns-3 : tie.Need-returns-3
+returns-3 : tie.Need-returns-in-NotFinite
 returns-3 c =
-    let a = c.before.before.before.before.before.before.before.before.before.before.before.before.args in
-    let m = turn-missing a.s a.b a.start a.offset (sym c.before.before.turn.ensures ∙ c.enum_told.given.1) in
+    let a = c.args in
+    let m = turn-missing a.s a.b a.start a.offset (sym c.turn.ensures ∙ c.in-NotFinite.is) in
     rw (m, and-false _)
 
-pub with-points-spec : {M : Type 1} → statement M
-with-points-spec =
+pub with_points_spec : {M : Type 1} → statement M
+with_points_spec =
     tie.close
     (tie.spec
     scale-requires

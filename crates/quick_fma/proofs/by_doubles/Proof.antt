@@ -8,45 +8,45 @@ use Rattle.quick_fma.proofs.by_doubles.Statement.{statement}
 use Rattle.quick_fma.proofs.by_doubles.Tie as tie
 
 held-a : (c : tie.Start) → T (fits binary64 c.args.a)
-held-a c = subst T (sym c.well-formed.0.1) tt
+held-a c = subst T (sym c.well_formed.0.1) tt
 
 held_x : (c : tie.Start) → T (fits binary64 c.args.x)
-held_x c = subst T (sym c.well-formed.1.0.1) tt
+held_x c = subst T (sym c.well_formed.1.0.1) tt
 
 held-c : (c : tie.Start) → T (fits binary64 c.args.c)
-held-c c = subst T (sym c.well-formed.1.1.0.1) tt
+held-c c = subst T (sym c.well_formed.1.1.0.1) tt
 
-upper-requires : tie.Need-upper-requires
+upper-requires : tie.Need-upper-h-requires
 upper-requires c κs = search rules
 
-upper-requires-2 : tie.Need-upper-requires-2
+upper-requires-2 : tie.Need-upper-g-requires
 upper-requires-2 c κs = search rules
 
-trial-requires : tie.Need-trial-requires
+trial-requires : tie.Need-trial-w-requires
 trial-requires c κs = search rules
 
-returns : tie.Need-returns
+returns : tie.Need-returns-then-w
 returns c =
     let w = c.before.before in
     let g = w.before in
     let h = g.before in
     let s = h.before in
-    tried s.args.a s.args.x s.args.c (held-a s) (held_x s) (held-c s) s.requires.0 s.requires.1 h.upper.result _ g.upper2.result _ w.trial.result h.upper.ensures refl g.upper2.ensures refl
-    w.trial.ensures c.if1.true
+    tried s.args.a s.args.x s.args.c (held-a s) (held_x s) (held-c s) s.requires.0 s.requires.1 h.upper-h.result _ g.upper-g.result _ w.trial-w.result h.upper-h.ensures refl g.upper-g.ensures refl
+    w.trial-w.ensures c.if-w.true
 
-sum-off-requires : tie.Need-sum-off-requires
+sum-off-requires : tie.Need-sum_off-t-requires
 sum-off-requires c κs = search rules
 
-product-off-requires : tie.Need-product-off-requires
+product-off-requires : tie.Need-product_off-e-requires
 product-off-requires c κs = search rules
 
-either-none-requires : tie.Need-either-none-requires
+either-none-requires : tie.Need-either_none-requires
 either-none-requires c κs = search rules
 
-is-finite-requires : tie.Need-is-finite-requires
+is-finite-requires : tie.Need-is_finite-requires
 is-finite-requires c κs = search rules
 
-returns-2 : tie.Need-returns-2
+returns-2 : tie.Need-returns-then-is_finite
 returns-2 c =
     let f = c.before in
     let o = f.before.before in
@@ -55,17 +55,17 @@ returns-2 c =
     let g = t.before.before.before.before in
     let h = g.before in
     let s = h.before in
-    exactly-tried s.args.a s.args.x s.args.c (held-a s) (held_x s) (held-c s) s.requires.0 s.requires.1 h.upper.result g.upper2.result t.sum-off.result e.product-off.result
-    h.upper.ensures g.upper2.ensures t.sum-off.ensures e.product-off.ensures (sym o.either-none.ensures ∙ f.before.if2.true) (sym f.is_finite.ensures ∙ c.if3.true)
+    exactly-tried s.args.a s.args.x s.args.c (held-a s) (held_x s) (held-c s) s.requires.0 s.requires.1 h.upper-h.result g.upper-g.result t.sum_off-t.result e.product_off-e.result
+    h.upper-h.ensures g.upper-g.ensures t.sum_off-t.ensures e.product_off-e.ensures (sym o.either_none.ensures ∙ f.if-either_none.true) (sym f.is_finite.ensures ∙ c.if-is_finite.true)
 
-mul-add-requires : tie.Need-mul-add-requires
+mul-add-requires : tie.Need-mul_add-requires
 mul-add-requires c κs = search rules
 
-returns-3 : tie.Need-returns-3
+returns-3 : tie.Need-returns
 returns-3 c = search rules
 
-pub by-doubles-spec : {M : Type 1} → statement M
-by-doubles-spec =
+pub by_doubles_spec : {M : Type 1} → statement M
+by_doubles_spec =
     tie.close
     (tie.spec
     upper-requires

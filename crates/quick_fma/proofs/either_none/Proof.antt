@@ -2,11 +2,15 @@
 use Rattle.quick_fma.proofs.either_none.Statement.{statement}
 use Rattle.quick_fma.proofs.either_none.Tie as tie
 
-returns : tie.Need-returns
-returns c = rw c.if1.true
+returns : tie.Need-returns-then-t
+returns c = rw c.if-t.true
 
-returns-2 : tie.Need-returns-2
-returns-2 c = rw c.if1.false
+returns-2 : tie.Need-returns
+returns-2 c = rw c.if-t.false
 
-pub either-none-spec : {M : Type 1} → statement M
-either-none-spec = tie.close (tie.spec returns returns-2)
+pub either_none_spec : {M : Type 1} → statement M
+either_none_spec =
+    tie.close
+    (tie.spec
+    returns
+    returns-2)

@@ -20,17 +20,23 @@ as-masked : (x : Float) (b : Bool) → b ≡ (eqb (bit_and (to_bits binary64 x) 
     → T (not (is_nan x)) → b ≡ roomy_of x
 as-masked x b e n = e ∙ ap (λ (k : ℕ). eqb k 0 || leb 0x21a0_0000_0000_0000 k) (and_mask (to_bits binary64 x) 63) ∙ sym (size-only x n)
 
-returns : tie.Need-returns
-returns c = rw (nan_if_other c.before.args.x c.if1.true)
+returns : tie.Need-returns-then-x
+returns c = rw (nan_if_other c.args.x c.if-x.true)
 
-float-to-bits-n : tie.Need-float-to-bits-n
-float-to-bits-n c = number_if_same c.before.args.x c.if1.false
+float-to-bits-n : tie.Need-float_to_bits-n
+float-to-bits-n c = number_if_same c.args.x c.if-x.false
 
-returns-2 : tie.Need-returns-2
-returns-2 c = as-masked c.before.before.args.x true (rw (eq-eqb _ _ c.if2.true)) (number_if_same c.before.before.args.x c.before.if1.false)
+returns-2 : tie.Need-returns-then-n-eq0
+returns-2 c = as-masked c.args.x true (rw (eq-eqb _ _ c.if-n-eq0.true)) (number_if_same c.args.x c.if-x.false)
 
-returns-3 : tie.Need-returns-3
-returns-3 c = as-masked c.before.before.args.x _ (rw (ne_eqb _ _ c.if2.false)) (number_if_same c.before.before.args.x c.before.if1.false)
+returns-3 : tie.Need-returns
+returns-3 c = as-masked c.args.x _ (rw (ne_eqb _ _ c.if-n-eq0.false)) (number_if_same c.args.x c.if-x.false)
 
-pub roomy-spec : {M : Type 1} → statement M
-roomy-spec = tie.close (tie.spec returns float-to-bits-n returns-2 returns-3)
+pub roomy_spec : {M : Type 1} → statement M
+roomy_spec =
+    tie.close
+    (tie.spec
+    returns
+    float-to-bits-n
+    returns-2
+    returns-3)

@@ -6,10 +6,10 @@ use Rattle.roundoff.specs.Roundoff.{enclosure_of}
 use Rattle.quick_fma.proofs.trial.Statement.{statement}
 use Rattle.quick_fma.proofs.trial.Tie as tie
 
-sum-off-requires : tie.Need-sum-off-requires
+sum-off-requires : tie.Need-sum_off-requires
 sum-off-requires c κs = search rules
 
-product-off-requires : tie.Need-product-off-requires
+product-off-requires : tie.Need-product_off-requires
 product-off-requires c κs = search rules
 
 enclose-requires : tie.Need-enclose-requires
@@ -18,8 +18,14 @@ enclose-requires c κs = search rules
 returns : tie.Need-returns
 returns c =
     let o = c.before.before in
-    let k = o.before.args in
-    c.enclose.ensures ∙ (λ i. enclosure_of (add binary64 (mul binary64 k.a k.x) k.c) (o.sum-off.ensures i) (c.before.product-off.ensures i))
+    let k = o.args in
+    c.enclose.ensures ∙ (λ i. enclosure_of (add binary64 (mul binary64 k.a k.x) k.c) (o.sum_off.ensures i) (c.product_off.ensures i))
 
-pub trial-spec : {M : Type 1} → statement M
-trial-spec = tie.close (tie.spec sum-off-requires product-off-requires enclose-requires returns)
+pub trial_spec : {M : Type 1} → statement M
+trial_spec =
+    tie.close
+    (tie.spec
+    sum-off-requires
+    product-off-requires
+    enclose-requires
+    returns)

@@ -14,7 +14,7 @@ use Rattle.quick_fma.proofs.upper.Statement.{statement}
 use Rattle.quick_fma.proofs.upper.Tie as tie
 
 held : (c : tie.Start) → T (fits binary64 c.args.x)
-held c = subst T (sym c.well-formed.0.1) tt
+held c = subst T (sym c.well_formed.0.1) tt
 
 room : (b : ℕ) → b < 2 ^ 64 → b % 2 ^ 63 ≤ 2047 * 2 ^ 52 → b + 0x400_0000 < 2 ^ 64
 room b h l = omega arith
@@ -32,24 +32,31 @@ no-nan-left x f n =
 of_number : (x : Float) → T (not (is_nan x)) → of_bits binary64 (upper_bits (to_bits binary64 x)) ≡ upper_of x
 of_number x n = ap (λ (t : Bool). cond t x (of_bits binary64 (upper_bits (to_bits binary64 x)))) (sym (is_false (is_nan x) n))
 
-returns : tie.Need-returns
-returns c = rw (nan_if_other c.before.args.x c.if1.true)
+returns : tie.Need-returns-then-x
+returns c = rw (nan_if_other c.args.x c.if-x.true)
 
-float-to-bits-result : tie.Need-float-to-bits-result
-float-to-bits-result c = number_if_same c.before.args.x c.if1.false
+float-to-bits-result : tie.Need-float_to_bits-result
+float-to-bits-result c = number_if_same c.args.x c.if-x.false
 
-add-result : tie.Need-overflow-add-result
+add-result : tie.Need-overflow_add-result
 add-result c =
-    let x = c.before.args.x in
-    omega (arith, room (to_bits binary64 x) (to_bits-lt binary64 x (held c.before)) (number-bits x (held c.before) (number_if_same x c.if1.false)))
+    let x = c.args.x in
+    omega (arith, room (to_bits binary64 x) (to_bits-lt binary64 x (held c.before)) (number-bits x (held c.before) (number_if_same x c.if-x.false)))
 
-float-from-bits-result : tie.Need-float-from-bits-result
+float-from-bits-result : tie.Need-float_from_bits-result
 unfolding upper_bits
-float-from-bits-result c = no_nan (upper_bits (to_bits binary64 c.before.args.x)) (no-nan-left c.before.args.x (held c.before) (number_if_same c.before.args.x c.if1.false))
+float-from-bits-result c = no_nan (upper_bits (to_bits binary64 c.args.x)) (no-nan-left c.args.x (held c.before) (number_if_same c.args.x c.if-x.false))
 
-returns-2 : tie.Need-returns-2
+returns-2 : tie.Need-returns
 unfolding upper_bits
-returns-2 c = of_number c.before.args.x (number_if_same c.before.args.x c.if1.false)
+returns-2 c = of_number c.args.x (number_if_same c.args.x c.if-x.false)
 
-pub upper-spec : {M : Type 1} → statement M
-upper-spec = tie.close (tie.spec returns float-to-bits-result add-result float-from-bits-result returns-2)
+pub upper_spec : {M : Type 1} → statement M
+upper_spec =
+    tie.close
+    (tie.spec
+    returns
+    float-to-bits-result
+    add-result
+    float-from-bits-result
+    returns-2)

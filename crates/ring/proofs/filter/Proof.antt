@@ -6,25 +6,31 @@ use Rattle.ring.proofs.Kept.{none_kept, many-kept, some-filtered}
 use Rattle.ring.proofs.filter.Statement.{statement}
 use Rattle.ring.proofs.filter.Tie as tie
 
-returns : tie.Need-returns
-returns c = let a = c.before.before.before.args in sym (none_kept a.taps.now a.row.now (omega arith))
+returns : tie.Need-returns-then-taps-lt1
+returns c = let a = c.args in sym (none_kept a.taps.now a.row.now (omega arith))
 
-returns-2 : tie.Need-returns-2
-returns-2 c = let a = c.before.before.before.before.args in sym (many-kept a.taps.now a.row.now (omega arith) (omega arith))
+returns-2 : tie.Need-returns-then-taps-gt256
+returns-2 c = let a = c.args in sym (many-kept a.taps.now a.row.now (omega arith) (omega arith))
 
-slice-aggregate-go-round : tie.Need-slice-aggregate-go-round
+slice-aggregate-go-round : tie.Need-slice_bounds-go_round-end
 slice-aggregate-go-round c = search rules
 
-go-round-requires : tie.Need-go-round-requires
+go-round-requires : tie.Need-go_round-requires
 go-round-requires c κs = search rules
 
-same_length : tie.Need-same-length
+same_length : tie.Need-shape_of-row
 same_length c = search rules
 
-returns-3 : tie.Need-returns-3
-returns-3 c = let a = c.before.before.before.before.before.before.before.before.before.before.args in c.before.before.before.go-round.ensures ∙ sym (some-filtered a.taps.now a.row.now (omega arith) (omega arith))
+returns-3 : tie.Need-returns
+returns-3 c = let a = c.args in c.go_round.ensures ∙ sym (some-filtered a.taps.now a.row.now (omega arith) (omega arith))
 
-pub filter-spec : {M : Type 1} → statement M
-filter-spec =
+pub filter_spec : {M : Type 1} → statement M
+filter_spec =
     tie.close
-    (tie.spec returns returns-2 slice-aggregate-go-round go-round-requires same_length returns-3)
+    (tie.spec
+    returns
+    returns-2
+    slice-aggregate-go-round
+    go-round-requires
+    same_length
+    returns-3)

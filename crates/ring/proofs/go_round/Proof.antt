@@ -22,29 +22,29 @@ record Inv (row₀ ring₀ taps row ring : List Float) (k s : ℕ) : Type 0 wher
   slot : s ≡ slot_of taps k
   left : row_to_be taps k ring row ≡ filtered_from taps 0 ring₀ row₀
 
-abbrev invariant-loop : tie.invariant-loop
+abbrev invariant-loop : tie.invariant-loop-k
 invariant-loop row₀ ring₀ taps k₀ s₀ row ring k s = Inv row₀ ring₀ taps row ring k s
 
-abbrev decreases-loop : tie.decreases-loop
+abbrev decreases-loop : tie.decreases-loop-k
 decreases-loop row₀ ring₀ taps k₀ s₀ row ring k s = length row₀ - k
 
-shared-slice-read-only-tap : tie.Need-shared-slice-read-only-tap invariant-loop decreases-loop
+shared-slice-read-only-tap : tie.Need-bounds-taps-0 invariant-loop decreases-loop
 shared-slice-read-only-tap c = omega arith
 
-only-tap-requires : tie.Need-only-tap-requires invariant-loop decreases-loop
+only-tap-requires : tie.Need-only_tap-requires invariant-loop decreases-loop
 only-tap-requires c κs = search rules
 
-same_length : tie.Need-same-length invariant-loop decreases-loop
+same_length : tie.Need-shape_of-row-then-taps-eq1 invariant-loop decreases-loop
 same_length c = omega arith
 
-returns : tie.Need-returns invariant-loop decreases-loop
+returns : tie.Need-returns-then-taps-eq1 invariant-loop decreases-loop
 returns c =
     let start = c.before.before.before.before.before.before.before.before.before in
     let a = start.args in
-    c.before.before.only-tap.ensures ∙ sym (only_of a.taps.now a.ring.now a.row.now c.before.before.before.before.before.if1.true (omega (arith, start.requires.room)))
+    c.only_tap.ensures ∙ sym (only_of a.taps.now a.ring.now a.row.now c.if-taps-eq1.true (omega (arith, start.requires.room)))
 
-loop-holds : tie.Need-loop-init invariant-loop decreases-loop
-loop-holds c = record { within = search rules; same = refl; room = refl; slot = sym (zero-mod (length c.before.before.before.before.args.taps.now)); left = refl }
+loop-holds : tie.Need-loop-k-init invariant-loop decreases-loop
+loop-holds c = record { within = search rules; same = refl; room = refl; slot = sym (zero-mod (length c.args.taps.now)); left = refl }
 
 ready-now : {taps ring ring₀ : List Float} → Ready taps ring₀ → length ring ≡ length ring₀ → Ready taps ring
 ready-now r e = record { some = r.some; few = r.few; room = e ∙ r.room }
@@ -52,23 +52,23 @@ ready-now r e = record { some = r.some; few = r.few; room = e ∙ r.room }
 slot-within : (taps : List Float) (k s : ℕ) → 1 ≤ length taps → s ≡ slot_of taps k → s < length taps
 slot-within taps k s some e = subst (λ (m : ℕ). m < length taps) (sym e) (mod-lt k some)
 
-advance-requires : tie.Need-advance-requires invariant-loop decreases-loop
+advance-requires : tie.Need-advance-done-requires invariant-loop decreases-loop
 advance-requires c κs =
-    let at = c.before.before.before.loop in
+    let at = c.loop-k in
     let start = c.before.before.before.before.before.before.before.before in
     let i = at.invariant in
-    (ready-now start.requires i.room, (i.slot, (slot-within start.args.taps.now at.k at.s start.requires.some i.slot, c.before.before.loop-test.true)))
+    (ready-now start.requires i.room, (i.slot, (slot-within start.args.taps.now at.k at.s start.requires.some i.slot, c.loop-k-test.true)))
 
-add-k : tie.Need-overflow-add-k invariant-loop decreases-loop
-add-k c = omega (arith, c.before.before.before.before.advance.ensures.within)
+add-k : tie.Need-overflow_add-k invariant-loop decreases-loop
+add-k c = omega (arith, c.advance-done.ensures.within)
 
-add-wrap : tie.Need-overflow-add-wrap invariant-loop decreases-loop
+add-wrap : tie.Need-overflow_add-s invariant-loop decreases-loop
 add-wrap c = omega arith
 
-wrap-requires : tie.Need-wrap-requires invariant-loop decreases-loop
+wrap-requires : tie.Need-wrap-s-requires invariant-loop decreases-loop
 wrap-requires c κs = search rules
 
-loop-less : tie.Need-loop-smaller invariant-loop decreases-loop
+loop-less : tie.Need-loop-k-smaller invariant-loop decreases-loop
 loop-less c = omega arith
 
 turn : (row₀ ring₀ taps row ring row' ring' : List Float) (k s w s' : ℕ) → Advanced taps k s w ring row ring' row' → s' ≡ (s + w) % length taps → Inv row₀ ring₀ taps row ring k s → Inv row₀ ring₀ taps row' ring' (k + w) s'
@@ -81,17 +81,17 @@ turn row₀ ring₀ taps row ring row' ring' k s w s' a e i =
       left = a.moved.left ∙ i.left;
     }
 
-loop-again : tie.Need-loop-preserved invariant-loop decreases-loop
+loop-again : tie.Need-loop-k-preserved invariant-loop decreases-loop
 loop-again c =
-    let at = c.before.before.before.before.before.before.before.before.before.loop in
-    let a = c.before.before.before.before.before.before.before.before.before.before.before.before.before.before.args in
-    turn a.row.now a.ring.now a.taps.now at.row at.ring _ _ at.k at.s _ c.wrap.result c.before.before.before.before.before.advance.ensures c.wrap.ensures at.invariant
+    let at = c.loop-k in
+    let a = c.args in
+    turn a.row.now a.ring.now a.taps.now at.row at.ring _ _ at.k at.s _ c.wrap-s.result c.advance-done.ensures c.wrap-s.ensures at.invariant
 
-same-length-2 : tie.Need-same-length-2 invariant-loop decreases-loop
-same-length-2 c = c.before.loop.invariant.same
+same-length-2 : tie.Need-shape_of-row invariant-loop decreases-loop
+same-length-2 c = c.loop-k.invariant.same
 
-same-length-3 : tie.Need-same-length-3 invariant-loop decreases-loop
-same-length-3 c = c.before.loop.invariant.room
+same-length-3 : tie.Need-shape_of-ring invariant-loop decreases-loop
+same-length-3 c = c.loop-k.invariant.room
 
 done : (row₀ ring₀ taps row ring : List Float) (k s : ℕ) → k ≡ length row → Inv row₀ ring₀ taps row ring k s → row ≡ filtered_from taps 0 ring₀ row₀
 unfolding filtered_from
@@ -102,14 +102,14 @@ done row₀ ring₀ taps row ring k s e i =
     ∙ ap (λ (m : ℕ). row_to_be taps m ring row) (sym e)
     ∙ i.left
 
-returns-2 : tie.Need-returns-2 invariant-loop decreases-loop
+returns-2 : tie.Need-returns invariant-loop decreases-loop
 returns-2 c =
-    let at = c.before.loop in
-    let a = c.before.before.before.before.before.before.args in
+    let at = c.loop-k in
+    let a = c.args in
     done a.row.now a.ring.now a.taps.now at.row at.ring at.k at.s (omega (arith, at.invariant.within)) at.invariant
 
-pub go-round-spec : {M : Type 1} → statement M
-go-round-spec =
+pub go_round_spec : {M : Type 1} → statement M
+go_round_spec =
     tie.close
     (tie.spec
     invariant-loop

@@ -6,11 +6,15 @@ use native.Mathlib.Omega.{arith}
 use Rattle.ring.proofs.wrap.Statement.{statement}
 use Rattle.ring.proofs.wrap.Tie as tie
 
-returns : tie.Need-returns
-returns c = sym (mod-eq_of_lt c.if1.true)
+returns : tie.Need-returns-then-s-n
+returns c = sym (mod-eq_of_lt c.if-s-n.true)
 
-returns-2 : tie.Need-returns-2
-returns-2 c = let n = c.before.args.n in let end : c.before.args.s ≡ n = omega arith in sym (ap (λ (m : ℕ). m % n) end ∙ mod_self n)
+returns-2 : tie.Need-returns
+returns-2 c = let n = c.args.n in let end : c.args.s ≡ n = omega arith in sym (ap (λ (m : ℕ). m % n) end ∙ mod_self n)
 
 pub wrap_spec : {M : Type 1} → statement M
-wrap_spec = tie.close (tie.spec returns returns-2)
+wrap_spec =
+    tie.close
+    (tie.spec
+    returns
+    returns-2)

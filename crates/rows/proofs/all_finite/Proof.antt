@@ -19,53 +19,53 @@ next : (l : List Float) (k : ℕ) → k < length l → all_finite (drop k l) ≡
 unfolding all_finite
 next l k h = ap all_finite (drop-cons l k nan h) ∙ ap (λ (n : ℕ). finite (get_or l k nan) && all_finite (drop n l)) (sym (add-one k))
 
-abbrev invariant-loop : tie.invariant-loop
+abbrev invariant-loop : tie.invariant-loop-k
 invariant-loop numbers k₀ k = (k ≤ length numbers) × (all_finite numbers ≡ all_finite (drop k numbers))
 
-abbrev decreases-loop : tie.decreases-loop
+abbrev decreases-loop : tie.decreases-loop-k
 decreases-loop numbers k₀ k = length numbers - k
 
-loop-holds : tie.Need-loop-init invariant-loop decreases-loop
+loop-holds : tie.Need-loop-k-init invariant-loop decreases-loop
 loop-holds c = (search rules, refl)
 
-mul-is-finite : tie.Need-overflow-mul-is-finite invariant-loop decreases-loop
+mul-is-finite : tie.Need-offset_bounds-numbers-k invariant-loop decreases-loop
 mul-is-finite c = omega arith
 
-shared-slice-read-is-finite : tie.Need-shared-slice-read-is-finite invariant-loop decreases-loop
+shared-slice-read-is-finite : tie.Need-bounds-numbers-k invariant-loop decreases-loop
 shared-slice-read-is-finite c = omega arith
 
-is-finite-requires : tie.Need-is-finite-requires invariant-loop decreases-loop
+is-finite-requires : tie.Need-is_finite-requires invariant-loop decreases-loop
 is-finite-requires c κs = search rules
 
-add-k : tie.Need-overflow-add-k invariant-loop decreases-loop
+add-k : tie.Need-overflow_add-k invariant-loop decreases-loop
 add-k c = omega arith
 
-loop-less : tie.Need-loop-smaller invariant-loop decreases-loop
+loop-less : tie.Need-loop-k-smaller invariant-loop decreases-loop
 loop-less c = omega arith
 
 -- at the test, with the answer b: what is judged from k on
-judged : (f : tie.After-is-finite invariant-loop decreases-loop) (b : Bool) → f.is_finite.result ≡ b → all_finite f.before.before.before.before.before.args.numbers.now ≡ (b && all_finite (drop (f.before.before.before.loop.k + 1) f.before.before.before.before.before.args.numbers.now))
+judged : (f : tie.After-is_finite invariant-loop decreases-loop) (b : Bool) → f.is_finite.result ≡ b → all_finite f.args.numbers.now ≡ (b && all_finite (drop (f.loop-k.k + 1) f.args.numbers.now))
 judged f b e =
-    let at = f.before.before.before.loop in
-    let l = f.before.before.before.before.before.args.numbers.now in
+    let at = f.loop-k in
+    let l = f.args.numbers.now in
     at.invariant.1 ∙ next l at.k (omega arith) ∙ ap (λ (x : Bool). x && all_finite (drop (at.k + 1) l)) (sym f.is_finite.ensures ∙ e)
 
-loop-again : tie.Need-loop-preserved invariant-loop decreases-loop
-loop-again c = (omega arith, judged c.before true c.if1.true)
+loop-again : tie.Need-loop-k-preserved invariant-loop decreases-loop
+loop-again c = (omega arith, judged c.before true c.if-is_finite.true)
 
-returns : tie.Need-returns invariant-loop decreases-loop
-returns c = sym (judged c.before false c.if1.false)
+returns : tie.Need-returns-else-is_finite invariant-loop decreases-loop
+returns c = sym (judged c.before false c.if-is_finite.false)
 
-returns-2 : tie.Need-returns-2 invariant-loop decreases-loop
+returns-2 : tie.Need-returns invariant-loop decreases-loop
 unfolding all_finite
 returns-2 c =
-    let at = c.before.loop in
-    let l = c.before.before.before.args.numbers.now in
+    let at = c.loop-k in
+    let l = c.args.numbers.now in
     let end : at.k ≡ length l = omega arith in
     sym (at.invariant.1 ∙ ap (λ (n : ℕ). all_finite (drop n l)) end ∙ ap all_finite (drop-length l))
 
-pub all-finite-spec : {M : Type 1} → statement M
-all-finite-spec =
+pub all_finite_spec : {M : Type 1} → statement M
+all_finite_spec =
     tie.close
     (tie.spec
     invariant-loop

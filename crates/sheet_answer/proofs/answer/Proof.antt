@@ -6,60 +6,54 @@ use Rattle.sheet_answer.proofs.Answering.{answered, no_room, printable, sheet-is
 use Rattle.sheet_answer.proofs.answer.Statement.{statement}
 use Rattle.sheet_answer.proofs.answer.Tie as tie
 
-returns : tie.Need-returns
-returns c = no_room _ _ c.if1.true
+returns : tie.Need-returns-then-out-lt4096
+returns c = no_room _ _ c.if-out-lt4096.true
 
-slice-aggregate-read : tie.Need-slice-aggregate-read
+slice-aggregate-read : tie.Need-slice_bounds-read-end
 slice-aggregate-read c = search rules
 
-read-requires : tie.Need-read-requires
+read-requires : tie.Need-read-reading-requires
 read-requires c κs = search rules
 
-enum-known-answer : tie.Need-enum-known-answer
+enum-known-answer : tie.Need-enum_known-answer
 enum-known-answer c = search rules
 
-slice-aggregate-sheet-back : tie.Need-slice-aggregate-sheet-back
+slice-aggregate-sheet-back : tie.Need-slice_bounds-sheet_back-end
 slice-aggregate-sheet-back c = search rules
 
-sheet-back-requires : tie.Need-sheet-back-requires
+sheet-back-requires : tie.Need-sheet_back-requires
 sheet-back-requires c κs =
-    let at_read = c.before.before.before.before.before.before.before in
-    let room = at_read.before.before in
-    let out = room.before.before.before.args.out.now in
-    printable _ _ _ _ _ out at_read.read.ensures c.before.before.before.before.answer.given.1 room.if1.false
+    let out = c.args.out.now in
+    printable _ _ _ _ _ out c.read-reading.ensures c.in-Done.is c.if-out-lt4096.false
 
-enum-known-answer-2 : tie.Need-enum-known-answer-2
+enum-known-answer-2 : tie.Need-enum_known-answer-in-Refused-1
 enum-known-answer-2 c = search rules
 
 refused-requires : tie.Need-refused-requires
 refused-requires c κs = search rules
 
-same_length : tie.Need-same-length
+same_length : tie.Need-shape_of-out-in-Done
 same_length c = search rules
 
-returns-2 : tie.Need-returns-2
+returns-2 : tie.Need-returns-in-Done
 unfolding zeros
 returns-2 c =
-    let at-sheet-back = c.before.before in
-    let at_read = at-sheet-back.before.before.before.before.before.before.before.before in
-    answered _ _ _ _ _ at_read.before.before.if1.false
-    (sheet-is _ _ _ _ at_read.read.ensures at-sheet-back.before.before.before.before.before.answer.given.1)
-    at-sheet-back.sheet-back.ensures
+    answered _ _ _ _ _ c.if-out-lt4096.false
+    (sheet-is _ _ _ _ c.read-reading.ensures c.in-Done.is)
+    c.sheet_back.ensures
 
-same-length-2 : tie.Need-same-length-2
+same-length-2 : tie.Need-shape_of-out-in-Refused
 same-length-2 c = search rules
 
-returns-3 : tie.Need-returns-3
+returns-3 : tie.Need-returns-in-Refused
 unfolding zeros
 returns-3 c =
-    let at-refused = c.before.before in
-    let at_read = at-refused.before.before.before.before.before.before in
-    answered _ _ _ _ _ at_read.before.before.if1.false
-    (refusal_is _ _ _ _ _ at_read.read.ensures at-refused.before.before.before.answer2.given.1)
-    at-refused.refused.ensures
+    answered _ _ _ _ _ c.if-out-lt4096.false
+    (refusal_is _ _ _ _ _ c.read-reading.ensures c.in-Refused.is)
+    c.refused.ensures
 
-pub answer-spec : {M : Type 1} → statement M
-answer-spec =
+pub answer_spec : {M : Type 1} → statement M
+answer_spec =
     tie.close
     (tie.spec
     returns

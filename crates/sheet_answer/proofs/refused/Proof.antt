@@ -8,123 +8,88 @@ use Rattle.sheet_answer.proofs.Decimal.{at-most_twenty}
 use Rattle.sheet_answer.proofs.refused.Statement.{statement}
 use Rattle.sheet_answer.proofs.refused.Tie as tie
 
-slice-aggregate-put : tie.Need-slice-aggregate-put
-slice-aggregate-put c = search rules
-
-put-requires : tie.Need-put-requires
+put-requires : tie.Need-put-first-requires
 put-requires c κs = search rules
 
 number-requires : tie.Need-number-requires
 number-requires c κs = search rules
 
-put-decimal-requires : tie.Need-put-decimal-requires
+put-decimal-requires : tie.Need-put_decimal-feed-requires
 put-decimal-requires c κs =
-    let at-number = c.before in
-    let at-put = at-number.before.before.before in
     omega (
       arith,
-      at-put.before.before.before.before.requires,
-      at-put.put.ensures.next,
-      at-put.put.auto.1.0,
-      at-most_twenty at-number.number.result at-number.number.type-inv,
+      c.requires,
+      c.put-first.ensures.next,
+      c.put-first.auto.out,
+      at-most_twenty c.number.result c.number.type_inv,
     )
 
-slice-aggregate-put-2 : tie.Need-slice-aggregate-put-2
-slice-aggregate-put-2 c = search rules
-
-put-requires-2 : tie.Need-put-requires-2
+put-requires-2 : tie.Need-put-second-requires
 put-requires-2 c κs =
-    let at-put-decimal = c.before.before.before.before in
-    let at-number = at-put-decimal.before.before in
-    let at-put = at-number.before.before.before in
     omega (
       arith,
-      at-put.before.before.before.before.requires,
-      at-put.put.ensures.next,
-      at-put.put.auto.1.0,
-      at-put-decimal.put-decimal.ensures.next,
-      at-put-decimal.put-decimal.auto.1.0,
-      at-most_twenty at-number.number.result at-number.number.type-inv,
+      c.requires,
+      c.put-first.ensures.next,
+      c.put-first.auto.out,
+      c.put_decimal-feed.ensures.next,
+      c.put_decimal-feed.auto.out,
+      at-most_twenty c.number.result c.number.type_inv,
     )
 
-put-decimal-requires-2 : tie.Need-put-decimal-requires-2
+put-decimal-requires-2 : tie.Need-put_decimal-last-requires
 put-decimal-requires-2 c κs =
-    let at-put2 = c.before.before.before in
-    let at-put-decimal = at-put2.before.before.before.before.before in
-    let at-number = at-put-decimal.before.before in
-    let at-put = at-number.before.before.before in
-    let start = at-put.before.before.before.before in
     omega (
       arith,
-      start.requires,
-      at-put.put.ensures.next,
-      at-put.put.auto.1.0,
-      at-put-decimal.put-decimal.ensures.next,
-      at-put-decimal.put-decimal.auto.1.0,
-      at-put2.put2.ensures.next,
-      at-put2.put2.auto.1.0,
-      at-most_twenty at-number.number.result at-number.number.type-inv,
-      at-most_twenty start.args.line start.ranges.line.fits,
+      c.requires,
+      c.put-first.ensures.next,
+      c.put-first.auto.out,
+      c.put_decimal-feed.ensures.next,
+      c.put_decimal-feed.auto.out,
+      c.put-second.ensures.next,
+      c.put-second.auto.out,
+      at-most_twenty c.number.result c.number.type_inv,
+      at-most_twenty c.args.line c.ranges.line.fits,
     )
 
-put-byte-requires : tie.Need-put-byte-requires
+put-byte-requires : tie.Need-put_byte-requires
 put-byte-requires c κs =
-    let at-put-decimal2 = c.before.before.before in
-    let at-put2 = at-put-decimal2.before.before.before.before in
-    let at-put-decimal = at-put2.before.before.before.before.before in
-    let at-number = at-put-decimal.before.before in
-    let at-put = at-number.before.before.before in
-    let start = at-put.before.before.before.before in
     omega (
       arith,
-      start.requires,
-      at-put.put.ensures.next,
-      at-put.put.auto.1.0,
-      at-put-decimal.put-decimal.ensures.next,
-      at-put-decimal.put-decimal.auto.1.0,
-      at-put2.put2.ensures.next,
-      at-put2.put2.auto.1.0,
-      at-put-decimal2.put-decimal2.ensures.next,
-      at-put-decimal2.put-decimal2.auto.1.0,
-      at-most_twenty at-number.number.result at-number.number.type-inv,
-      at-most_twenty start.args.line start.ranges.line.fits,
+      c.requires,
+      c.put-first.ensures.next,
+      c.put-first.auto.out,
+      c.put_decimal-feed.ensures.next,
+      c.put_decimal-feed.auto.out,
+      c.put-second.ensures.next,
+      c.put-second.auto.out,
+      c.put_decimal-last.ensures.next,
+      c.put_decimal-last.auto.out,
+      at-most_twenty c.number.result c.number.type_inv,
+      at-most_twenty c.args.line c.ranges.line.fits,
     )
 
-same_length : tie.Need-same-length
+same_length : tie.Need-shape_of-out
 same_length c =
-    let at-put-byte = c.before.before in
-    let at-put-decimal2 = at-put-byte.before.before.before.before in
-    let at-put2 = at-put-decimal2.before.before.before.before in
-    let at-put-decimal = at-put2.before.before.before.before.before in
-    let at-put = at-put-decimal.before.before.before.before.before in
-    at-put-byte.put_byte.auto.1.0
-    ∙ at-put-decimal2.put-decimal2.auto.1.0
-    ∙ at-put2.put2.auto.1.0
-    ∙ at-put-decimal.put-decimal.auto.1.0
-    ∙ at-put.put.auto.1.0
+    c.put_byte.auto.out
+    ∙ c.put_decimal-last.auto.out
+    ∙ c.put-second.auto.out
+    ∙ c.put_decimal-feed.auto.out
+    ∙ c.put-first.auto.out
 
 returns : tie.Need-returns
 unfolding refused_text refused_key line_key
 returns c =
-    let at-put-byte = c.before.before in
-    let at-put-decimal2 = at-put-byte.before.before.before.before in
-    let at-put2 = at-put-decimal2.before.before.before.before in
-    let at-put-decimal = at-put2.before.before.before.before.before in
-    let at-number = at-put-decimal.before.before in
-    let at-put = at-number.before.before.before in
-    let two = then (omega arith) at-put.put.ensures at-put-decimal.put-decimal.ensures in
-    let four = then (omega arith) (then (omega arith) two at-put2.put2.ensures) at-put-decimal2.put-decimal2.ensures in
-    rw (sym at-number.number.ensures) (then (omega arith) four at-put-byte.put_byte.ensures)
+    let two = then (omega arith) c.put-first.ensures c.put_decimal-feed.ensures in
+    let four = then (omega arith) (then (omega arith) two c.put-second.ensures) c.put_decimal-last.ensures in
+    rw (sym c.number.ensures) (then (omega arith) four c.put_byte.ensures)
 
-pub refused-spec : {M : Type 1} → statement M
-refused-spec =
+pub refused_spec : {M : Type 1} → statement M
+refused_spec =
     tie.close
     (tie.spec
-    slice-aggregate-put
     put-requires
     number-requires
     put-decimal-requires
-    slice-aggregate-put-2
     put-requires-2
     put-decimal-requires-2
     put-byte-requires

@@ -7,29 +7,34 @@ use Rattle.sheet_answer.proofs.sheet_back.Tie as tie
 print-requires : tie.Need-print-requires
 print-requires c κs = search rules
 
-enum-known-size : tie.Need-enum-known-size
+enum-known-size : tie.Need-enum_known-size
 enum-known-size c = search rules
 
-enum_told : tie.Need-enum-told
+enum_told : tie.Need-enum_told-1
 enum_told c = search rules
 
-same_length : tie.Need-same-length
+same_length : tie.Need-shape_of-out-in-Bytes
 same_length c = search rules
 
-returns : tie.Need-returns
+returns : tie.Need-returns-in-Bytes
 returns c =
-    let at-print = c.before.before.before.before.before in
-    printed-put _ _ _ _ _ _ _ at-print.before.before.before.before.requires c.before.size.given.1 at-print.print.ensures
+    printed-put _ _ _ _ _ _ _ c.requires c.in-Bytes.is c.print.ensures
 
-same-length-2 : tie.Need-same-length-2
+same-length-2 : tie.Need-shape_of-out-in-Refused
 same-length-2 c = search rules
 
-returns-2 : tie.Need-returns-2
+returns-2 : tie.Need-returns-in-Refused
 returns-2 c =
-    let at-print = c.before.before.before.before in
-    absurd (not-refused _ _ _ _ _ _ _ _ at-print.before.before.before.before.requires c.enum_told.given.1 at-print.print.ensures)
+    absurd (not-refused _ _ _ _ _ _ _ _ c.requires c.in-Refused.is c.print.ensures)
 
-pub sheet-back-spec : {M : Type 1} → statement M
-sheet-back-spec =
+pub sheet_back_spec : {M : Type 1} → statement M
+sheet_back_spec =
     tie.close
-    (tie.spec print-requires enum-known-size enum_told same_length returns same-length-2 returns-2)
+    (tie.spec
+    print-requires
+    enum-known-size
+    enum_told
+    same_length
+    returns
+    same-length-2
+    returns-2)

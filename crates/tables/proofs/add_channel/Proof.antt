@@ -7,10 +7,10 @@ use Rattle.tables.specs.Tables.{finite_osc}
 use Rattle.tables.proofs.add_channel.Statement.{statement}
 use Rattle.tables.proofs.add_channel.Tie as tie
 
-is-name-requires : tie.Need-is-name-requires
+is-name-requires : tie.Need-is_name-requires
 is-name-requires c κs = search rules
 
-is-finite-osc-requires : tie.Need-is-finite-osc-requires
+is-finite-osc-requires : tie.Need-is_finite_osc-requires
 is-finite-osc-requires c κs = search rules
 
 both-requires : tie.Need-both-requires
@@ -25,23 +25,23 @@ fresh-requires c κs = search rules
 settle-requires : tie.Need-settle-requires
 settle-requires c κs = search rules
 
-returns : tie.Need-returns
+returns : tie.Need-returns-then-both
 returns c =
-    let a = c.before.before.before.before.before.before.before.args in
-    let flag : c.before.before.before.before.both.result ≡ (is_name a.name && finite_osc a.osc) = rw (c.before.before.before.before.both.ensures, c.before.before.before.before.before.is-finite-osc.ensures, c.before.before.before.before.before.before.is_name.ensures) in
-    rw (c.settle.ensures, c.before.fresh.ensures, c.before.before.find.ensures, sym flag ∙ c.before.before.before.if1.true)
+    let a = c.args in
+    let flag : c.both.result ≡ (is_name a.name && finite_osc a.osc) = rw (c.both.ensures, c.is_finite_osc.ensures, c.is_name.ensures) in
+    rw (c.settle.ensures, c.fresh.ensures, c.find.ensures, sym flag ∙ c.if-both.true)
 
 refused-requires : tie.Need-refused-requires
 refused-requires c κs = search rules
 
-returns-2 : tie.Need-returns-2
+returns-2 : tie.Need-returns
 returns-2 c =
-    let a = c.before.before.before.before.before.args in
-    let flag : c.before.before.both.result ≡ (is_name a.name && finite_osc a.osc) = rw (c.before.before.both.ensures, c.before.before.before.is-finite-osc.ensures, c.before.before.before.before.is_name.ensures) in
-    rw (c.refused.ensures, sym flag ∙ c.before.if1.false)
+    let a = c.args in
+    let flag : c.both.result ≡ (is_name a.name && finite_osc a.osc) = rw (c.both.ensures, c.is_finite_osc.ensures, c.is_name.ensures) in
+    rw (c.refused.ensures, sym flag ∙ c.if-both.false)
 
-pub add-channel-spec : {M : Type 1} → statement M
-add-channel-spec =
+pub add_channel_spec : {M : Type 1} → statement M
+add_channel_spec =
     tie.close
     (tie.spec
     is-name-requires

@@ -8,39 +8,38 @@ use Rattle.tables.proofs.add_shape.Tie as tie
 refused-requires : tie.Need-refused-requires
 refused-requires c κs = search rules
 
-returns : tie.Need-returns
-returns c = rw (c.refused.ensures, ne_eqb _ _ c.before.if1.true)
+returns : tie.Need-returns-then-splines-ne8
+returns c = rw (c.refused.ensures, ne_eqb _ _ c.if-splines-ne8.true)
 
-is-name-requires : tie.Need-is-name-requires
+is-name-requires : tie.Need-is_name-requires
 is-name-requires c κs = search rules
 
-refused-requires-2 : tie.Need-refused-requires-2
+refused-requires-2 : tie.Need-refused-requires-then-not-is_name
 refused-requires-2 c κs = search rules
 
-returns-2 : tie.Need-returns-2
-returns-2 c = rw (c.refused2.ensures, eq-eqb _ _ c.before.before.before.if1.false, sym c.before.before.is_name.ensures ∙ not-true _ c.before.if2.true)
+returns-2 : tie.Need-returns-then-not-is_name
+returns-2 c = rw (c.refused-then-not-is_name.ensures, eq-eqb _ _ c.if-splines-ne8.false, sym c.is_name.ensures ∙ c.if-not-is_name.true)
 
-find-shape-requires : tie.Need-find-shape-requires
+find-shape-requires : tie.Need-find_shape-requires
 find-shape-requires c κs = search rules
 
-settle-shape-requires : tie.Need-settle-shape-requires
+settle-shape-requires : tie.Need-settle_shape-requires
 settle-shape-requires c κs = search rules
 
-same_length : tie.Need-same-length
+same_length : tie.Need-shape_of-splines
 same_length c = search rules
 
-returns-3 : tie.Need-returns-3
+returns-3 : tie.Need-returns
 returns-3 c =
-    let d = c.before.before.before.before in
     rw (
-      eq-eqb _ _ d.before.before.if1.false,
-      sym d.before.is_name.ensures ∙ not-false _ d.if2.false,
-      sym c.before.before.before.find-shape.ensures,
+      eq-eqb _ _ c.if-splines-ne8.false,
+      sym c.is_name.ensures ∙ c.if-not-is_name.false,
+      sym c.find_shape.ensures,
     )
-    c.before.settle-shape.ensures
+    c.settle_shape.ensures
 
-pub add-shape-spec : {M : Type 1} → statement M
-add-shape-spec =
+pub add_shape_spec : {M : Type 1} → statement M
+add_shape_spec =
     tie.close
     (tie.spec
     refused-requires

@@ -3,22 +3,27 @@ use borrow.Author.Rules.{rules}
 use Rattle.tables.proofs.empty.Statement.{statement}
 use Rattle.tables.proofs.empty.Tie as tie
 
-no-name-requires : tie.Need-no-name-requires
+no-name-requires : tie.Need-no_name-requires
 no-name-requires c κs = search rules
 
-at-rest-requires : tie.Need-at-rest-requires
+at-rest-requires : tie.Need-at_rest-requires
 at-rest-requires c κs = search rules
 
-fresh-requires : tie.Need-fresh-requires
+fresh-requires : tie.Need-fresh-channels-requires
 fresh-requires c κs = search rules
 
-no-name-requires-2 : tie.Need-no-name-requires-2
+no-name-requires-2 : tie.Need-no_name-shapes-requires
 no-name-requires-2 c κs = search rules
 
 returns : tie.Need-returns
-returns c = rw (c.no-name2.ensures, c.before.fresh.ensures, c.before.before.at_rest.ensures, c.before.before.before.no_name.ensures)
+returns c = rw (c.no_name-shapes.ensures, c.fresh-channels.ensures, c.at_rest.ensures, c.no_name.ensures)
 
-pub empty-spec : {M : Type 1} → statement M
-empty-spec =
+pub empty_spec : {M : Type 1} → statement M
+empty_spec =
     tie.close
-    (tie.spec no-name-requires at-rest-requires fresh-requires no-name-requires-2 returns)
+    (tie.spec
+    no-name-requires
+    at-rest-requires
+    fresh-requires
+    no-name-requires-2
+    returns)

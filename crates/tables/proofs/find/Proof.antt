@@ -10,61 +10,58 @@ use Rattle.tables.proofs.Finding.{none_left, none_over, next-left, found-not, fo
 use Rattle.tables.proofs.find.Statement.{statement}
 use Rattle.tables.proofs.find.Tie as tie
 
-abbrev invariant-loop : tie.invariant-loop
+abbrev invariant-loop : tie.invariant-loop-i
 invariant-loop name t i₀ i = (i ≤ 8) × (found_from i name (drop i (channels_in t)) ≡ found t name)
 
-abbrev decreases-loop : tie.decreases-loop
+abbrev decreases-loop : tie.decreases-loop-i
 decreases-loop name t i₀ i = 8 - i
 
-loop-holds : tie.Need-loop-init invariant-loop decreases-loop
+loop-holds : tie.Need-loop-i-init invariant-loop decreases-loop
 loop-holds c = (search rules, refl)
 
-returns : tie.Need-returns invariant-loop decreases-loop
+returns : tie.Need-returns-then-t-i invariant-loop decreases-loop
 returns c =
-    let at = c.before.before.loop in
-    let a = c.before.before.before.args in
-    sym (found-not at.i a.name _ (none_left a.t1.channels a.t1.count at.i c.if1.true)) ∙ at.invariant.1
+    let at = c.loop-i in
+    let a = c.args in
+    sym (found-not at.i a.name _ (none_left a.t.channels a.t.count at.i c.if-t-i.true)) ∙ at.invariant.1
 
-mul-c : tie.Need-overflow-mul-c invariant-loop decreases-loop
+mul-c : tie.Need-offset_bounds-t-i invariant-loop decreases-loop
 mul-c c = omega arith
 
-element-copy-out-c : tie.Need-element-copy-out-c invariant-loop decreases-loop
+element-copy-out-c : tie.Need-bounds-t-i invariant-loop decreases-loop
 element-copy-out-c c = search rules
 
 same-requires : tie.Need-same-requires invariant-loop decreases-loop
 same-requires c κs = search rules
 
-returns-2 : tie.Need-returns-2 invariant-loop decreases-loop
+returns-2 : tie.Need-returns-then-same invariant-loop decreases-loop
 returns-2 c =
-    let at = c.before.before.before.before.before.before.loop in
-    let s = c.before.before.before.before.before.before.before in
-    let a = s.args in
-    let whole = eight_channels a.t1 _ s.well-formed.0 in
-    let cell = next-left a.t1.channels a.t1.count at.i _ (omega arith) (omega (arith, whole)) in
-    sym (found_here at.i a.name _ _ _ cell (sym c.before.same.ensures ∙ c.if2.true)) ∙ at.invariant.1
+    let at = c.loop-i in
+    let a = c.args in
+    let whole = eight_channels a.t _ c.well_formed.0 in
+    let cell = next-left a.t.channels a.t.count at.i _ (omega arith) (omega (arith, whole)) in
+    sym (found_here at.i a.name _ _ _ cell (sym c.same.ensures ∙ c.if-same.true)) ∙ at.invariant.1
 
-add-i : tie.Need-overflow-add-i invariant-loop decreases-loop
+add-i : tie.Need-overflow_add-i invariant-loop decreases-loop
 add-i c = omega arith
 
-loop-less : tie.Need-loop-smaller invariant-loop decreases-loop
+loop-less : tie.Need-loop-i-smaller invariant-loop decreases-loop
 loop-less c = omega arith
 
-loop-again : tie.Need-loop-preserved invariant-loop decreases-loop
+loop-again : tie.Need-loop-i-preserved invariant-loop decreases-loop
 loop-again c =
-    let at = c.before.before.before.before.before.before.loop in
-    let s = c.before.before.before.before.before.before.before in
-    let a = s.args in
-    let whole = eight_channels a.t1 _ s.well-formed.0 in
-    let cell = next-left a.t1.channels a.t1.count at.i _ (omega arith) (omega (arith, whole)) in
-    (omega arith, found-later at.i a.name _ _ _ cell (sym c.before.same.ensures ∙ c.if2.false) ∙ at.invariant.1)
+    let at = c.loop-i in
+    let a = c.args in
+    let whole = eight_channels a.t _ c.well_formed.0 in
+    let cell = next-left a.t.channels a.t.count at.i _ (omega arith) (omega (arith, whole)) in
+    (omega arith, found-later at.i a.name _ _ _ cell (sym c.same.ensures ∙ c.if-same.false) ∙ at.invariant.1)
 
-returns-3 : tie.Need-returns-3 invariant-loop decreases-loop
+returns-3 : tie.Need-returns invariant-loop decreases-loop
 returns-3 c =
-    let at = c.before.loop in
-    let s = c.before.before in
-    let a = s.args in
-    let whole = eight_channels a.t1 _ s.well-formed.0 in
-    sym (found-not at.i a.name _ (none_over a.t1.channels a.t1.count at.i (omega (arith, whole)))) ∙ at.invariant.1
+    let at = c.loop-i in
+    let a = c.args in
+    let whole = eight_channels a.t _ c.well_formed.0 in
+    sym (found-not at.i a.name _ (none_over a.t.channels a.t.count at.i (omega (arith, whole)))) ∙ at.invariant.1
 
 pub find_spec : {M : Type 1} → statement M
 find_spec =

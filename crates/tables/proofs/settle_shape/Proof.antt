@@ -10,69 +10,68 @@ use borrow.Author.Rules.{rules}
 use Rattle.tables.proofs.settle_shape.Statement.{statement}
 use Rattle.tables.proofs.settle_shape.Tie as tie
 
-enum-known-at : tie.Need-enum-known-at
+enum-known-at : tie.Need-enum_known-at
 enum-known-at c = search rules
 
-module _ (c : tie.After-known-told) where
-  there : c.before.at.given.0.0 < 8
+module _ (c : tie.In-At) where
+  there : c.in-At.i < 8
   there =
-      let s = c.before.before.before in
-      let a = s.args in
-      shape-eight a.t a.name _ (eight-shapes a.t _ s.well-formed.0) (sym s.requires.0 ∙ c.before.at.given.1)
+      let a = c.args in
+      shape-eight a.t a.name _ (eight-shapes a.t _ c.well_formed.0) (sym c.requires.0 ∙ c.in-At.is)
 
-mul-row : tie.Need-overflow-mul-row
+mul-row : tie.Need-offset_bounds-splines-i
 mul-row c = let below = there c in omega arith
 
-slice-set-from-row : tie.Need-slice-set-from-row
-slice-set-from-row c = let below = there c in omega (arith, c.before.before.before.requires.1)
+slice-set-from-row : tie.Need-bounds-splines-i
+slice-set-from-row c = let below = there c in omega (arith, c.requires.1)
 
 done-requires : tie.Need-done-requires
 done-requires c κs = search rules
 
-enum_told : tie.Need-enum-told
+enum_told : tie.Need-enum_told-1
 enum_told c = search rules
 
 refused-requires : tie.Need-refused-requires
 refused-requires c κs = search rules
 
-returns : tie.Need-returns
+returns : tie.Need-returns-then-t-ge8
 unfolding settled_shape
-returns c = rw (c.refused.ensures, c.before.before.before.enum_told.given.1, le-ltb _ _ c.before.if1.true)
+returns c = rw (c.refused.ensures, c.in-Nowhere.is, le-ltb _ _ c.if-t-ge8.true)
 
-mul-name : tie.Need-overflow-mul-name
+mul-name : tie.Need-offset_bounds-u-n
 mul-name c = search rules
 
-element-set-from-name : tie.Need-element-set-from-name
+element-set-from-name : tie.Need-bounds-u-n
 element-set-from-name c = search rules
 
-add-u : tie.Need-overflow-add-u
+add-u : tie.Need-overflow_add-u
 add-u c = search rules
 
-mul-row-2 : tie.Need-overflow-mul-row-2
+mul-row-2 : tie.Need-offset_bounds-splines-n
 mul-row-2 c = search rules
 
-slice-set-from-row-2 : tie.Need-slice-set-from-row-2
+slice-set-from-row-2 : tie.Need-bounds-splines-n
 slice-set-from-row-2 c = search rules
 
-done-requires-2 : tie.Need-done-requires-2
+done-requires-2 : tie.Need-done-requires-in-Nowhere
 done-requires-2 c κs = search rules
 
-same_length : tie.Need-same-length
+same_length : tie.Need-shape_of-splines-in-At
 same_length c = search rules
 
-returns-2 : tie.Need-returns-2
+returns-2 : tie.Need-returns-in-At
 unfolding settled_shape
-returns-2 c = rw (c.done.ensures, c.before.before.at.given.1)
+returns-2 c = rw (c.done.ensures, c.in-At.is)
 
-same-length-2 : tie.Need-same-length-2
+same-length-2 : tie.Need-shape_of-splines-else-t-ge8
 same-length-2 c = search rules
 
-returns-3 : tie.Need-returns-3
+returns-3 : tie.Need-returns-else-t-ge8
 unfolding settled_shape
-returns-3 c = rw (c.done2.ensures, c.before.before.before.enum_told.given.1, lt-ltb _ _ c.before.if1.false)
+returns-3 c = rw (c.done-in-Nowhere.ensures, c.in-Nowhere.is, lt-ltb _ _ c.if-t-ge8.false)
 
-pub settle-shape-spec : {M : Type 1} → statement M
-settle-shape-spec =
+pub settle_shape_spec : {M : Type 1} → statement M
+settle_shape_spec =
     tie.close
     (tie.spec
     enum-known-at

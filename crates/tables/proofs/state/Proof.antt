@@ -12,51 +12,48 @@ use Rattle.tables.proofs.Finding.{found-eight}
 use Rattle.tables.proofs.state.Statement.{statement}
 use Rattle.tables.proofs.state.Tie as tie
 
-is-name-requires : tie.Need-is-name-requires
+is-name-requires : tie.Need-is_name-requires
 is-name-requires c κs = search rules
 
-returns : tie.Need-returns
-returns c = rw (sym c.before.is_name.ensures ∙ not-true _ c.if1.true)
+returns : tie.Need-returns-then-not-is_name
+returns c = rw (sym c.is_name.ensures ∙ c.if-not-is_name.true)
 
 find-requires : tie.Need-find-requires
 find-requires c κs = search rules
 
-enum-known-i : tie.Need-enum-known-i
+enum-known-i : tie.Need-enum_known-i
 enum-known-i c = search rules
 
 -- past the test the name is one
-is-good : (d : tie.After-find) → is_name d.before.before.before.args.name ≡ true
-is-good d = sym d.before.before.is_name.ensures ∙ not-false _ d.before.if1.false
+is-good : (d : tie.After-find) → is_name d.args.name ≡ true
+is-good d = sym d.is_name.ensures ∙ d.if-not-is_name.false
 
-module _ (c : tie.After-known-told) where
-  there : c.before.i.given.0.0 < 8
+module _ (c : tie.In-At) where
+  there : c.in-At.i < 8
   there =
-      let d = c.before.before.before in
-      let s = d.before.before.before in
-      let a = s.args in
-      found-eight a.t1 a.name _ (eight_channels a.t1 _ s.well-formed.0) (sym d.find.ensures ∙ c.before.i.given.1)
+      let a = c.args in
+      found-eight a.t a.name _ (eight_channels a.t _ c.well_formed.0) (sym c.find.ensures ∙ c.in-At.is)
 
-mul-c : tie.Need-overflow-mul-c
+mul-c : tie.Need-offset_bounds-t-i
 mul-c c = let below = there c in omega arith
 
-element-copy-out-c : tie.Need-element-copy-out-c
+element-copy-out-c : tie.Need-bounds-t-i
 element-copy-out-c c = there c
 
-enum_told : tie.Need-enum-told
+enum_told : tie.Need-enum_told-1
 enum_told c = search rules
 
-returns-2 : tie.Need-returns-2
+returns-2 : tie.Need-returns-in-At
 unfolding told_at
 returns-2 c =
-    let d = c.before.before.before.before.before in
-    rw (is-good d, sym d.find.ensures ∙ c.before.before.before.i.given.1)
+    rw (is-good c.before.before.before, sym c.find.ensures ∙ c.in-At.is)
 
-returns-3 : tie.Need-returns-3
+returns-3 : tie.Need-returns-in-Nowhere
 unfolding told_at
-returns-3 c = rw (is-good c.before.before, sym c.before.before.find.ensures ∙ c.enum_told.given.1)
+returns-3 c = rw (is-good c.before, sym c.find.ensures ∙ c.in-Nowhere.is)
 
-pub state-spec : {M : Type 1} → statement M
-state-spec =
+pub state_spec : {M : Type 1} → statement M
+state_spec =
     tie.close
     (tie.spec
     is-name-requires

@@ -5,22 +5,28 @@ use Rattle.trig.specs.Trig.{cosine_at, sine_at, cosine_of, sine_of}
 use Rattle.trig.proofs.both.Statement.{statement}
 use Rattle.trig.proofs.both.Tie as tie
 
-reduce-requires : tie.Need-reduce-requires
+reduce-requires : tie.Need-reduce-r-requires
 reduce-requires c κs = search rules
 
-cos-at-requires : tie.Need-cos-at-requires
+cos-at-requires : tie.Need-cos_at-c-requires
 cos-at-requires c κs = search rules
 
-sin-at-requires : tie.Need-sin-at-requires
+sin-at-requires : tie.Need-sin_at-s-requires
 sin-at-requires c κs = search rules
 
 returns : tie.Need-returns
 unfolding cosine_of sine_of
 returns c =
     record {
-      cos = c.before.cos-at.ensures ∙ ap cosine_at c.before.before.reduce.ensures;
-      sin = c.sin-at.ensures ∙ ap sine_at c.before.before.reduce.ensures;
+      cos = c.before.cos_at-c.ensures ∙ ap cosine_at c.before.before.reduce-r.ensures;
+      sin = c.sin_at-s.ensures ∙ ap sine_at c.before.before.reduce-r.ensures;
     }
 
-pub both-spec : {M : Type 1} → statement M
-both-spec = tie.close (tie.spec reduce-requires cos-at-requires sin-at-requires returns)
+pub both_spec : {M : Type 1} → statement M
+both_spec =
+    tie.close
+    (tie.spec
+    reduce-requires
+    cos-at-requires
+    sin-at-requires
+    returns)

@@ -8,5 +8,8 @@ returns : tie.Need-returns
 unfolding cosine_at horner
 returns c = refl
 
-pub cos-at-spec : {M : Type 1} → statement M
-cos-at-spec = tie.close (tie.spec returns)
+pub cos_at_spec : {M : Type 1} → statement M
+cos_at_spec =
+    tie.close
+    (tie.spec
+    returns)

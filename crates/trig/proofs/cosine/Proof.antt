@@ -8,12 +8,17 @@ use Rattle.trig.proofs.cosine.Tie as tie
 reduce-requires : tie.Need-reduce-requires
 reduce-requires c κs = search rules
 
-cos-at-requires : tie.Need-cos-at-requires
+cos-at-requires : tie.Need-cos_at-requires
 cos-at-requires c κs = search rules
 
 returns : tie.Need-returns
 unfolding cosine_of
-returns c = c.cos-at.ensures ∙ ap cosine_at c.before.reduce.ensures
+returns c = c.cos_at.ensures ∙ ap cosine_at c.before.reduce.ensures
 
-pub cosine-spec : {M : Type 1} → statement M
-cosine-spec = tie.close (tie.spec reduce-requires cos-at-requires returns)
+pub cosine_spec : {M : Type 1} → statement M
+cosine_spec =
+    tie.close
+    (tie.spec
+    reduce-requires
+    cos-at-requires
+    returns)

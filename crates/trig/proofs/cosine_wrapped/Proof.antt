@@ -8,11 +8,16 @@ use Rattle.trig.proofs.cosine_wrapped.Tie as tie
 wrap-requires : tie.Need-wrap-requires
 wrap-requires c κs = search rules
 
-cos-at-requires : tie.Need-cos-at-requires
+cos-at-requires : tie.Need-cos_at-requires
 cos-at-requires c κs = search rules
 
 returns : tie.Need-returns
-returns c = c.cos-at.ensures ∙ ap cosine_at c.before.wrap.ensures
+returns c = c.cos_at.ensures ∙ ap cosine_at c.before.wrap.ensures
 
-pub cosine-wrapped-spec : {M : Type 1} → statement M
-cosine-wrapped-spec = tie.close (tie.spec wrap-requires cos-at-requires returns)
+pub cosine_wrapped_spec : {M : Type 1} → statement M
+cosine_wrapped_spec =
+    tie.close
+    (tie.spec
+    wrap-requires
+    cos-at-requires
+    returns)

@@ -8,5 +8,8 @@ returns : tie.Need-returns
 unfolding sine_at horner
 returns c = refl
 
-pub sin-at-spec : {M : Type 1} → statement M
-sin-at-spec = tie.close (tie.spec returns)
+pub sin_at_spec : {M : Type 1} → statement M
+sin_at_spec =
+    tie.close
+    (tie.spec
+    returns)

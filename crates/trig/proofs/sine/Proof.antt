@@ -8,12 +8,17 @@ use Rattle.trig.proofs.sine.Tie as tie
 reduce-requires : tie.Need-reduce-requires
 reduce-requires c κs = search rules
 
-sin-at-requires : tie.Need-sin-at-requires
+sin-at-requires : tie.Need-sin_at-requires
 sin-at-requires c κs = search rules
 
 returns : tie.Need-returns
 unfolding sine_of
-returns c = c.sin-at.ensures ∙ ap sine_at c.before.reduce.ensures
+returns c = c.sin_at.ensures ∙ ap sine_at c.before.reduce.ensures
 
-pub sine-spec : {M : Type 1} → statement M
-sine-spec = tie.close (tie.spec reduce-requires sin-at-requires returns)
+pub sine_spec : {M : Type 1} → statement M
+sine_spec =
+    tie.close
+    (tie.spec
+    reduce-requires
+    sin-at-requires
+    returns)

@@ -9,19 +9,24 @@ use Rattle.trig.proofs.Turning.{MIDDLE, whole, turned-reduced}
 use Rattle.trig.proofs.turned.Statement.{statement}
 use Rattle.trig.proofs.turned.Tie as tie
 
-returns : tie.Need-returns
+returns : tie.Need-returns-then-t-2
 returns c far i =
     let x = c.before.before.args.x in
     let p = mul binary64 x (of_bits binary64 0x3FC45F306DC9C883) in
     let t = add binary64 p MIDDLE in
-    turned-reduced x (sub binary64 t MIDDLE) (subst T (sym c.before.before.well-formed.0.1) tt) far
-    (whole t (add-fits binary64 p MIDDLE) c.before.if1.true c.if2.true) i
+    turned-reduced x (sub binary64 t MIDDLE) (subst T (sym c.before.before.well_formed.0.1) tt) far
+    (whole t (add-fits binary64 p MIDDLE) c.before.if-t.true c.if-t-2.true) i
 
-returns-2 : tie.Need-returns-2
+returns-2 : tie.Need-returns-else-t-2
 returns-2 c far i = absurd (zero-outside i)
 
-returns-3 : tie.Need-returns-3
+returns-3 : tie.Need-returns-else-t
 returns-3 c far i = absurd (zero-outside i)
 
-pub turned-spec : {M : Type 1} → statement M
-turned-spec = tie.close (tie.spec returns returns-2 returns-3)
+pub turned_spec : {M : Type 1} → statement M
+turned_spec =
+    tie.close
+    (tie.spec
+    returns
+    returns-2
+    returns-3)

@@ -11,57 +11,51 @@ use Rattle.wide_decimal.proofs.Placing.{too_large}
 use Rattle.wide_decimal.proofs.at_length.Statement.{statement}
 use Rattle.wide_decimal.proofs.at_length.Tie as tie
 
-slice-aggregate-within : tie.Need-slice-aggregate-within
+slice-aggregate-within : tie.Need-slice_bounds-within-end
 slice-aggregate-within c = search rules
 
-slice-aggregate-within-2 : tie.Need-slice-aggregate-within-2
+slice-aggregate-within-2 : tie.Need-slice_bounds-within-end-2
 slice-aggregate-within-2 c = search rules
 
-within-requires : tie.Need-within-requires
+within-requires : tie.Need-within-last-requires
 unfolding value
 within-requires c κs = record { none = refl; nothing = refl; above = omega arith; some = omega arith; below = omega arith }
 
-enum-known-last : tie.Need-enum-known-last
+enum-known-last : tie.Need-enum_known-last
 enum-known-last c = search rules
 
-enum_told : tie.Need-enum-told
+enum_told : tie.Need-enum_told-1
 enum_told c = search rules
 
 infinite-requires : tie.Need-infinite-requires
 infinite-requires c κs = search rules
 
-enum-told-2 : tie.Need-enum-told-2
+enum-told-2 : tie.Need-enum_told-in-Thin
 enum-told-2 c = search rules
 
-infinite-requires-2 : tie.Need-infinite-requires-2
+infinite-requires-2 : tie.Need-infinite-requires-in-Thin
 infinite-requires-2 c κs = search rules
 
 -- what came out, by its case
-outcome : (c : tie.After-within) (y : Tried) → c.within.result ≡ y
-    → Outcome c.before.before.before.before.args.minus (without c.before.before.before.before.args.point c.before.before.before.before.args.text.now) c.before.before.before.before.args.whole c.before.before.before.before.args.zeros 33 34 y
+outcome : (c : tie.After-within-last) (y : Tried) → c.within-last.result ≡ y
+    → Outcome c.args.minus (without c.args.point c.args.text.now) c.args.whole c.args.zeros 33 34 y
 outcome c y e =
-    let s = c.before.before.before.before in
-    subst (λ (y : Tried). Outcome s.args.minus (without s.args.point s.args.text.now) s.args.whole s.args.zeros 33 34 y) e c.within.ensures
+    subst (λ (y : Tried). Outcome c.args.minus (without c.args.point c.args.text.now) c.args.whole c.args.zeros 33 34 y) e c.within-last.ensures
 
-returns : tie.Need-returns
-returns c = outcome c.before.before.before.before.before _ c.before.last.given.1
+returns : tie.Need-returns-in-Sure
+returns c = outcome c.before.before.before _ c.in-Sure.is
 
-returns-2 : tie.Need-returns-2
+returns-2 : tie.Need-returns-in-Spilled
 returns-2 c =
-    let t = c.before in
-    let w = t.before.before.before.before in
-    let s = w.before.before.before.before in
-    c.infinite.ensures ∙ too_large s.args.minus (without s.args.point s.args.text.now) s.args.whole s.args.zeros (outcome w _ t.enum_told.given.1)
+    c.infinite.ensures ∙ too_large c.args.minus (without c.args.point c.args.text.now) c.args.whole c.args.zeros (outcome c.before.before.before.before _ c.in-Spilled.is)
 
-returns-3 : tie.Need-returns-3
+returns-3 : tie.Need-returns-in-Thin
 returns-3 c =
-    let t = c.before in
-    let w = t.before.before.before.before in
-    let never : 34 < 34 = outcome w _ t.enum-told2.given.1 in
+    let never : 34 < 34 = outcome c.before.before.before.before _ c.in-Thin.is in
     absurd (omega (arith, never))
 
-pub at-length-spec : {M : Type 1} → statement M
-at-length-spec =
+pub at_length_spec : {M : Type 1} → statement M
+at_length_spec =
     tie.close
     (tie.spec
     slice-aggregate-within

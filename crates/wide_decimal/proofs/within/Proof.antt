@@ -1,7 +1,7 @@
 -- `wide_decimal::within` meets its contract: where the whole number fits, both parts together are rounded, if the digits are enough. Assumes nothing.
 use Prim.Native.Nat.{ℕ, ◌+◌, ◌-◌, ◌*◌, ◌^◌, min}
-use mathlib.Core.Path.{◌≡◌, ◌∙◌, subst}
-use mathlib.Core.Bool.{Bool}
+use mathlib.Core.Path.{◌≡◌, ◌∙◌, subst, ap}
+use mathlib.Core.Bool.{Bool, not}
 use mathlib.Core.List.{List}
 use native.Mathlib.Omega.{arith}
 use borrow.Author.Rules.{rules}
@@ -18,13 +18,13 @@ use Rattle.wide_decimal.proofs.Truths.{denied, granted}
 use Rattle.wide_decimal.proofs.within.Statement.{statement}
 use Rattle.wide_decimal.proofs.within.Tie as tie
 
-count-requires : tie.Need-count-requires
+count-requires : tie.Need-count-n-requires
 count-requires c κs = search rules
 
-least-requires : tie.Need-least-requires
+least-requires : tie.Need-least-first-requires
 least-requires c κs = search rules
 
-module _ (c : tie.After-least) where
+module _ (c : tie.After-least-first) where
   abbrev start : tie.Start
   start = c.before.before.before.before.before
 
@@ -35,74 +35,66 @@ module _ (c : tie.After-least) where
   whole = start.args.whole
 
   abbrev first : ℕ
-  first = c.least.result
+  first = c.least-first.result
 
   first-is : first ≡ min whole (length figures)
-  first-is = omega (arith, c.least.ensures, c.before.count.ensures)
+  first-is = omega (arith, c.least-first.ensures, c.count-n.ensures)
 
 before-requires : tie.Need-before-requires
-before-requires c κs = let l = c.before in ((start l).requires.none, omega (arith, first-is l))
+before-requires c κs = ((start c.before).requires.none, omega (arith, first-is c.before))
 
-same_length : tie.Need-same-length
+same_length : tie.Need-shape_of-high-then-not-before
 same_length c = search rules
 
 -- what the first figures are
-held : (c : tie.After-before2) → Held c.before2.result (value c.before2.new.0) (worth (take (whole c.before.before) (figures c.before.before))) (weight (length (start c.before.before).args.high.now))
+held : (c : tie.After-before-2) → Held c.before-2.result (value c.before-2.new.high) (worth (take (whole c.before.before) (figures c.before.before))) (weight (length (start c.before.before).args.high.now))
 held c =
-    let l = c.before.before in
-    subst (λ (x : List ℕ). Held c.before2.result (value c.before2.new.0) (worth x) (weight (length (start l).args.high.now))) (same-take (figures l) (whole l) (first l) (first-is l)) c.before2.ensures
+    subst (λ (x : List ℕ). Held c.before-2.result (value c.before-2.new.high) (worth x) (weight (length (start c.before.before).args.high.now))) (same-take (figures c.before.before) (whole c.before.before) (first c.before.before) (first-is c.before.before)) c.before-2.ensures
 
-returns : tie.Need-returns
+returns : tie.Need-returns-then-not-before
 returns c =
-    let b = c.before.before.before in
-    let l = b.before.before in
-    grown (worth (take (whole l) (figures l))) (whole l - length (figures l)) (weight (length (start l).args.high.now)) ((held b).over (denied _ c.if1.true))
+    grown (worth (take (whole c.before.before.before.before.before) (figures c.before.before.before.before.before))) (whole c.before.before.before.before.before - length (figures c.before.before.before.before.before)) (weight (length (start c.before.before.before.before.before).args.high.now)) ((held c.before.before.before).over (denied _ (ap not c.if-not-before.true)))
 
-sub-raise : tie.Need-overflow-sub-raise
+sub-raise : tie.Need-overflow_sub-whole
 sub-raise c = omega (arith, first-is c.before.before.before.before.before.before)
 
 raise-requires : tie.Need-raise-requires
 raise-requires c κs =
-    let h = c.before.before.before in
-    let l = h.before.before.before in
-    omega (arith, h.high.given, (start l).requires.above)
+    omega (arith, c.high-1.given, (start c.before.before.before.before.before.before).requires.above)
 
 moved : (ok : Bool) (v e k n x m w : ℕ) → e ≡ x → k ≡ m → n ≡ w → Held ok v (e * 10 ^ k) (weight n) → Held ok v (x * 10 ^ m) (weight w)
 moved ok v e k n x m w p q r h = rw (← p, ← q, ← r) h
 
 -- what stands before the point
 module _ (c : tie.After-raise) where
-  abbrev least : tie.After-least
+  abbrev least : tie.After-least-first
   least = c.before.before.before.before.before.before.before
 
-  raised : Held c.raise.result (value c.raise.new.0) (before (figures least) (whole least)) (weight (length (start least).args.high.now))
+  raised : Held c.raise.result (value c.raise.new.high) (before (figures least) (whole least)) (weight (length (start least).args.high.now))
   raised =
-      let e = c.before.before in
-      let h = e.before.before in
-      let v : value h.before.before2.new.0 ≡ worth (take (whole least) (figures least)) = (held h.before).is (granted _ e.if1.false) in
-      moved _ _ _ _ _ _ _ _ v (same_more (figures least) (whole least) (first least) (first-is least)) h.high.given c.raise.ensures
+      let v : value c.before-2.new.high ≡ worth (take (whole least) (figures least)) = (held c.before.before.before.before.before).is (granted _ (ap not c.if-not-before.false)) in
+      moved _ _ _ _ _ _ _ _ v (same_more (figures least) (whole least) (first least) (first-is least)) c.high-1.given c.raise.ensures
 
-same-length-2 : tie.Need-same-length-2
+same-length-2 : tie.Need-shape_of-high-then-not-raise
 same-length-2 c = search rules
 
-returns-2 : tie.Need-returns-2
-returns-2 c = (raised c.before.before.before).over (denied _ c.if2.true)
+returns-2 : tie.Need-returns-then-not-raise
+returns-2 c = (raised c.before.before.before).over (denied _ (ap not c.if-not-raise.true))
 
 behind-requires : tie.Need-behind-requires
 behind-requires c κs =
     let l = least c.before.before.before.before in
-    ((start l).pre.nothing, (start l).pre.some, omega (arith, first-is l))
+    ((start l).requires.nothing, (start l).requires.some, omega (arith, first-is l))
 
 lower-requires : tie.Need-lower-requires
 lower-requires c κs =
-    let b = c.before.before.before in
-    let l = least b.before.before.before.before.before in
-    (omega (arith, c.before.before.low.given, (start l).pre.some), omega (arith, c.before.before.low.given, (start l).pre.below))
+    let l = least c.before.before.before.before.before.before.before.before in
+    (omega (arith, c.low-1.given, (start l).requires.some), omega (arith, c.low-1.given, (start l).requires.below))
 
 -- both parts
-module _ (c : tie.After-packed) where
+module _ (c : tie.After-packed-end) where
   abbrev w : tie.After-lower
-  w = c.before.before.before.before.before
+  w = c.before.before.before
 
   abbrev b : tie.After-behind
   b = w.before.before.before.before
@@ -110,71 +102,64 @@ module _ (c : tie.After-packed) where
   abbrev r : tie.After-raise
   r = b.before.before.before.before.before
 
-  abbrev l : tie.After-least
+  abbrev l : tie.After-least-first
   l = least r
 
   abbrev low : ℕ
   low = length (start l).args.low.now
 
-  long : length w.lower.last.0 ≡ low
-  long = c.before.before.before.before.low2.given ∙ w.before.before.before.low.given
+  long : length w.lower.new.low ≡ low
+  long = c.low-2-1.given ∙ w.low-1.given
 
-  both : Near (value r.raise.last.0 * weight (length w.lower.last.0) + value w.lower.last.0) (parts (figures l) (whole l) (start l).args.zeros) ((before (figures l) (whole l) * parts (figures l) (whole l) (start l).args.zeros + worth (drop (whole l) (figures l))) * weight (length w.lower.last.0))
+  both : Near (value r.raise.new.high * weight (length w.lower.new.low) + value w.lower.new.low) (parts (figures l) (whole l) (start l).args.zeros) ((before (figures l) (whole l) * parts (figures l) (whole l) (start l).args.zeros + worth (drop (whole l) (figures l))) * weight (length w.lower.new.low))
   both =
       let fs = figures l in
-      let v : value r.raise.last.0 ≡ before fs (whole l) = (raised r).is (granted _ b.before.before.if2.left) in
-      let d : Near (value b.behind.last.0) (10 ^ (length fs - whole l)) (worth (drop (whole l) fs) * weight low) =
+      let v : value r.raise.new.high ≡ before fs (whole l) = (raised r).is (granted _ (ap not b.if-not-raise.false)) in
+      let d : Near (value b.behind.new.low) (10 ^ (length fs - whole l)) (worth (drop (whole l) fs) * weight low) =
       rw (same-behind fs (whole l) (first l) (first-is l), same_drop fs (whole l) (first l) (first-is l)) at b.behind.ensures in
-      rw (v, long) (together (before fs (whole l)) (value w.lower.last.0) (value b.behind.last.0) (worth (drop (whole l) fs)) (length fs - whole l) (start l).args.zeros (weight low) (weight-even low (start l).pre.some) d w.lower.ensures)
+      rw (v, long) (together (before fs (whole l)) (value w.lower.new.low) (value b.behind.new.low) (worth (drop (whole l) fs)) (length fs - whole l) (start l).args.zeros (weight low) (weight-even low (start l).requires.some) d w.lower.ensures)
 
   -- what was answered, by its case
-  answered : (x : Rounded) → c.packed.result ≡ x → Told (start l).args.minus (value r.raise.last.0 * weight (length w.lower.last.0) + value w.lower.last.0) (length w.lower.last.0) x
-  answered x e = subst (λ (y : Rounded). Told (start l).args.minus (value r.raise.last.0 * weight (length w.lower.last.0) + value w.lower.last.0) (length w.lower.last.0) y) e c.packed.ensures
+  answered : (x : Rounded) → c.packed-end.result ≡ x → Told (start l).args.minus (value r.raise.new.high * weight (length w.lower.new.low) + value w.lower.new.low) (length w.lower.new.low) x
+  answered x e = subst (λ (y : Rounded). Told (start l).args.minus (value r.raise.new.high * weight (length w.lower.new.low) + value w.lower.new.low) (length w.lower.new.low) y) e c.packed-end.ensures
 
-packed-requires : tie.Need-packed-requires
+packed-requires : tie.Need-packed-end-requires
 packed-requires c κs =
-    let q = c.before.before.before in
-    let x = q.before in
-    let y = x.before.before.before.before in
-    let h = y.before.before.before.before in
-    let z = h.before in
-    let k = least z in (
-      omega (arith, h.high2.given, z.before.before.before.before.high.given, (start k).pre.above),
-      omega (arith, q.low2.given, x.before.before.before.low.given, (start k).pre.below),
+    let k = least c.before.before.before.before.before.before.before.before.before.before.before in (
+      omega (arith, c.high-2-1.given, c.high-1.given, (start k).requires.above),
+      omega (arith, c.low-2-1.given, c.low-1.given, (start k).requires.below),
     )
 
-enum-known-end : tie.Need-enum-known-end
+enum-known-end : tie.Need-enum_known-end
 enum-known-end c = search rules
 
-enum_told : tie.Need-enum-told
+enum_told : tie.Need-enum_told-1
 enum_told c = search rules
 
-same-length-3 : tie.Need-same-length-3
+same-length-3 : tie.Need-shape_of-high-in-Sure
 same-length-3 c = search rules
 
-same-length-4 : tie.Need-same-length-4
+same-length-4 : tie.Need-shape_of-low-in-Sure
 same-length-4 c = search rules
 
-returns-3 : tie.Need-returns-3
+returns-3 : tie.Need-returns-in-Sure
 unfolding nearest_of
 returns-3 c =
-    let p = c.before.before.before in
-    let k = l p in
-    answered p _ c.before.end.given.1 (before (figures k) (whole k) * parts (figures k) (whole k) (start k).args.zeros + worth (drop (whole k) (figures k))) (parts (figures k) (whole k) (start k).args.zeros) (ten_pos (length (figures k) - whole k + (start k).args.zeros)) (both p)
+    let k = l c.before in
+    answered c.before _ c.in-Sure.is (before (figures k) (whole k) * parts (figures k) (whole k) (start k).args.zeros + worth (drop (whole k) (figures k))) (parts (figures k) (whole k) (start k).args.zeros) (ten_pos (length (figures k) - whole k + (start k).args.zeros)) (both c.before)
 
-same-length-5 : tie.Need-same-length-5
+same-length-5 : tie.Need-shape_of-high-in-Thin
 same-length-5 c = search rules
 
-same-length-6 : tie.Need-same-length-6
+same-length-6 : tie.Need-shape_of-low-in-Thin
 same-length-6 c = search rules
 
-returns-4 : tie.Need-returns-4
+returns-4 : tie.Need-returns-in-Thin
 returns-4 c =
-    let p = c.before.before in
-    rw (long p) at (answered p _ c.enum_told.given.1)
+    rw (long c.before) at (answered c.before _ c.in-Thin.is)
 
-pub within-spec : {M : Type 1} → statement M
-within-spec =
+pub within_spec : {M : Type 1} → statement M
+within_spec =
     tie.close
     (tie.spec
     count-requires

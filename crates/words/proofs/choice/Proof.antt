@@ -8,11 +8,16 @@ use Rattle.words.proofs.choice.Tie as tie
 word-requires : tie.Need-word-requires
 word-requires c κs = search rules
 
-returns : tie.Need-returns
-returns c = rw (sym c.before.word.ensures, eq-eqb _ _ c.if1.true)
+returns : tie.Need-returns-then-word-eq0
+returns c = rw (sym c.word.ensures, eq-eqb _ _ c.if-word-eq0.true)
 
-returns-2 : tie.Need-returns-2
-returns-2 c = rw (sym c.before.word.ensures, ne_eqb _ _ c.if1.false)
+returns-2 : tie.Need-returns
+returns-2 c = rw (sym c.word.ensures, ne_eqb _ _ c.if-word-eq0.false)
 
-pub choice-spec : {M : Type 1} → statement M
-choice-spec = tie.close (tie.spec word-requires returns returns-2)
+pub choice_spec : {M : Type 1} → statement M
+choice_spec =
+    tie.close
+    (tie.spec
+    word-requires
+    returns
+    returns-2)

@@ -5,17 +5,22 @@ use Rattle.lines.proofs.Lines.{line-ends-within}
 use Rattle.words.proofs.end_of.Statement.{statement}
 use Rattle.words.proofs.end_of.Tie as tie
 
-returns : tie.Need-returns
+returns : tie.Need-returns-then-text-at
 returns c = search rules
 
-line-end-requires : tie.Need-line-end-requires
+line-end-requires : tie.Need-line_end-requires
 line-end-requires c κs = search rules
 
-returns-2 : tie.Need-returns-2
+returns-2 : tie.Need-returns
 returns-2 c =
-    let args = c.before.before.before.args in
+    let args = c.args in
     let within = line-ends-within args.text.now args.at (omega arith) in
-    rw c.line-end.ensures (omega (arith, within))
+    rw c.line_end.ensures (omega (arith, within))
 
-pub end-of-spec : {M : Type 1} → statement M
-end-of-spec = tie.close (tie.spec returns line-end-requires returns-2)
+pub end_of_spec : {M : Type 1} → statement M
+end_of_spec =
+    tie.close
+    (tie.spec
+    returns
+    line-end-requires
+    returns-2)

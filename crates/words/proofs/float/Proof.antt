@@ -6,11 +6,16 @@ use Rattle.words.proofs.float.Tie as tie
 word-requires : tie.Need-word-requires
 word-requires c κs = search rules
 
-float-of-requires : tie.Need-float-of-requires
+float-of-requires : tie.Need-float_of-requires
 float-of-requires c κs = search rules
 
 returns : tie.Need-returns
-returns c = rw (c.float_of.ensures, c.before.word.ensures)
+returns c = rw (c.float_of.ensures, c.word.ensures)
 
-pub float-spec : {M : Type 1} → statement M
-float-spec = tie.close (tie.spec word-requires float-of-requires returns)
+pub float_spec : {M : Type 1} → statement M
+float_spec =
+    tie.close
+    (tie.spec
+    word-requires
+    float-of-requires
+    returns)

@@ -10,11 +10,16 @@ use Rattle.words.proofs.level.Tie as tie
 word-requires : tie.Need-word-requires
 word-requires c κs = search rules
 
-level-of-requires : tie.Need-level-of-requires
+level-of-requires : tie.Need-level_of-requires
 level-of-requires c κs = search rules
 
 returns : tie.Need-returns
-returns c = to_z-of_z w32 c.level-of.result (record { sfits = c.level-of.type-inv }) ∙ c.level-of.ensures ∙ ap (level_of c.before.before.before.args.mid) c.before.word.ensures
+returns c = to_z-of_z w32 c.level_of.result (record { sfits = c.level_of.type_inv }) ∙ c.level_of.ensures ∙ ap (level_of c.args.mid) c.word.ensures
 
-pub level-spec : {M : Type 1} → statement M
-level-spec = tie.close (tie.spec word-requires level-of-requires returns)
+pub level_spec : {M : Type 1} → statement M
+level_spec =
+    tie.close
+    (tie.spec
+    word-requires
+    level-of-requires
+    returns)

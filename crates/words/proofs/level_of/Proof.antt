@@ -24,18 +24,18 @@ less-fits : (w z : ℕ) → w ≤ 510 → z ≤ 255 → SFits w32 (pos w -ℤ po
 less-fits w zero h k = record { sfits = omega arith }
 less-fits w (suc z) h k = either (ltb w (suc z)) (suc z - suc w) (w - suc z) (omega arith) (omega arith)
 
-module _ (c : tie.Else1) where
+module _ (c : tie.Else-mid-w) where
   abbrev w : ℕ
-  w = c.before.args.w
+  w = c.args.w
 
   abbrev z : ℕ
-  z = c.before.args.mid
+  z = c.args.mid
 
   byte : z ≤ 255
-  byte = omega (arith, c.before.ranges.mid)
+  byte = omega (arith, c.ranges.mid)
 
   few : w ≤ 510
-  few = omega (arith, c.if1.false, byte)
+  few = omega (arith, c.if-mid-w.false, byte)
 
   agree : to_z w32 w -ℤ to_z w32 z ≡ pos w -ℤ pos z
   agree = ap₂ ◌-ℤ◌ (small w few) (small z (omega (arith, byte)))
@@ -43,23 +43,31 @@ module _ (c : tie.Else1) where
   fits : SFits w32 (to_z w32 w -ℤ to_z w32 z)
   fits = subst (SFits w32) (sym agree) (less-fits w z few byte)
 
-mul-if1 : tie.Need-overflow-mul-if1
+mul-if1 : tie.Need-overflow_mul-mid
 mul-if1 c = omega (arith, c.ranges.mid)
 
-returns : tie.Need-returns
-returns c = rw (lt-leb _ _ c.if1.true)
+returns : tie.Need-returns-then-mid-w
+returns c = rw (lt-leb _ _ c.if-mid-w.true)
 
-cast-result : tie.Need-overflow-cast-result
+cast-result : tie.Need-overflow_cast-result
 cast-result c = record { sfits = omega (arith, few c) }
 
-cast-result-2 : tie.Need-overflow-cast-result-2
+cast-result-2 : tie.Need-overflow_cast-result-2
 cast-result-2 c = record { sfits = omega (arith, byte c) }
 
-sub-result : tie.Need-overflow-sub-result
+sub-result : tie.Need-overflow_sub-result
 sub-result c = fits c
 
-returns-2 : tie.Need-returns-2
-returns-2 c = to_z-of_z w32 _ (fits c) ∙ rw (le-leb _ _ c.if1.false) (agree c)
+returns-2 : tie.Need-returns
+returns-2 c = to_z-of_z w32 _ (fits c) ∙ rw (le-leb _ _ c.if-mid-w.false) (agree c)
 
-pub level-of-spec : {M : Type 1} → statement M
-level-of-spec = tie.close (tie.spec mul-if1 returns cast-result cast-result-2 sub-result returns-2)
+pub level_of_spec : {M : Type 1} → statement M
+level_of_spec =
+    tie.close
+    (tie.spec
+    mul-if1
+    returns
+    cast-result
+    cast-result-2
+    sub-result
+    returns-2)

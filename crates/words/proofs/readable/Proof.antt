@@ -18,65 +18,65 @@ unfolding words_stand
 last line zero h = absurd (omega arith)
 last line (suc k) h = let one : suc k - 1 ≡ k = omega arith in rw one
 
-abbrev invariant-loop : tie.invariant-loop
+abbrev invariant-loop : tie.invariant-loop-left
 invariant-loop line count words left₀ left = (left ≤ 255) × (words_stand line count ≡ words_stand line left)
 
-abbrev decreases-loop : tie.decreases-loop
+abbrev decreases-loop : tie.decreases-loop-left
 decreases-loop line count words left₀ left = left
 
-mul-if1 : tie.Need-overflow-mul-if1 invariant-loop decreases-loop
+mul-if1 : tie.Need-overflow_mul-words invariant-loop decreases-loop
 mul-if1 c = search rules
 
-add-if1 : tie.Need-overflow-add-if1 invariant-loop decreases-loop
+add-if1 : tie.Need-overflow_add-words invariant-loop decreases-loop
 add-if1 c = search rules
 
-returns : tie.Need-returns invariant-loop decreases-loop
+returns : tie.Need-returns-then-line-words invariant-loop decreases-loop
 unfolding readable_as
-returns c = rw (ne_eqb _ _ c.if1.true)
+returns c = rw (ne_eqb _ _ c.if-line-words.true)
 
-loop-holds : tie.Need-loop-init invariant-loop decreases-loop
+loop-holds : tie.Need-loop-left-init invariant-loop decreases-loop
 loop-holds c = (omega arith, refl)
 
-sub-left : tie.Need-overflow-sub-left invariant-loop decreases-loop
+sub-left : tie.Need-overflow_sub-left invariant-loop decreases-loop
 sub-left c = search rules
 
-mul-is-word : tie.Need-overflow-mul-is-word invariant-loop decreases-loop
+mul-is-word : tie.Need-overflow_mul-left invariant-loop decreases-loop
 mul-is-word c = search rules
 
-add-is-word : tie.Need-overflow-add-is-word invariant-loop decreases-loop
+add-is-word : tie.Need-overflow_add-left invariant-loop decreases-loop
 add-is-word c = search rules
 
-is-word-requires : tie.Need-is-word-requires invariant-loop decreases-loop
+is-word-requires : tie.Need-is_word-requires invariant-loop decreases-loop
 is-word-requires c κs = search rules
 
-returns-2 : tie.Need-returns-2 invariant-loop decreases-loop
+returns-2 : tie.Need-returns-then-not-is_word invariant-loop decreases-loop
 unfolding readable_as
 returns-2 c =
     let turn = c.before.before.before in
-    let line = turn.before.before.before.args.line.now in
-    let k = turn.loop.left in
-    let bad : is_word (number_at line (1 + 17 * (k - 1))) ≡ false = sym c.before.is_IsWord.ensures ∙ not-true _ c.if2.true in
-    rw (eq-eqb _ _ turn.before.if1.false, turn.loop.invariant.1, last line k (omega arith), bad)
+    let line = turn.args.line.now in
+    let k = turn.loop-left.left in
+    let bad : is_word (number_at line (1 + 17 * (k - 1))) ≡ false = sym c.is_word.ensures ∙ c.if-not-is_word.true in
+    rw (eq-eqb _ _ turn.if-line-words.false, turn.loop-left.invariant.1, last line k (omega arith), bad)
 
-loop-less : tie.Need-loop-smaller invariant-loop decreases-loop
+loop-less : tie.Need-loop-left-smaller invariant-loop decreases-loop
 loop-less c = search rules
 
-loop-again : tie.Need-loop-preserved invariant-loop decreases-loop
+loop-again : tie.Need-loop-left-preserved invariant-loop decreases-loop
 loop-again c =
     let turn = c.before.before.before in
-    let line = turn.before.before.before.args.line.now in
-    let k = turn.loop.left in
-    let good : is_word (number_at line (1 + 17 * (k - 1))) ≡ true = sym c.before.is_IsWord.ensures ∙ not-false _ c.if2.false in
-    (omega arith, rw (turn.loop.invariant.1, last line k (omega arith), good))
+    let line = turn.args.line.now in
+    let k = turn.loop-left.left in
+    let good : is_word (number_at line (1 + 17 * (k - 1))) ≡ true = sym c.is_word.ensures ∙ c.if-not-is_word.false in
+    (omega arith, rw (turn.loop-left.invariant.1, last line k (omega arith), good))
 
-returns-3 : tie.Need-returns-3 invariant-loop decreases-loop
+returns-3 : tie.Need-returns invariant-loop decreases-loop
 unfolding readable_as words_stand
 returns-3 c =
-    let none : c.before.loop.left ≡ 0 = omega arith in
-    rw (eq-eqb _ _ c.before.before.if1.false, c.before.loop.invariant.1, none)
+    let none : c.loop-left.left ≡ 0 = omega arith in
+    rw (eq-eqb _ _ c.if-line-words.false, c.loop-left.invariant.1, none)
 
-pub readable-spec : {M : Type 1} → statement M
-readable-spec =
+pub readable_spec : {M : Type 1} → statement M
+readable_spec =
     tie.close
     (tie.spec
     invariant-loop

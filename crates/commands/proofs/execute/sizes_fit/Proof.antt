@@ -6,14 +6,20 @@ use Rattle.commands.proofs.execute.sizes_fit.Tie as tie
 both-requires : tie.Need-both-requires
 both-requires c κs = search rules
 
-both-requires-2 : tie.Need-both-requires-2
+both-requires-2 : tie.Need-both-tables-requires
 both-requires-2 c κs = search rules
 
-both-requires-3 : tie.Need-both-requires-3
+both-requires-3 : tie.Need-both-requires-2
 both-requires-3 c κs = search rules
 
 returns : tie.Need-returns
-returns c = rw (c.both3.ensures, c.before.both2.ensures, c.before.before.both.ensures)
+returns c = rw (c.both-2.ensures, c.both-tables.ensures, c.both.ensures)
 
-pub sizes-fit-spec : {M : Type 1} → statement M
-sizes-fit-spec = tie.close (tie.spec both-requires both-requires-2 both-requires-3 returns)
+pub sizes_fit_spec : {M : Type 1} → statement M
+sizes_fit_spec =
+    tie.close
+    (tie.spec
+    both-requires
+    both-requires-2
+    both-requires-3
+    returns)

@@ -7,11 +7,16 @@ use Rattle.commands.proofs.play.is_full.Tie as tie
 both-requires : tie.Need-both-requires
 both-requires c κs = search rules
 
-returns : tie.Need-returns
-returns c = rw (sym c.before.both.ensures ∙ c.if1.true)
+returns : tie.Need-returns-then-both
+returns c = rw (sym c.both.ensures ∙ c.if-both.true)
 
-returns-2 : tie.Need-returns-2
-returns-2 c = rw (sym c.before.both.ensures ∙ c.if1.false)
+returns-2 : tie.Need-returns
+returns-2 c = rw (sym c.both.ensures ∙ c.if-both.false)
 
-pub is-full-spec : {M : Type 1} → statement M
-is-full-spec = tie.close (tie.spec both-requires returns returns-2)
+pub is_full_spec : {M : Type 1} → statement M
+is_full_spec =
+    tie.close
+    (tie.spec
+    both-requires
+    returns
+    returns-2)

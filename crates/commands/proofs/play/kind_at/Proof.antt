@@ -7,18 +7,23 @@ use borrow.Author.Rules.{rules}
 use Rattle.commands.proofs.play.kind_at.Statement.{statement}
 use Rattle.commands.proofs.play.kind_at.Tie as tie
 
-mul-kind-of : tie.Need-overflow-mul-kind-of
+mul-kind-of : tie.Need-offset_bounds-splines-k
 mul-kind-of c = search rules
 
-shared-slice-copy-out-kind-of : tie.Need-shared-slice-copy-out-kind-of
+shared-slice-copy-out-kind-of : tie.Need-bounds-splines-k
 shared-slice-copy-out-kind-of c = search rules
 
-kind-of-requires : tie.Need-kind-of-requires
+kind-of-requires : tie.Need-kind_of-requires
 kind-of-requires c κs = search rules
 
 returns : tie.Need-returns
-returns c = let s = c.before.before in c.kind-of.ensures ∙ ap kind_of (same-within s.args.splines.now s.args.k [] no_numbers s.requires)
+returns c = c.kind_of.ensures ∙ ap kind_of (same-within c.args.splines.now c.args.k [] no_numbers c.requires)
 
-pub kind-at-spec : {M : Type 1} → statement M
-kind-at-spec =
-    tie.close (tie.spec mul-kind-of shared-slice-copy-out-kind-of kind-of-requires returns)
+pub kind_at_spec : {M : Type 1} → statement M
+kind_at_spec =
+    tie.close
+    (tie.spec
+    mul-kind-of
+    shared-slice-copy-out-kind-of
+    kind-of-requires
+    returns)

@@ -6,11 +6,16 @@ use Rattle.commands.proofs.play.plateau_of.Tie as tie
 sub-requires : tie.Need-sub-requires
 sub-requires c κs = search rules
 
-returns : tie.Need-returns
-returns c = rw (c.sub.ensures, c.before.if1.true)
+returns : tie.Need-returns-then-p
+returns c = rw (c.sub.ensures, c.if-p.true)
 
-returns-2 : tie.Need-returns-2
+returns-2 : tie.Need-returns
 returns-2 c = search rules
 
-pub plateau-of-spec : {M : Type 1} → statement M
-plateau-of-spec = tie.close (tie.spec sub-requires returns returns-2)
+pub plateau_of_spec : {M : Type 1} → statement M
+plateau_of_spec =
+    tie.close
+    (tie.spec
+    sub-requires
+    returns
+    returns-2)

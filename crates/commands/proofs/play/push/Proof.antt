@@ -1,6 +1,6 @@
 -- `commands::play::push` meets its contract. Assumes nothing.
 use mathlib.Core.Path.{◌≡◌, sym, ap, ◌∙◌}
-use mathlib.Core.Bool.{◌&&◌}
+use mathlib.Core.Bool.{◌&&◌, not}
 use lib.Ieee.Scale.{finite}
 use Rattle.quant.proofs.Judging.{taken, passed}
 use Rattle.pulse.specs.declared.bin.Bin.{Bin}
@@ -11,13 +11,13 @@ use borrow.Author.Rules.{rules}
 use Rattle.commands.proofs.play.push.Statement.{statement}
 use Rattle.commands.proofs.play.push.Tie as tie
 
-bin-with-requires : tie.Need-bin-with-requires
+bin-with-requires : tie.Need-bin_with-b-requires
 bin-with-requires c κs = search rules
 
-is-finite-requires : tie.Need-is-finite-requires
+is-finite-requires : tie.Need-is_finite-requires
 is-finite-requires c κs = search rules
 
-is-finite-requires-2 : tie.Need-is-finite-requires-2
+is-finite-requires-2 : tie.Need-is_finite-requires-2
 is-finite-requires-2 c κs = search rules
 
 both-requires : tie.Need-both-requires
@@ -25,76 +25,71 @@ both-requires c κs = search rules
 
 module _ (d : tie.After-both) where
   abbrev bin : Bin
-  bin = let a = d.before.before.before.before.before.before.args in bin_with a.c.osc a.kind a.p a.span.0
+  bin = let a = d.args in bin_with a.c.osc a.kind a.p a.span.0
 
   flag : d.both.result ≡ (finite bin.global.0 && finite bin.envelope.plateau.0)
-  flag = rw (d.both.ensures, d.before.is-finite2.ensures, d.before.before.is_finite.ensures, d.before.before.before.before.bin-with.ensures)
+  flag = rw (d.both.ensures, d.is_finite-2.ensures, d.is_finite.ensures, d.bin_with-b.ensures)
 
 stops-requires : tie.Need-stops-requires
 stops-requires c κs = search rules
 
-returns : tie.Need-returns
+returns : tie.Need-returns-then-not-both
 unfolding stored_with
-returns c = rw (c.stops.ensures, taken _ _ (flag c.before.before) c.before.if1.true)
+returns c = rw (c.stops.ensures, taken _ _ (flag c.before.before) (ap not c.if-not-both.true))
 
-is-negligible-requires : tie.Need-is-negligible-requires
+is-negligible-requires : tie.Need-is_negligible-requires
 is-negligible-requires c κs = search rules
 
-goes-on-requires : tie.Need-goes-on-requires
+goes-on-requires : tie.Need-goes_on-requires
 goes-on-requires c κs = search rules
 
-returns-2 : tie.Need-returns-2
+returns-2 : tie.Need-returns-then-is_negligible
 unfolding stored_with
-returns-2 c = rw (c.goes_on.ensures, passed _ _ (flag c.before.before.before.before) c.before.before.before.if1.false, sym c.before.before.is-negligible.ensures ∙ c.before.if2.true)
+returns-2 c = rw (c.goes_on.ensures, passed _ _ (flag c.before.before.before.before.before.before) (ap not c.if-not-both.false), sym c.is_negligible.ensures ∙ c.if-is_negligible.true)
 
 weigh-requires : tie.Need-weigh-requires
 weigh-requires c κs = search rules
 
-enum-known-w : tie.Need-enum-known-w
+enum-known-w : tie.Need-enum_known-w
 enum-known-w c = search rules
 
-head-of-requires : tie.Need-head-of-requires
+head-of-requires : tie.Need-head_of-requires
 head-of-requires c κs = search rules
 
-spline-for-requires : tie.Need-spline-for-requires
+spline-for-requires : tie.Need-spline_for-requires
 spline-for-requires c κs = search rules
 
-store-at-requires : tie.Need-store-at-requires
+store-at-requires : tie.Need-store_at-requires
 store-at-requires c κs = search rules
 
-enum_told : tie.Need-enum-told
+enum_told : tie.Need-enum_told-1
 enum_told c = search rules
 
-stops-requires-2 : tie.Need-stops-requires-2
+stops-requires-2 : tie.Need-stops-requires-in-Overflow
 stops-requires-2 c κs = search rules
 
-returns-3 : tie.Need-returns-3
+returns-3 : tie.Need-returns-in-Fine
 unfolding stored_with
 returns-3 c =
-    let m = c.before.before.before.before.before in
-    let d = m.before.before.before.before.before in
-    let at-bin = d.before.before.before.before in
-    let a = at-bin.before.before.args in
-    let w = c.before.before.before.before.w.given.0.0 in
+    let a = c.args in
+    let w = c.in-Fine.w in
     let storing : Bin → Step = λ b. stored_at a.t a.splines.now a.bins.now a.i a.start.0 w (head_of b) (spline_for b.envelope.shape a.k) in
-    let placed : c.store_at.result ≡ storing at-bin.bin-with.result = rw (c.store_at.ensures, c.before.spline-for.ensures, c.before.before.head_of.ensures) in
+    let placed : c.store_at.result ≡ storing c.bin_with-b.result = rw (c.store_at.ensures, c.spline_for.ensures, c.head_of.ensures) in
     rw (
-      passed _ _ (flag d) m.before.before.before.before.if1.false,
-      sym m.before.before.before.is-negligible.ensures ∙ m.before.before.if2.false,
-      sym m.before.weigh.ensures ∙ c.before.before.before.before.w.given.1,
+      passed _ _ (flag c.before.before.before.before.before.before.before.before.before.before.before.before) (ap not c.if-not-both.false),
+      sym c.is_negligible.ensures ∙ c.if-is_negligible.false,
+      sym c.weigh.ensures ∙ c.in-Fine.is,
     )
-    (placed ∙ ap storing at-bin.bin-with.ensures)
+    (placed ∙ ap storing c.bin_with-b.ensures)
 
-returns-4 : tie.Need-returns-4
+returns-4 : tie.Need-returns-in-Overflow
 unfolding stored_with
 returns-4 c =
-    let m = c.before.before in
-    let d = m.before.before.before.before.before in
     rw (
-      c.stops2.ensures,
-      passed _ _ (flag d) m.before.before.before.before.if1.false,
-      sym m.before.before.before.is-negligible.ensures ∙ m.before.before.if2.false,
-      sym m.before.weigh.ensures ∙ c.before.enum_told.given.1,
+      c.stops-in-Overflow.ensures,
+      passed _ _ (flag c.before.before.before.before.before.before.before.before.before.before) (ap not c.if-not-both.false),
+      sym c.is_negligible.ensures ∙ c.if-is_negligible.false,
+      sym c.weigh.ensures ∙ c.in-Overflow.is,
     )
 
 pub push_spec : {M : Type 1} → statement M

@@ -12,55 +12,53 @@ use borrow.Author.Rules.{rules}
 use Rattle.commands.proofs.run.act.Statement.{statement}
 use Rattle.commands.proofs.run.act.Tie as tie
 
-step-requires : tie.Need-step-requires
+step-requires : tie.Need-step-s-requires
 step-requires c κs = search rules
 
-numbers-at-requires : tie.Need-numbers-at-requires
+numbers-at-requires : tie.Need-numbers_at-numbers-requires
 numbers-at-requires c κs = search rules
 
-row-of-requires : tie.Need-row-of-requires
+row-of-requires : tie.Need-row_of-requires
 row-of-requires c κs = search rules
 
 -- a new row lies within the bins
-module _ (c : tie.Then1) where
-  inside : c.before.step.result.at < 512
+module _ (c : tie.Then-s) where
+  inside : c.step-s.result.at < 512
   inside =
-      let s = c.before.before.before in
-      let a = s.args in
-      let within = step-within a.t a.splines.now a.bins.now (eight_channels a.t _ s.well-formed.0) a.a in
-      (subst Within (sym c.before.step.ensures) within).row c.if1.true
+      let a = c.args in
+      let within = step-within a.t a.splines.now a.bins.now (eight_channels a.t _ c.well_formed.0) a.a in
+      (subst Within (sym c.step-s.ensures) within).row c.if-s.true
 
-mul-t13 : tie.Need-overflow-mul-t13
+mul-t13 : tie.Need-offset_bounds-bins-at
 mul-t13 c = let below = inside c.before.before.before in omega arith
 
-slice-set-from-bins : tie.Need-slice-set-from-bins
-slice-set-from-bins c = let below = inside c.before.before.before in omega (arith, c.before.before.before.before.before.before.requires.1)
+slice-set-from-bins : tie.Need-bounds-bins-at
+slice-set-from-bins c = let below = inside c.before.before.before in omega (arith, c.requires.1)
 
-same_length : tie.Need-same-length
+same_length : tie.Need-shape_of-bins-then-s
 same_length c = search rules
 
-returns : tie.Need-returns
+returns : tie.Need-returns-then-s
 returns c =
-    let d = c.before.before.before in
-    let a = d.before.before.before.args in
-    let s = d.before.step.result in
-    let eq = d.before.step.ensures in
-    let row : c.row_of.result ≡ s.head ++ numbers_at a.splines.now s.spline = rw (c.row_of.ensures, c.before.before.numbers-at.ensures) in
-    let wrote : set a.bins.now s.at c.row_of.result ≡ bins_after s a.splines.now a.bins.now = rw (d.if1.true, row) in
+    let a = c.args in
+    let s = c.step-s.result in
+    let eq = c.step-s.ensures in
+    let row : c.row_of.result ≡ s.head ++ numbers_at a.splines.now s.spline = rw (c.row_of.ensures, c.numbers_at-numbers.ensures) in
+    let wrote : set a.bins.now s.at c.row_of.result ≡ bins_after s a.splines.now a.bins.now = rw (c.if-s.true, row) in
     (eq, wrote ∙ ap (λ (s : Step). bins_after s a.splines.now a.bins.now) eq)
 
-same-length-2 : tie.Need-same-length-2
+same-length-2 : tie.Need-shape_of-bins
 same-length-2 c = search rules
 
-returns-2 : tie.Need-returns-2
+returns-2 : tie.Need-returns
 returns-2 c =
-    let a = c.before.before.before.args in
-    let eq = c.before.step.ensures in
-    let stayed : a.bins.now ≡ bins_after c.before.step.result a.splines.now a.bins.now = rw c.if1.false in
+    let a = c.args in
+    let eq = c.step-s.ensures in
+    let stayed : a.bins.now ≡ bins_after c.step-s.result a.splines.now a.bins.now = rw c.if-s.false in
     (eq, stayed ∙ ap (λ (s : Step). bins_after s a.splines.now a.bins.now) eq)
 
-pub act-spec : {M : Type 1} → statement M
-act-spec =
+pub act_spec : {M : Type 1} → statement M
+act_spec =
     tie.close
     (tie.spec
     step-requires

@@ -3,11 +3,15 @@ use borrow.Author.Rules.{rules}
 use Rattle.commands.proofs.step.goes_on.Statement.{statement}
 use Rattle.commands.proofs.step.goes_on.Tie as tie
 
-no-pulse-requires : tie.Need-no-pulse-requires
+no-pulse-requires : tie.Need-no_pulse-pulse-requires
 no-pulse-requires c κs = search rules
 
 returns : tie.Need-returns
-returns c = rw c.no-pulse.ensures
+returns c = rw c.no_pulse-pulse.ensures
 
-pub goes-on-spec : {M : Type 1} → statement M
-goes-on-spec = tie.close (tie.spec no-pulse-requires returns)
+pub goes_on_spec : {M : Type 1} → statement M
+goes_on_spec =
+    tie.close
+    (tie.spec
+    no-pulse-requires
+    returns)

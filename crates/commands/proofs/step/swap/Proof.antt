@@ -28,80 +28,80 @@ both-known t n m time i j apart first second = rw (apart, first, second)
 same-requires : tie.Need-same-requires
 same-requires c κs = search rules
 
-goes-on-requires : tie.Need-goes-on-requires
+goes-on-requires : tie.Need-goes_on-requires
 goes-on-requires c κs = search rules
 
-returns : tie.Need-returns
+returns : tie.Need-returns-then-same
 unfolding swapped_at
-returns c = rw (c.goes_on.ensures, sym c.before.before.same.ensures ∙ c.before.if1.true)
+returns c = rw (c.goes_on.ensures, sym c.same.ensures ∙ c.if-same.true)
 
 find-requires : tie.Need-find-requires
 find-requires c κs = search rules
 
-enum-known-i : tie.Need-enum-known-i
+enum-known-i : tie.Need-enum_known-i
 enum-known-i c = search rules
 
-find-requires-2 : tie.Need-find-requires-2
+find-requires-2 : tie.Need-find-requires-in-At
 find-requires-2 c κs = search rules
 
-enum-known-j : tie.Need-enum-known-j
+enum-known-j : tie.Need-enum_known-j
 enum-known-j c = search rules
 
-module _ (c : tie.After-known-told2) where
-  first : c.before.before.before.before.before.i.given.0.0 < 8
+module _ (c : tie.In-At-find) where
+  first : c.in-At.i < 8
   first =
-      let s = c.before.before.before.before.before.before.before.before.before.before in
-      let a = s.args in
-      found-eight a.t a.n _ (eight_channels a.t _ s.well-formed.0) (sym c.before.before.before.before.before.before.before.find.ensures ∙ c.before.before.before.before.before.i.given.1)
+      let s = c in
+      let a = c.args in
+      found-eight a.t a.n _ (eight_channels a.t _ c.well_formed.0) (sym c.find.ensures ∙ c.in-At.is)
 
-module _ (c : tie.After-known-told2) where
-  second : c.before.j.given.0.0 < 8
+module _ (c : tie.In-At-find) where
+  second : c.in-At-find.j < 8
   second =
-      let s = c.before.before.before.before.before.before.before.before.before.before in
-      let a = s.args in
-      found-eight a.t a.m _ (eight_channels a.t _ s.well-formed.0) (sym c.before.before.before.find2.ensures ∙ c.before.j.given.1)
+      let s = c in
+      let a = c.args in
+      found-eight a.t a.m _ (eight_channels a.t _ c.well_formed.0) (sym c.find-in-At.ensures ∙ c.in-At-find.is)
 
-osc-at-requires : tie.Need-osc-at-requires
+osc-at-requires : tie.Need-osc_at-requires
 osc-at-requires c κs = first c
 
-osc-at-requires-2 : tie.Need-osc-at-requires-2
+osc-at-requires-2 : tie.Need-osc_at-requires-in-At-find
 osc-at-requires-2 c κs = second c.before
 
-swap-phase-requires : tie.Need-swap-phase-requires
+swap-phase-requires : tie.Need-swap_phase-requires
 swap-phase-requires c κs = search rules
 
-swap-to-requires : tie.Need-swap-to-requires
+swap-to-requires : tie.Need-swap_to-requires
 swap-to-requires c κs = (first c.before.before.before, second c.before.before.before)
 
-enum_told : tie.Need-enum-told
+enum_told : tie.Need-enum_told-1
 enum_told c = search rules
 
 stops-requires : tie.Need-stops-requires
 stops-requires c κs = search rules
 
-enum-told-2 : tie.Need-enum-told-2
+enum-told-2 : tie.Need-enum_told-in-Nowhere
 enum-told-2 c = search rules
 
-stops-requires-2 : tie.Need-stops-requires-2
+stops-requires-2 : tie.Need-stops-requires-in-Nowhere
 stops-requires-2 c κs = search rules
 
-returns-2 : tie.Need-returns-2
+returns-2 : tie.Need-returns-in-At-find
 returns-2 c =
-    let a = c.before.before.before.before.before.before.before.before.before.before.before.before.before.before.args in
-    let one = c.before.before.before.osc-at.ensures in
-    let two = c.before.before.osc-at2.ensures in
-    let phases = c.before.swap-phase.ensures ∙ (λ k. swapped_phases (one k) (two k) a.time.0) in
-    c.swap-to.ensures
-    ∙ ap (λ (s : Swapped). swapped_to a.t c.before.before.before.before.before.before.before.before.before.i.given.0.0 c.before.before.before.before.before.j.given.0.0 s) phases
-    ∙ both-known a.t a.n a.m a.time.0 _ _ (sym c.before.before.before.before.before.before.before.before.before.before.before.before.before.same.ensures ∙ c.before.before.before.before.before.before.before.before.before.before.before.before.if1.false) (sym c.before.before.before.before.before.before.before.before.before.before.before.find.ensures ∙ c.before.before.before.before.before.before.before.before.before.i.given.1) (sym c.before.before.before.before.before.before.before.find2.ensures ∙ c.before.before.before.before.before.j.given.1)
+    let a = c.args in
+    let one = c.osc_at.ensures in
+    let two = c.osc_at-in-At-find.ensures in
+    let phases = c.swap_phase.ensures ∙ (λ k. swapped_phases (one k) (two k) a.time.0) in
+    c.swap_to.ensures
+    ∙ ap (λ (s : Swapped). swapped_to a.t c.in-At.i c.in-At-find.j s) phases
+    ∙ both-known a.t a.n a.m a.time.0 _ _ (sym c.same.ensures ∙ c.if-same.false) (sym c.find.ensures ∙ c.in-At.is) (sym c.find-in-At.ensures ∙ c.in-At-find.is)
 
-returns-3 : tie.Need-returns-3
+returns-3 : tie.Need-returns-in-Nowhere-find
 unfolding swapped_at
-returns-3 c = rw (c.stops.ensures, sym c.before.before.before.before.before.before.before.before.before.same.ensures ∙ c.before.before.before.before.before.before.before.before.if1.false, sym c.before.before.before.before.before.before.before.find.ensures ∙ c.before.before.before.before.before.i.given.1, sym c.before.before.before.find2.ensures ∙ c.before.enum_told.given.1)
+returns-3 c = rw (c.stops.ensures, sym c.same.ensures ∙ c.if-same.false, sym c.find.ensures ∙ c.in-At.is, sym c.find-in-At.ensures ∙ c.in-Nowhere-find.is)
 
-returns-4 : tie.Need-returns-4
+returns-4 : tie.Need-returns-in-Nowhere
 unfolding swapped_at
-returns-4 c = rw (c.stops2.ensures, sym c.before.before.before.before.before.same.ensures ∙ c.before.before.before.before.if1.false, sym c.before.before.before.find.ensures ∙ c.before.enum-told2.given.1)
+returns-4 c = rw (c.stops-in-Nowhere.ensures, sym c.same.ensures ∙ c.if-same.false, sym c.find.ensures ∙ c.in-Nowhere.is)
 
 pub swap_spec : {M : Type 1} → statement M
 swap_spec =

@@ -12,38 +12,37 @@ use Rattle.commands.proofs.step.turn.Tie as tie
 find-requires : tie.Need-find-requires
 find-requires c κs = search rules
 
-enum-known-i : tie.Need-enum-known-i
+enum-known-i : tie.Need-enum_known-i
 enum-known-i c = search rules
 
-module _ (c : tie.After-known-told) where
-  there : c.before.i.given.0.0 < 8
+module _ (c : tie.In-At) where
+  there : c.in-At.i < 8
   there =
-      let s = c.before.before.before.before in
-      let a = s.args in
-      found-eight a.t1 a.name _ (eight_channels a.t1 _ s.well-formed.0) (sym c.before.before.before.find.ensures ∙ c.before.i.given.1)
+      let a = c.args in
+      found-eight a.t a.name _ (eight_channels a.t _ c.well_formed.0) (sym c.find.ensures ∙ c.in-At.is)
 
-mul-channel : tie.Need-overflow-mul-channel
+mul-channel : tie.Need-offset_bounds-t-i
 mul-channel c = let below = there c in omega arith
 
-element-copy-out-channel : tie.Need-element-copy-out-channel
+element-copy-out-channel : tie.Need-bounds-t-i
 element-copy-out-channel c = there c
 
-turn-at-requires : tie.Need-turn-at-requires
+turn-at-requires : tie.Need-turn_at-requires
 turn-at-requires c κs = refl
 
-enum_told : tie.Need-enum-told
+enum_told : tie.Need-enum_told-1
 enum_told c = search rules
 
 stops-requires : tie.Need-stops-requires
 stops-requires c κs = search rules
 
-returns : tie.Need-returns
+returns : tie.Need-returns-in-At
 unfolding turned_at
-returns c = rw (c.turn_at.ensures, sym c.before.before.before.before.before.find.ensures ∙ c.before.before.before.i.given.1)
+returns c = rw (c.turn_at.ensures, sym c.find.ensures ∙ c.in-At.is)
 
-returns-2 : tie.Need-returns-2
+returns-2 : tie.Need-returns-in-Nowhere
 unfolding turned_at
-returns-2 c = rw (c.stops.ensures, sym c.before.before.before.find.ensures ∙ c.before.enum_told.given.1)
+returns-2 c = rw (c.stops.ensures, sym c.find.ensures ∙ c.in-Nowhere.is)
 
 pub turn_spec : {M : Type 1} → statement M
 turn_spec =

@@ -6,32 +6,32 @@ use Rattle.quant.proofs.Judging.{taken, passed}
 use Rattle.commands.proofs.step.turn_at.Statement.{statement}
 use Rattle.commands.proofs.step.turn_at.Tie as tie
 
-moved-by-requires : tie.Need-moved-by-requires
+moved-by-requires : tie.Need-moved_by-m-requires
 moved-by-requires c κs = search rules
 
-with-channel-requires : tie.Need-with-channel-requires
+with-channel-requires : tie.Need-with_channel-requires
 with-channel-requires c κs = search rules
 
-goes-on-requires : tie.Need-goes-on-requires
+goes-on-requires : tie.Need-goes_on-requires
 goes-on-requires c κs = search rules
 
-returns : tie.Need-returns
+returns : tie.Need-returns-then-not-m
 returns c =
-    let moved = c.before.before.before.before.before.moved_by.ensures in
-    let fine = taken _ _ (ap (λ (m : Moved). m.refused) moved) c.before.before.if1.true in
-    rw (c.goes_on.ensures, c.before.with-channel.ensures, moved, fine, c.before.before.before.before.before.before.before.requires)
+    let moved = c.moved_by-m.ensures in
+    let fine = taken _ _ (ap (λ (m : Moved). m.refused) moved) c.if-not-m.true in
+    rw (c.goes_on.ensures, c.with_channel.ensures, moved, fine, c.requires)
 
 stops-requires : tie.Need-stops-requires
 stops-requires c κs = search rules
 
-returns-2 : tie.Need-returns-2
+returns-2 : tie.Need-returns
 returns-2 c =
-    let moved = c.before.before.before.before.moved_by.ensures in
-    let unfit = passed _ _ (ap (λ (m : Moved). m.refused) moved) c.before.if1.false in
+    let moved = c.moved_by-m.ensures in
+    let unfit = passed _ _ (ap (λ (m : Moved). m.refused) moved) c.if-not-m.false in
     rw (c.stops.ensures, unfit)
 
-pub turn-at-spec : {M : Type 1} → statement M
-turn-at-spec =
+pub turn_at_spec : {M : Type 1} → statement M
+turn_at_spec =
     tie.close
     (tie.spec
     moved-by-requires

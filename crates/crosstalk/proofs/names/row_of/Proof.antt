@@ -12,57 +12,54 @@ use Rattle.crosstalk.proofs.Scanning.{row-end, row_here, row-later}
 use Rattle.crosstalk.proofs.names.row_of.Statement.{statement}
 use Rattle.crosstalk.proofs.names.row_of.Tie as tie
 
-abbrev invariant-loop : tie.invariant-loop
+abbrev invariant-loop : tie.invariant-loop-i
 invariant-loop channel c i₀ i = (i ≤ c.count) × (row_from i channel (drop i (names_in c)) ≡ row_of channel (names_in c))
 
-abbrev decreases-loop : tie.decreases-loop
+abbrev decreases-loop : tie.decreases-loop-i
 decreases-loop channel c i₀ i = c.count - i
 
-loop-holds : tie.Need-loop-init invariant-loop decreases-loop
+loop-holds : tie.Need-loop-i-init invariant-loop decreases-loop
 loop-holds c = (search rules, refl)
 
-mul-same : tie.Need-overflow-mul-same invariant-loop decreases-loop
+mul-same : tie.Need-offset_bounds-c-i invariant-loop decreases-loop
 mul-same c = search rules
 
-element-copy-out-same : tie.Need-element-copy-out-same invariant-loop decreases-loop
+element-copy-out-same : tie.Need-bounds-c-i invariant-loop decreases-loop
 element-copy-out-same c = search rules
 
 same-requires : tie.Need-same-requires invariant-loop decreases-loop
 same-requires c κs = search rules
 
-returns : tie.Need-returns invariant-loop decreases-loop
+returns : tie.Need-returns-then-same invariant-loop decreases-loop
 returns c =
-    let s = c.before.before.before.before.before in
-    let a = s.args.t1 in
-    let at = c.before.before.before.before.loop in
-    let whole = eight-names a _ s.well-formed.0 in
+    let a = c.args.c in
+    let at = c.loop-i in
+    let whole = eight-names a _ c.well_formed.0 in
     let cell = next-left a.names a.count at.i no_name (omega arith) (omega (arith, whole)) in
-    sym (row_here _ _ _ cell at.i s.args.channel (sym c.before.same.ensures ∙ c.if1.true)) ∙ at.invariant.1
+    sym (row_here _ _ _ cell at.i c.args.channel (sym c.same.ensures ∙ c.if-same.true)) ∙ at.invariant.1
 
-add-i : tie.Need-overflow-add-i invariant-loop decreases-loop
+add-i : tie.Need-overflow_add-i invariant-loop decreases-loop
 add-i c = search rules
 
-loop-less : tie.Need-loop-smaller invariant-loop decreases-loop
+loop-less : tie.Need-loop-i-smaller invariant-loop decreases-loop
 loop-less c = search rules
 
-loop-again : tie.Need-loop-preserved invariant-loop decreases-loop
+loop-again : tie.Need-loop-i-preserved invariant-loop decreases-loop
 loop-again c =
-    let s = c.before.before.before.before.before in
-    let a = s.args.t1 in
-    let at = c.before.before.before.before.loop in
-    let whole = eight-names a _ s.well-formed.0 in
+    let a = c.args.c in
+    let at = c.loop-i in
+    let whole = eight-names a _ c.well_formed.0 in
     let cell = next-left a.names a.count at.i no_name (omega arith) (omega (arith, whole)) in
-    (omega arith, row-later _ _ _ cell at.i s.args.channel (sym c.before.same.ensures ∙ c.if1.false) ∙ at.invariant.1)
+    (omega arith, row-later _ _ _ cell at.i c.args.channel (sym c.same.ensures ∙ c.if-same.false) ∙ at.invariant.1)
 
-returns-2 : tie.Need-returns-2 invariant-loop decreases-loop
+returns-2 : tie.Need-returns invariant-loop decreases-loop
 returns-2 c =
-    let s = c.before.before in
-    let a = s.args.t1 in
-    let at = c.before.loop in
-    sym (row-end _ (none_left a.names a.count at.i c.loop-test.false) at.i s.args.channel) ∙ at.invariant.1
+    let a = c.args.c in
+    let at = c.loop-i in
+    sym (row-end _ (none_left a.names a.count at.i c.loop-i-test.false) at.i c.args.channel) ∙ at.invariant.1
 
-pub row-of-spec : {M : Type 1} → statement M
-row-of-spec =
+pub row_of_spec : {M : Type 1} → statement M
+row_of_spec =
     tie.close
     (tie.spec
     invariant-loop

@@ -14,12 +14,18 @@ none-requires c κs = search rules
 find-requires : tie.Need-find-requires
 find-requires c κs = search rules
 
-with-part-requires : tie.Need-with-part-requires
+with-part-requires : tie.Need-with_part-requires
 unfolding packed
-with-part-requires c κs = let at : c.before.none.result.count ≡ 0 = ap (λ (x : Taking). x.count) c.before.none.ensures in omega arith
+with-part-requires c κs = let at : c.none.result.count ≡ 0 = ap (λ (x : Taking). x.count) c.none.ensures in omega arith
 
 returns : tie.Need-returns
-returns c = rw (c.with_part.ensures, c.before.find.ensures, c.before.before.none.ensures) (one-pushed _ _)
+returns c = rw (c.with_part.ensures, c.find.ensures, c.none.ensures) (one-pushed _ _)
 
-pub own-spec : {M : Type 1} → statement M
-own-spec = tie.close (tie.spec none-requires find-requires with-part-requires returns)
+pub own_spec : {M : Type 1} → statement M
+own_spec =
+    tie.close
+    (tie.spec
+    none-requires
+    find-requires
+    with-part-requires
+    returns)

@@ -19,81 +19,78 @@ use Rattle.crosstalk.proofs.Pushing.{Turn, turn-count, turn_end, turn-skip, turn
 use Rattle.crosstalk.proofs.parts.row_parts.Statement.{statement}
 use Rattle.crosstalk.proofs.parts.row_parts.Tie as tie
 
-abbrev invariant-loop : tie.invariant-loop
+abbrev invariant-loop : tie.invariant-loop-k
 invariant-loop t row c taking₀ k₀ taking k = (k ≤ length row) × Turn t (names_in c) row k taking
 
-abbrev decreases-loop : tie.decreases-loop
+abbrev decreases-loop : tie.decreases-loop-k
 decreases-loop t row c taking₀ k₀ taking k = length row - k
 
-none-requires : tie.Need-none-requires invariant-loop decreases-loop
+none-requires : tie.Need-none-taking-requires invariant-loop decreases-loop
 none-requires c κs = search rules
 
-loop-holds : tie.Need-loop-init invariant-loop decreases-loop
-loop-holds c = (search rules, record { done = []; is = c.none.ensures; few = search rules; whole = refl })
+loop-holds : tie.Need-loop-k-init invariant-loop decreases-loop
+loop-holds c = (search rules, record { done = []; is = c.none-taking.ensures; few = search rules; whole = refl })
 
-mul-if1 : tie.Need-overflow-mul-if1 invariant-loop decreases-loop
+mul-if1 : tie.Need-offset_bounds-row-k invariant-loop decreases-loop
 mul-if1 c = search rules
 
-shared-slice-read-if1 : tie.Need-shared-slice-read-if1 invariant-loop decreases-loop
+shared-slice-read-if1 : tie.Need-bounds-row-k invariant-loop decreases-loop
 shared-slice-read-if1 c = search rules
 
-mul-find : tie.Need-overflow-mul-find invariant-loop decreases-loop
+mul-find : tie.Need-offset_bounds-c-k invariant-loop decreases-loop
 mul-find c = search rules
 
-element-copy-out-find : tie.Need-element-copy-out-find invariant-loop decreases-loop
+element-copy-out-find : tie.Need-bounds-c-k invariant-loop decreases-loop
 element-copy-out-find c = search rules
 
 find-requires : tie.Need-find-requires invariant-loop decreases-loop
 find-requires c κs = search rules
 
-mul-with-part : tie.Need-overflow-mul-with-part invariant-loop decreases-loop
+mul-with-part : tie.Need-offset_bounds-row-k-then-row-k invariant-loop decreases-loop
 mul-with-part c = search rules
 
-shared-slice-read-with-part : tie.Need-shared-slice-read-with-part invariant-loop decreases-loop
+shared-slice-read-with-part : tie.Need-bounds-row-k-then-row-k invariant-loop decreases-loop
 shared-slice-read-with-part c = search rules
 
-with-part-requires : tie.Need-with-part-requires invariant-loop decreases-loop
+with-part-requires : tie.Need-with_part-taking-requires invariant-loop decreases-loop
 with-part-requires c κs =
-    let at = c.before.before.before.before.before.before.loop in
+    let at = c.loop-k in
     let most = turn-count _ _ _ _ _ at.invariant.1 in
-    let s = c.before.before.before.before.before.before.before.before.before in
-    omega (arith, s.requires.0, s.requires.1)
+    omega (arith, c.requires.0, c.requires.1)
 
-add-k : tie.Need-overflow-add-k invariant-loop decreases-loop
+add-k : tie.Need-overflow_add-k invariant-loop decreases-loop
 add-k c = search rules
 
-loop-less : tie.Need-loop-smaller invariant-loop decreases-loop
+loop-less : tie.Need-loop-k-smaller invariant-loop decreases-loop
 loop-less c = search rules
 
-loop-again : tie.Need-loop-preserved invariant-loop decreases-loop
+loop-again : tie.Need-loop-k-preserved invariant-loop decreases-loop
 unfolding ne
 loop-again c =
-    let s = c.before.before.before.before.before.before in
-    let a = s.args.t2 in
-    let row = s.args.row.now in
-    let at = c.before.before.before.loop in
-    let whole = eight-names a _ s.well-formed.1.0 in
+    let a = c.args.c in
+    let row = c.args.row.now in
+    let at = c.loop-k in
+    let whole = eight-names a _ c.well_formed.1.0 in
     let there : at.k < length row = omega arith in
-    let named = next-left a.names a.count at.k no_name (omega (arith, s.requires.1)) (omega (arith, whole, s.requires.0, s.requires.1)) in
+    let named = next-left a.names a.count at.k no_name (omega (arith, c.requires.1)) (omega (arith, whole, c.requires.0, c.requires.1)) in
     let on : drop at.k row ≡ get_or row at.k nan ∷ drop (at.k + 1) row = rw (add-one at.k) (drop-cons row at.k nan there) in (
       omega arith,
       ⊎_elim
           (λ w.
           rw (w.5, w.4.ensures, w.2.ensures)
-          (turn-with s.args.t _ row at.k at.taking _ _ named on (omega (arith, s.requires.0, s.requires.1)) (not-true _ w.0.taken) at.invariant.1))
-          (λ w. rw w.1 (turn-skip s.args.t _ row at.k at.taking _ _ named on (not-false _ w.0.left) at.invariant.1))
-          c.if1.branch,
+          (turn-with c.args.t _ row at.k at.taking _ _ named on (omega (arith, c.requires.0, c.requires.1)) (not-true _ w.0.taken) at.invariant.1))
+          (λ w. rw w.1 (turn-skip c.args.t _ row at.k at.taking _ _ named on (not-false _ w.0.left) at.invariant.1))
+          c.if-row-k.branch,
     )
 
 returns : tie.Need-returns invariant-loop decreases-loop
 returns c =
-    let s = c.before.before.before.before in
-    let a = s.args.t2 in
-    let at = c.before.loop in
-    turn_end _ _ _ _ _ (none_left a.names a.count at.k (omega (arith, s.requires.1))) at.invariant.1
+    let a = c.args.c in
+    let at = c.loop-k in
+    turn_end _ _ _ _ _ (none_left a.names a.count at.k (omega (arith, c.requires.1))) at.invariant.1
 
-pub row-parts-spec : {M : Type 1} → statement M
-row-parts-spec =
+pub row_parts_spec : {M : Type 1} → statement M
+row_parts_spec =
     tie.close
     (tie.spec
     invariant-loop

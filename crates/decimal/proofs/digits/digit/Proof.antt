@@ -6,44 +6,44 @@ use Rattle.decimal.proofs.Letters.{below, figure, between, capital, middle, lett
 use Rattle.decimal.proofs.digits.digit.Statement.{statement}
 use Rattle.decimal.proofs.digits.digit.Tie as tie
 
-returns : tie.Need-returns
-returns c = sym (below _ c.if1.true)
+returns : tie.Need-returns-then-b-lt48
+returns c = sym (below _ c.if-b-lt48.true)
 
-cast-result : tie.Need-overflow-cast-result
+cast-result : tie.Need-overflow_cast-result
 cast-result c = search rules
 
-returns-2 : tie.Need-returns-2
+returns-2 : tie.Need-returns-then-b-le57
 returns-2 c = sym (figure _ (omega arith) (omega arith))
 
-returns-3 : tie.Need-returns-3
+returns-3 : tie.Need-returns-then-b-lt65
 returns-3 c = sym (between _ (omega arith) (omega arith))
 
-cast-result-2 : tie.Need-overflow-cast-result-2
+cast-result-2 : tie.Need-overflow_cast-result-then-b-le70
 cast-result-2 c = search rules
 
-add-result : tie.Need-overflow-add-result
+add-result : tie.Need-overflow_add-result
 add-result c = search rules
 
-returns-4 : tie.Need-returns-4
+returns-4 : tie.Need-returns-then-b-le70
 returns-4 c = sym (capital _ (omega arith) (omega arith))
 
-returns-5 : tie.Need-returns-5
+returns-5 : tie.Need-returns-then-b-lt97
 returns-5 c = sym (middle _ (omega arith) (omega arith))
 
-cast-result-3 : tie.Need-overflow-cast-result-3
+cast-result-3 : tie.Need-overflow_cast-result-then-b-le102
 cast-result-3 c = search rules
 
-add-result-2 : tie.Need-overflow-add-result-2
+add-result-2 : tie.Need-overflow_add-result-then-b-le102
 add-result-2 c = search rules
 
-returns-6 : tie.Need-returns-6
+returns-6 : tie.Need-returns-then-b-le102
 returns-6 c = sym (letter _ (omega arith) (omega arith))
 
-returns-7 : tie.Need-returns-7
+returns-7 : tie.Need-returns
 returns-7 c = sym (above _ (omega arith))
 
-pub digit-spec : {M : Type 1} → statement M
-digit-spec =
+pub digit_spec : {M : Type 1} → statement M
+digit_spec =
     tie.close
     (tie.spec
     returns

@@ -10,48 +10,48 @@ use Rattle.decimal.proofs.Places.{stands_here, goes_on, nowhere}
 use Rattle.decimal.proofs.digits.place.Statement.{statement}
 use Rattle.decimal.proofs.digits.place.Tie as tie
 
-abbrev invariant-loop : tie.invariant-loop
+abbrev invariant-loop : tie.invariant-loop-i
 invariant-loop text b i₀ i = i + place_of b (drop i text) ≡ place_of b text
 
-abbrev decreases-loop : tie.decreases-loop
+abbrev decreases-loop : tie.decreases-loop-i
 decreases-loop text b i₀ i = length text - i
 
-loop-holds : tie.Need-loop-init invariant-loop decreases-loop
+loop-holds : tie.Need-loop-i-init invariant-loop decreases-loop
 loop-holds c = omega arith
 
-shared-slice-read-if1 : tie.Need-shared-slice-read-if1 invariant-loop decreases-loop
+shared-slice-read-if1 : tie.Need-bounds-text-i invariant-loop decreases-loop
 shared-slice-read-if1 c = search rules
 
-returns : tie.Need-returns invariant-loop decreases-loop
+returns : tie.Need-returns-then-text-i invariant-loop decreases-loop
 returns c =
-    let i = c.before.before.before.loop.i in
-    let args = c.before.before.before.before.args in
-    let none : place_of args.b (drop i args.text.now) ≡ 0 = stands_here args.b args.text.now i (omega arith) c.if1.true in
+    let i = c.loop-i.i in
+    let args = c.args in
+    let none : place_of args.b (drop i args.text.now) ≡ 0 = stands_here args.b args.text.now i (omega arith) c.if-text-i.true in
     omega arith
 
-add-i : tie.Need-overflow-add-i invariant-loop decreases-loop
+add-i : tie.Need-overflow_add-i invariant-loop decreases-loop
 add-i c = search rules
 
-loop-less : tie.Need-loop-smaller invariant-loop decreases-loop
+loop-less : tie.Need-loop-i-smaller invariant-loop decreases-loop
 loop-less c = search rules
 
-loop-again : tie.Need-loop-preserved invariant-loop decreases-loop
+loop-again : tie.Need-loop-i-preserved invariant-loop decreases-loop
 loop-again c =
-    let i = c.before.before.before.loop.i in
-    let args = c.before.before.before.before.args in
+    let i = c.loop-i.i in
+    let args = c.args in
     let one : place_of args.b (drop i args.text.now) ≡ suc (place_of args.b (drop (suc i) args.text.now)) =
-    goes_on args.b args.text.now i (omega arith) c.if1.false in
+    goes_on args.b args.text.now i (omega arith) c.if-text-i.false in
     rw add-one (omega arith)
 
-returns-2 : tie.Need-returns-2 invariant-loop decreases-loop
+returns-2 : tie.Need-returns invariant-loop decreases-loop
 returns-2 c =
-    let i = c.before.loop.i in
-    let args = c.before.before.args in
+    let i = c.loop-i.i in
+    let args = c.args in
     let none : place_of args.b (drop i args.text.now) ≡ 0 = nowhere args.b args.text.now i (omega arith) in
     omega arith
 
-pub place-spec : {M : Type 1} → statement M
-place-spec =
+pub place_spec : {M : Type 1} → statement M
+place_spec =
     tie.close
     (tie.spec
     invariant-loop

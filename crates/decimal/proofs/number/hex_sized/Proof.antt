@@ -8,72 +8,53 @@ use Rattle.decimal.proofs.Reading.{power-up-small, power-down-small}
 use Rattle.decimal.proofs.number.hex_sized.Statement.{statement}
 use Rattle.decimal.proofs.number.hex_sized.Tie as tie
 
-mark-requires : tie.Need-mark-requires
+mark-requires : tie.Need-mark-e-requires
 mark-requires c κs = search rules
 
-power-at-requires : tie.Need-power-at-requires
+power-at-requires : tie.Need-power_at-shift-requires
 power-at-requires c κs = search rules
 
-enum-known-shift : tie.Need-enum-known-shift
+enum-known-shift : tie.Need-enum_known-shift
 enum-known-shift c = search rules
 
-slice-aggregate-hex-scaled : tie.Need-slice-aggregate-hex-scaled
+slice-aggregate-hex-scaled : tie.Need-slice_bounds-hex_scaled-end
 slice-aggregate-hex-scaled c =
-    let m = c.before.before.before.before.before in
-    let text = m.before.before.args.text.now in
-    sym (length-take-le m.mark.result text (mark-within 112 text m.mark.result m.mark.ensures))
+    let text = c.args.text.now in
+    sym (length-take-le c.mark-e.result text (mark-within 112 text c.mark-e.result c.mark-e.ensures))
 
-hex-scaled-requires : tie.Need-hex-scaled-requires
+hex-scaled-requires : tie.Need-hex_scaled-requires
 hex-scaled-requires c κs =
-    let f = c.before.before in
-    let p = f.before.before in
-    let m = p.before in
-    (power-up-small m.mark.result m.before.before.args.text.now f.shift.given.0.0 (sym p.power_at.ensures ∙ f.shift.given.1), lit< tt)
+    (power-up-small c.mark-e.result c.args.text.now c.in-Up.p (sym c.power_at-shift.ensures ∙ c.in-Up.is), lit< tt)
 
-enum-known-shift-2 : tie.Need-enum-known-shift-2
+enum-known-shift-2 : tie.Need-enum_known-shift-in-Down-1
 enum-known-shift-2 c = search rules
 
-slice-aggregate-hex-scaled-2 : tie.Need-slice-aggregate-hex-scaled-2
+slice-aggregate-hex-scaled-2 : tie.Need-slice_bounds-hex_scaled-end-in-Down
 slice-aggregate-hex-scaled-2 c =
-    let m = c.before.before.before.before.before in
-    let text = m.before.before.args.text.now in
-    sym (length-take-le m.mark.result text (mark-within 112 text m.mark.result m.mark.ensures))
+    let text = c.args.text.now in
+    sym (length-take-le c.mark-e.result text (mark-within 112 text c.mark-e.result c.mark-e.ensures))
 
-hex-scaled-requires-2 : tie.Need-hex-scaled-requires-2
+hex-scaled-requires-2 : tie.Need-hex_scaled-requires-in-Down
 hex-scaled-requires-2 c κs =
-    let f = c.before.before in
-    let p = f.before.before in
-    let m = p.before in
-    (lit< tt, power-down-small m.mark.result m.before.before.args.text.now f.shift2.given.0.0 (sym p.power_at.ensures ∙ f.shift2.given.1))
+    (lit< tt, power-down-small c.mark-e.result c.args.text.now c.in-Down.p (sym c.power_at-shift.ensures ∙ c.in-Down.is))
 
-enum_told : tie.Need-enum-told
+enum_told : tie.Need-enum_told-1
 enum_told c = search rules
 
-returns : tie.Need-returns
+returns : tie.Need-returns-in-Up
 returns c =
-    let f = c.before.before.before in
-    let p = f.before.before in
-    let m = p.before in
-    let s = m.before.before in
-    rw (hex-size-at s.args.minus s.args.text.now m.mark.result m.mark.ensures, sym p.power_at.ensures ∙ f.shift.given.1) c.hex-scaled.ensures
+    rw (hex-size-at c.args.minus c.args.text.now c.mark-e.result c.mark-e.ensures, sym c.power_at-shift.ensures ∙ c.in-Up.is) c.hex_scaled.ensures
 
-returns-2 : tie.Need-returns-2
+returns-2 : tie.Need-returns-in-Down
 returns-2 c =
-    let f = c.before.before.before in
-    let p = f.before.before in
-    let m = p.before in
-    let s = m.before.before in
-    rw (hex-size-at s.args.minus s.args.text.now m.mark.result m.mark.ensures, sym p.power_at.ensures ∙ f.shift2.given.1) c.hex-scaled2.ensures
+    rw (hex-size-at c.args.minus c.args.text.now c.mark-e.result c.mark-e.ensures, sym c.power_at-shift.ensures ∙ c.in-Down.is) c.hex_scaled-in-Down.ensures
 
-returns-3 : tie.Need-returns-3
+returns-3 : tie.Need-returns-in-Bad
 returns-3 c =
-    let p = c.before.before in
-    let m = p.before in
-    let s = m.before.before in
-    rw (hex-size-at s.args.minus s.args.text.now m.mark.result m.mark.ensures, sym p.power_at.ensures ∙ c.enum_told.given.1)
+    rw (hex-size-at c.args.minus c.args.text.now c.mark-e.result c.mark-e.ensures, sym c.power_at-shift.ensures ∙ c.in-Bad.is)
 
-pub hex-sized-spec : {M : Type 1} → statement M
-hex-sized-spec =
+pub hex_sized_spec : {M : Type 1} → statement M
+hex_sized_spec =
     tie.close
     (tie.spec
     mark-requires

@@ -6,29 +6,29 @@ use Rattle.decimal.proofs.Hexing.{hex-short, hex-else, hex-small, hex_capital}
 use Rattle.decimal.proofs.number.is_hex.Statement.{statement}
 use Rattle.decimal.proofs.number.is_hex.Tie as tie
 
-returns : tie.Need-returns
+returns : tie.Need-returns-then-text-lt2
 returns c = sym (hex-short _ (omega arith))
 
-shared-slice-read-if2 : tie.Need-shared-slice-read-if2
+shared-slice-read-if2 : tie.Need-bounds-text-0
 shared-slice-read-if2 c = search rules
 
-returns-2 : tie.Need-returns-2
-returns-2 c = sym (hex-else _ (omega arith) c.if2.true)
+returns-2 : tie.Need-returns-then-text-ne48
+returns-2 c = sym (hex-else _ (omega arith) c.if-text-ne48.true)
 
-shared-slice-read-if3 : tie.Need-shared-slice-read-if3
+shared-slice-read-if3 : tie.Need-bounds-text-1
 shared-slice-read-if3 c = search rules
 
-returns-3 : tie.Need-returns-3
-returns-3 c = sym (hex-small _ (omega arith) c.before.before.if2.false c.if3.true)
+returns-3 : tie.Need-returns-then-text-eq120
+returns-3 c = sym (hex-small _ (omega arith) c.if-text-ne48.false c.if-text-eq120.true)
 
-shared-slice-read-result : tie.Need-shared-slice-read-result
+shared-slice-read-result : tie.Need-bounds-text-1-2
 shared-slice-read-result c = search rules
 
-returns-4 : tie.Need-returns-4
-returns-4 c = sym (hex_capital _ (omega arith) c.before.before.before.if2.false c.before.if3.false)
+returns-4 : tie.Need-returns
+returns-4 c = sym (hex_capital _ (omega arith) c.if-text-ne48.false c.if-text-eq120.false)
 
-pub is-hex-spec : {M : Type 1} → statement M
-is-hex-spec =
+pub is_hex_spec : {M : Type 1} → statement M
+is_hex_spec =
     tie.close
     (tie.spec
     returns

@@ -11,42 +11,38 @@ use Rattle.decimal.proofs.number.read.Tie as tie
 decimal-requires : tie.Need-decimal-requires
 decimal-requires c κs = search rules
 
-returns : tie.Need-returns
+returns : tie.Need-returns-then-word-ne16
 unfolding number_of
 returns c =
-    let word = c.before.before.before.args.word.now in
-    rw (ne_eqb (length word) 16 c.before.if1.true) c.decimal.ensures
+    let word = c.args.word.now in
+    rw (ne_eqb (length word) 16 c.if-word-ne16.true) c.decimal.ensures
 
-read-requires : tie.Need-read-requires
+read-requires : tie.Need-read-bits-requires
 read-requires c κs = search rules
 
-enum-known-bits : tie.Need-enum-known-bits
+enum-known-bits : tie.Need-enum_known-bits
 enum-known-bits c = search rules
 
-float-of-requires : tie.Need-float-of-requires
+float-of-requires : tie.Need-float_of-requires
 float-of-requires c κs = search rules
 
-enum_told : tie.Need-enum-told
+enum_told : tie.Need-enum_told-1
 enum_told c = search rules
 
-decimal-requires-2 : tie.Need-decimal-requires-2
+decimal-requires-2 : tie.Need-decimal-requires-in-Bad
 decimal-requires-2 c κs = search rules
 
-returns-2 : tie.Need-returns-2
+returns-2 : tie.Need-returns-in-Bits
 unfolding number_of
 returns-2 c =
-    let c2 = c.before.before in
-    let c4 = c2.before.before in
-    let c5 = c4.before in
-    let c7 = c5.before.before in
-    let word = c7.args.word.now in
-    rw (eq-eqb (length word) 16 c5.if1.false, sym c4.read.ensures ∙ c2.bits.given.1) (ap Double c.float_of.ensures)
+    let word = c.args.word.now in
+    rw (eq-eqb (length word) 16 c.if-word-ne16.false, sym c.read-bits.ensures ∙ c.in-Bits.is) (ap Double c.float_of.ensures)
 
-returns-3 : tie.Need-returns-3
+returns-3 : tie.Need-returns-in-Bad
 unfolding number_of
 returns-3 c =
-    let word = c.before.before.before.before.before.before.args.word.now in
-    rw (eq-eqb (length word) 16 c.before.before.before.before.if1.false, sym c.before.before.before.read.ensures ∙ c.before.enum_told.given.1) c.decimal2.ensures
+    let word = c.args.word.now in
+    rw (eq-eqb (length word) 16 c.if-word-ne16.false, sym c.read-bits.ensures ∙ c.in-Bad.is) c.decimal-in-Bad.ensures
 
 pub read_spec : {M : Type 1} → statement M
 read_spec =

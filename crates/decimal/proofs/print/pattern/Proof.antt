@@ -8,15 +8,20 @@ use borrow.Author.Rules.{rules}
 use Rattle.decimal.proofs.print.pattern.Statement.{statement}
 use Rattle.decimal.proofs.print.pattern.Tie as tie
 
-returns : tie.Need-returns
+returns : tie.Need-returns-then-x
 unfolding to_bits
-returns c = rw (differs_from_itself c.before.args.x (subst T (sym c.if1.true) tt))
+returns c = rw (differs_from_itself c.args.x (subst T (sym c.if-x.true) tt))
 
-float-to-bits-result : tie.Need-float-to-bits-result
-float-to-bits-result c = number_if_same _ c.if1.false
+float-to-bits-result : tie.Need-float_to_bits-result
+float-to-bits-result c = number_if_same _ c.if-x.false
 
-returns-2 : tie.Need-returns-2
+returns-2 : tie.Need-returns
 returns-2 c = search rules
 
-pub pattern-spec : {M : Type 1} → statement M
-pattern-spec = tie.close (tie.spec returns float-to-bits-result returns-2)
+pub pattern_spec : {M : Type 1} → statement M
+pattern_spec =
+    tie.close
+    (tie.spec
+    returns
+    float-to-bits-result
+    returns-2)

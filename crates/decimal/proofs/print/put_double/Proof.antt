@@ -9,11 +9,17 @@ pattern-requires c κs = search rules
 write-requires : tie.Need-write-requires
 write-requires c κs = search rules
 
-same_length : tie.Need-same-length
+same_length : tie.Need-shape_of-out
 same_length c = search rules
 
 returns : tie.Need-returns
-returns c = rw (← c.before.before.before.before.pattern.ensures) c.before.before.write.ensures
+returns c = rw (← c.pattern.ensures) c.write.ensures
 
-pub put-double-spec : {M : Type 1} → statement M
-put-double-spec = tie.close (tie.spec pattern-requires write-requires same_length returns)
+pub put_double_spec : {M : Type 1} → statement M
+put_double_spec =
+    tie.close
+    (tie.spec
+    pattern-requires
+    write-requires
+    same_length
+    returns)

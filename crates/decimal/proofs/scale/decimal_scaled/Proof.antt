@@ -23,65 +23,58 @@ quick-is s n up down x e = by (leb (up - down) 22 && leb (down - up) 22) e
     by true e = sym e
     by false e = cc
 
-few-requires : tie.Need-few-requires
+few-requires : tie.Need-few-short-requires
 few-requires c κs = (lit≤ tt, lit≤ tt)
 
-enum-known-short : tie.Need-enum-known-short
+enum-known-short : tie.Need-enum_known-short
 enum-known-short c = search rules
 
-enum_told : tie.Need-enum-told
+enum_told : tie.Need-enum_told-1
 enum_told c = search rules
 
 wide-requires : tie.Need-wide-requires
 wide-requires c κs = search rules
 
-returns : tie.Need-returns
+returns : tie.Need-returns-in_default
 returns c = c.wide.ensures
 
 -- at most 15 digits
-small : (c : tie.After-known-told) → (c.before.short.given.0.0 < 10 ^ 15) × (c.before.short.given.0.1.0 ≤ 15)
+small : (c : tie.In-Whole) → (c.in-Whole.n < 10 ^ 15) × (c.in-Whole.fraction ≤ 15)
 small c =
-    let f = c.before.before.before in
-    let s = f.before.before in
-    few-small 10 s.args.text.now 15 c.before.short.given.0.0 c.before.short.given.0.1.0 (lit≤ tt) (sym f.few.ensures ∙ c.before.short.given.1)
+    few-small 10 c.args.text.now 15 c.in-Whole.n c.in-Whole.fraction (lit≤ tt) (sym c.few-short.ensures ∙ c.in-Whole.is)
 
-add-quick : tie.Need-overflow-add-quick
-add-quick c = omega (arith, (small c).1, c.before.before.before.before.before.requires.1)
+add-quick : tie.Need-overflow_add-down
+add-quick c = omega (arith, (small c).1, c.requires.1)
 
-quick-requires : tie.Need-quick-requires
+quick-requires : tie.Need-quick-once-requires
 quick-requires c κs = (small c).0
 
-enum-known-once : tie.Need-enum-known-once
+enum-known-once : tie.Need-enum_known-once
 enum-known-once c = search rules
 
-enum-told-2 : tie.Need-enum-told-2
+enum-told-2 : tie.Need-enum_told-in_default-once
 enum-told-2 c = search rules
 
-wide-requires-2 : tie.Need-wide-requires-2
+wide-requires-2 : tie.Need-wide-requires-in_default-once
 wide-requires-2 c κs = search rules
 
-returns-2 : tie.Need-returns-2
-returns-2 c = c.wide2.ensures
+returns-2 : tie.Need-returns-in_default-once
+returns-2 c = c.wide-in_default-once.ensures
 
-returns-3 : tie.Need-returns-3
+returns-3 : tie.Need-returns
 returns-3 c =
-    let o = c.before in
-    let q = o.before.before in
-    let k = q.before in
-    let f = k.before.before.before in
-    let s = f.before.before in
-    let n = k.before.short.given.0.0 in
-    let fraction = k.before.short.given.0.1.0 in
-    let whole : significand_of 10 s.args.text.now ≡ significand.Whole n fraction = few-whole 10 s.args.text.now 15 n fraction (sym f.few.ensures ∙ k.before.short.given.1) in
+    let n = c.in-Whole.n in
+    let fraction = c.in-Whole.fraction in
+    let whole : significand_of 10 c.args.text.now ≡ significand.Whole n fraction = few-whole 10 c.args.text.now 15 n fraction (sym c.few-short.ensures ∙ c.in-Whole.is) in
     rw whole
-    (quick-is s.args.minus n s.args.up (s.args.down + fraction) o.once.given.0.0 (sym q.quick.ensures ∙ o.once.given.1)
-    ∙ ap (λ (x : ℕ). Double (scaled_by s.args.minus 10 n s.args.up (s.args.down + x))) (one fraction))
+    (quick-is c.args.minus n c.args.up (c.args.down + fraction) c.in-Double.x (sym c.quick-once.ensures ∙ c.in-Double.is)
+    ∙ ap (λ (x : ℕ). Double (scaled_by c.args.minus 10 n c.args.up (c.args.down + x))) (one fraction))
   where
     one : (n : ℕ) → n ≡ 1 * n
     one n = omega arith
 
-pub decimal-scaled-spec : {M : Type 1} → statement M
-decimal-scaled-spec =
+pub decimal_scaled_spec : {M : Type 1} → statement M
+decimal_scaled_spec =
     tie.close
     (tie.spec
     few-requires

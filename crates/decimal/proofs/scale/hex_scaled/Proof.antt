@@ -9,38 +9,45 @@ use Rattle.decimal.proofs.Reading.{few-small}
 use Rattle.decimal.proofs.scale.hex_scaled.Statement.{statement}
 use Rattle.decimal.proofs.scale.hex_scaled.Tie as tie
 
-few-requires : tie.Need-few-requires
+few-requires : tie.Need-few-whole-requires
 few-requires c κs = (lit≤ tt, lit≤ tt)
 
-enum-known-whole : tie.Need-enum-known-whole
+enum-known-whole : tie.Need-enum_known-whole
 enum-known-whole c = search rules
 
 -- at most 16 digits behind the point
-behind : (c : tie.After-known-told) → c.before.whole.given.0.1.0 ≤ 16
+behind : (c : tie.In-Whole) → c.in-Whole.fraction ≤ 16
 behind c =
-    let f = c.before.before.before in
-    let s = f.before.before in
-    (few-small 16 s.args.text.now 16 c.before.whole.given.0.0 c.before.whole.given.0.1.0 (lit≤ tt) (sym f.few.ensures ∙ c.before.whole.given.1)).1
+    (few-small 16 c.args.text.now 16 c.in-Whole.n c.in-Whole.fraction (lit≤ tt) (sym c.few-whole.ensures ∙ c.in-Whole.is)).1
 
-mul-binary : tie.Need-overflow-mul-binary
+mul-binary : tie.Need-overflow_mul-fraction
 mul-binary c = omega (arith, behind c)
 
-add-binary : tie.Need-overflow-add-binary
-add-binary c = omega (arith, behind c, c.before.before.before.before.before.requires.1)
+add-binary : tie.Need-overflow_add-down
+add-binary c = omega (arith, behind c, c.requires.1)
 
 binary-requires : tie.Need-binary-requires
 binary-requires c κs = search rules
 
-enum_told : tie.Need-enum-told
+enum_told : tie.Need-enum_told-1
 enum_told c = search rules
 
-returns : tie.Need-returns
+returns : tie.Need-returns-in-Whole
 returns c =
-    let k = c.before in
-    rw (sym k.before.before.before.few.ensures ∙ k.before.whole.given.1) (ap Double c.binary.ensures)
+    rw (sym c.few-whole.ensures ∙ c.in-Whole.is) (ap Double c.binary.ensures)
 
-returns-2 : tie.Need-returns-2
-returns-2 c = rw (sym c.before.before.few.ensures ∙ c.enum_told.given.1)
+returns-2 : tie.Need-returns-in-Bad
+returns-2 c = rw (sym c.few-whole.ensures ∙ c.in-Bad.is)
 
-pub hex-scaled-spec : {M : Type 1} → statement M
-hex-scaled-spec = tie.close (tie.spec few-requires enum-known-whole mul-binary add-binary binary-requires enum_told returns returns-2)
+pub hex_scaled_spec : {M : Type 1} → statement M
+hex_scaled_spec =
+    tie.close
+    (tie.spec
+    few-requires
+    enum-known-whole
+    mul-binary
+    add-binary
+    binary-requires
+    enum_told
+    returns
+    returns-2)

@@ -15,38 +15,44 @@ long : (p : ℕ) (text : List ℕ) → p ≤ length text → length (without p t
 unfolding without
 long p text h = length-append (take p text) (drop (suc p) text) ∙ ap (λ (x : ℕ). x + length (drop (suc p) text)) (length-take-le p text h)
 
-add-whole : tie.Need-overflow-add-whole
-add-whole c = let s = c.before in omega (arith, s.requires.0, s.requires.1, s.well-formed.1.0.1)
+add-whole : tie.Need-overflow_add-whole
+add-whole c = omega (arith, c.requires.0, c.requires.1, c.well_formed.1.0.1)
 
 nearest-requires : tie.Need-nearest-requires
 nearest-requires c κs = search rules
 
-returns : tie.Need-returns
+returns : tie.Need-returns-then-down-whole
 returns c =
-    let s = c.before.before.before in
-    let p = s.args.point in
-    let fs = without p s.args.text.now in
+    let p = c.args.point in
+    let fs = without p c.args.text.now in
     c.nearest.ensures
-    ∙ point-among s.args.minus fs (p + s.args.up - s.args.down)
-    ∙ same-distance s.args.minus 10 (worth fs) (p + s.args.up - s.args.down) (length fs) s.args.up (s.args.down + length (drop (suc p) s.args.text.now))
-    (omega (arith, long p s.args.text.now s.requires.0, c.before.if1.true))
+    ∙ point-among c.args.minus fs (p + c.args.up - c.args.down)
+    ∙ same-distance c.args.minus 10 (worth fs) (p + c.args.up - c.args.down) (length fs) c.args.up (c.args.down + length (drop (suc p) c.args.text.now))
+    (omega (arith, long p c.args.text.now c.requires.0, c.if-down-whole.true))
 
-sub-nearest : tie.Need-overflow-sub-nearest
+sub-nearest : tie.Need-overflow_sub-down
 sub-nearest c = search rules
 
 nearest-requires-2 : tie.Need-nearest-requires-2
 nearest-requires-2 c κs = search rules
 
-returns-2 : tie.Need-returns-2
+returns-2 : tie.Need-returns
 returns-2 c =
-    let s = c.before.before.before in
-    let p = s.args.point in
-    let fs = without p s.args.text.now in
-    let zeros = s.args.down - (p + s.args.up) in
-    c.nearest2.ensures
-    ∙ point-before s.args.minus fs zeros
-    ∙ same-distance s.args.minus 10 (worth fs) 0 (length fs + zeros) s.args.up (s.args.down + length (drop (suc p) s.args.text.now))
-    (omega (arith, long p s.args.text.now s.requires.0, c.before.if1.false))
+    let p = c.args.point in
+    let fs = without p c.args.text.now in
+    let zeros = c.args.down - (p + c.args.up) in
+    c.nearest-2.ensures
+    ∙ point-before c.args.minus fs zeros
+    ∙ same-distance c.args.minus 10 (worth fs) 0 (length fs + zeros) c.args.up (c.args.down + length (drop (suc p) c.args.text.now))
+    (omega (arith, long p c.args.text.now c.requires.0, c.if-down-whole.false))
 
-pub placed-spec : {M : Type 1} → statement M
-placed-spec = tie.close (tie.spec add-whole nearest-requires returns sub-nearest nearest-requires-2 returns-2)
+pub placed_spec : {M : Type 1} → statement M
+placed_spec =
+    tie.close
+    (tie.spec
+    add-whole
+    nearest-requires
+    returns
+    sub-nearest
+    nearest-requires-2
+    returns-2)

@@ -1,7 +1,7 @@
 -- `decimal::scale::pointed` meets its contract: both parts, one after the other. Assumes nothing.
 use Prim.Native.Nat.{suc, ◌+◌, ◌-◌, ◌≤◌, ◌<◌}
-use mathlib.Core.Path.{◌≡◌, sym, ◌∙◌}
-use mathlib.Core.Bool.{◌&&◌}
+use mathlib.Core.Path.{◌≡◌, sym, ◌∙◌, ap}
+use mathlib.Core.Bool.{◌&&◌, not}
 use native.Mathlib.Omega.{arith}
 use borrow.Author.Tests.{le-leb, lt-leb}
 use borrow.Author.Rules.{rules}
@@ -15,73 +15,64 @@ use Rattle.wide_decimal.proofs.Truths.{denied, granted}
 use Rattle.decimal.proofs.scale.pointed.Statement.{statement}
 use Rattle.decimal.proofs.scale.pointed.Tie as tie
 
-behind-requires : tie.Need-behind-requires
-behind-requires c κs = reach 46 c.before.args.text.now c.before.args.point c.before.requires
+behind-requires : tie.Need-behind-next-requires
+behind-requires c κs = reach 46 c.args.text.now c.args.point c.requires
 
-sub-if1 : tie.Need-overflow-sub-if1
+sub-if1 : tie.Need-overflow_sub-text
 sub-if1 c = search rules
 
-add-if1 : tie.Need-overflow-add-if1
+add-if1 : tie.Need-overflow_add-point
 add-if1 c = search rules
 
-returns : tie.Need-returns
+returns : tie.Need-returns-then-point-text-lt1
 unfolding pointed_in
 returns c =
-    let b = c.before in
-    let s = b.before.before in
-    let text = s.args.text.now in
-    let few : length (take (place_of 46 text) text) + length (drop (suc (place_of 46 text)) text) < 1 = rw (count text s.args.point b.behind.result s.requires b.behind.ensures) (omega arith) in
+    let text = c.args.text.now in
+    let few : length (take (place_of 46 text) text) + length (drop (suc (place_of 46 text)) text) < 1 = rw (count text c.args.point c.behind-next.result c.requires c.behind-next.ensures) (omega arith) in
     simp (lt-leb 1 (length (take (place_of 46 text) text) + length (drop (suc (place_of 46 text)) text)) few)
 
 -- with one digit at least, both parts decide
-module _ (c : tie.Else1) where
-  both : pointed_in c.before.before.before.args.text.now ≡ figures_in (take c.before.before.before.args.point c.before.before.before.args.text.now) && figures_in (drop c.before.behind.result c.before.before.before.args.text.now)
+module _ (c : tie.Else-point-text-lt1) where
+  both : pointed_in c.args.text.now ≡ figures_in (take c.args.point c.args.text.now) && figures_in (drop c.behind-next.result c.args.text.now)
   unfolding pointed_in
   both =
-      let b = c.before in
-      let s = b.before.before in
-      let text = s.args.text.now in
-      let p = s.args.point in
-      let q = b.behind.result in
-      let some : 1 ≤ length (take (place_of 46 text) text) + length (drop (suc (place_of 46 text)) text) = rw (count text p q s.requires b.behind.ensures) (omega arith) in
+      let text = c.args.text.now in
+      let p = c.args.point in
+      let q = c.behind-next.result in
+      let some : 1 ≤ length (take (place_of 46 text) text) + length (drop (suc (place_of 46 text)) text) = rw (count text p q c.requires c.behind-next.ensures) (omega arith) in
       simp (le-leb 1 (length (take (place_of 46 text) text) + length (drop (suc (place_of 46 text)) text)) some)
-      (rw (front-part text p q s.requires b.behind.ensures, back-part text p q s.requires b.behind.ensures) (figures-both (take p text) (drop q text)))
+      (rw (front-part text p q c.requires c.behind-next.ensures, back-part text p q c.requires c.behind-next.ensures) (figures-both (take p text) (drop q text)))
 
-slice-aggregate-all-figures : tie.Need-slice-aggregate-all-figures
+slice-aggregate-all-figures : tie.Need-slice_bounds-all_figures-end
 slice-aggregate-all-figures c =
-    let s = c.before.before.before.before in
-    front 46 s.args.text.now s.args.point s.requires
+    front 46 c.args.text.now c.args.point c.requires
 
-all-figures-requires : tie.Need-all-figures-requires
+all-figures-requires : tie.Need-all_figures-requires
 all-figures-requires c κs = search rules
 
-returns-2 : tie.Need-returns-2
+returns-2 : tie.Need-returns-then-not-all_figures
 returns-2 c =
-    let f = c.before in
-    rw (both f.before.before, sym f.all-figures.ensures ∙ denied _ c.if2.true)
+    rw (both c.before.before, sym c.all_figures.ensures ∙ denied _ (ap not c.if-not-all_figures.true))
 
-sub-all-figures : tie.Need-overflow-sub-all-figures
+sub-all-figures : tie.Need-slice_bounds-all_figures-count
 sub-all-figures c = search rules
 
-part-all-figures-start : tie.Need-slice-bounds-all-figures-start
+part-all-figures-start : tie.Need-slice_bounds-all_figures-start
 part-all-figures-start c = search rules
 
-part-all-figures-end : tie.Need-slice-bounds-all-figures-end
+part-all-figures-end : tie.Need-slice_bounds-all_figures-end-2
 part-all-figures-end c = search rules
 
-all-figures-requires-2 : tie.Need-all-figures-requires-2
+all-figures-requires-2 : tie.Need-all_figures-requires-2
 all-figures-requires-2 c κs = search rules
 
-returns-3 : tie.Need-returns-3
+returns-3 : tie.Need-returns
 returns-3 c =
-    let e = c.before.before in
-    let f = e.before in
-    let b = f.before.before.before in
-    let text = b.before.before.args.text.now in
-    rw (both f.before.before, sym f.all-figures.ensures ∙ granted _ e.if2.false, ← rest_part text b.behind.result) c.all-figures2.ensures
+    let text = c.args.text.now in
+    rw (both c.before.before.before.before, sym c.all_figures.ensures ∙ granted _ (ap not c.if-not-all_figures.false), ← rest_part text c.behind-next.result) c.all_figures-2.ensures
 
-pub pointed-spec : {M : Type 1} → statement M
-pointed-spec =
+pub pointed_spec : {M : Type 1} → statement M
+pointed_spec =
     tie.close
     (tie.spec
     behind-requires

@@ -10,31 +10,40 @@ use Rattle.decimal.proofs.Powers.{one_value, power-next}
 use Rattle.decimal.proofs.scale.ten_to.Statement.{statement}
 use Rattle.decimal.proofs.scale.ten_to.Tie as tie
 
-abbrev invariant-loop : tie.invariant-loop
+abbrev invariant-loop : tie.invariant-loop-i
 invariant-loop k p₀ i₀ p i = (i ≤ k) × HasValue p false (10 ^ i) 1
 
-abbrev decreases-loop : tie.decreases-loop
+abbrev decreases-loop : tie.decreases-loop-i
 decreases-loop k p₀ i₀ p i = k - i
 
-loop-holds : tie.Need-loop-init invariant-loop decreases-loop
+loop-holds : tie.Need-loop-i-init invariant-loop decreases-loop
 loop-holds c = (omega arith, one_value)
 
-add-i : tie.Need-overflow-add-i invariant-loop decreases-loop
+add-i : tie.Need-overflow_add-i invariant-loop decreases-loop
 add-i c = search rules
 
-loop-less : tie.Need-loop-smaller invariant-loop decreases-loop
+loop-less : tie.Need-loop-i-smaller invariant-loop decreases-loop
 loop-less c = search rules
 
-loop-again : tie.Need-loop-preserved invariant-loop decreases-loop
+loop-again : tie.Need-loop-i-preserved invariant-loop decreases-loop
 loop-again c =
-    let at = c.before.loop in
+    let at = c.loop-i in
     (omega arith, rw add-one (power-next at.p at.i (omega arith) at.invariant.1))
 
 returns : tie.Need-returns invariant-loop decreases-loop
 returns c =
-    let at = c.before.loop in
-    let end : at.i ≡ c.before.before.args.k = omega arith in
+    let at = c.loop-i in
+    let end : at.i ≡ c.args.k = omega arith in
     rw end at at.invariant.1
 
-pub ten-to-spec : {M : Type 1} → statement M
-ten-to-spec = tie.close (tie.spec invariant-loop decreases-loop loop-holds add-i loop-less loop-again returns)
+pub ten_to_spec : {M : Type 1} → statement M
+ten_to_spec =
+    tie.close
+    (tie.spec
+    invariant-loop
+    decreases-loop
+    loop-holds
+    add-i
+    loop-less
+    loop-again
+    returns)

@@ -3,32 +3,32 @@ use borrow.Author.Rules.{rules}
 use Rattle.executor.proofs.osc.all_finite.Statement.{statement}
 use Rattle.executor.proofs.osc.all_finite.Tie as tie
 
-is-finite-requires : tie.Need-is-finite-requires
+is-finite-requires : tie.Need-is_finite-requires
 is-finite-requires c κs = search rules
 
-is-finite-requires-2 : tie.Need-is-finite-requires-2
+is-finite-requires-2 : tie.Need-is_finite-requires-2
 is-finite-requires-2 c κs = search rules
 
 both-requires : tie.Need-both-requires
 both-requires c κs = search rules
 
-is-finite-requires-3 : tie.Need-is-finite-requires-3
+is-finite-requires-3 : tie.Need-is_finite-requires-3
 is-finite-requires-3 c κs = search rules
 
 both-requires-2 : tie.Need-both-requires-2
 both-requires-2 c κs = search rules
 
-is-finite-requires-4 : tie.Need-is-finite-requires-4
+is-finite-requires-4 : tie.Need-is_finite-requires-4
 is-finite-requires-4 c κs = search rules
 
 both-requires-3 : tie.Need-both-requires-3
 both-requires-3 c κs = search rules
 
 returns : tie.Need-returns
-returns c = rw (c.both3.ensures, c.before.is-finite4.ensures, c.before.before.both2.ensures, c.before.before.before.is-finite3.ensures, c.before.before.before.before.both.ensures, c.before.before.before.before.before.is-finite2.ensures, c.before.before.before.before.before.before.is_finite.ensures)
+returns c = rw (c.both-3.ensures, c.is_finite-4.ensures, c.both-2.ensures, c.is_finite-3.ensures, c.both.ensures, c.is_finite-2.ensures, c.is_finite.ensures)
 
-pub all-finite-spec : {M : Type 1} → statement M
-all-finite-spec =
+pub all_finite_spec : {M : Type 1} → statement M
+all_finite_spec =
     tie.close
     (tie.spec
     is-finite-requires

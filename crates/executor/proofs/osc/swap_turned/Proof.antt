@@ -3,32 +3,32 @@ use borrow.Author.Rules.{rules}
 use Rattle.executor.proofs.osc.swap_turned.Statement.{statement}
 use Rattle.executor.proofs.osc.swap_turned.Tie as tie
 
-sub-requires : tie.Need-sub-requires
+sub-requires : tie.Need-sub-p-requires
 sub-requires c κs = search rules
 
-add-requires : tie.Need-add-requires
+add-requires : tie.Need-add-q-requires
 add-requires c κs = search rules
 
-is-finite-requires : tie.Need-is-finite-requires
+is-finite-requires : tie.Need-is_finite-requires
 is-finite-requires c κs = search rules
 
 both-requires : tie.Need-both-requires
 both-requires c κs = search rules
 
-is-finite-requires-2 : tie.Need-is-finite-requires-2
+is-finite-requires-2 : tie.Need-is_finite-requires-2
 is-finite-requires-2 c κs = search rules
 
-both-requires-2 : tie.Need-both-requires-2
+both-requires-2 : tie.Need-both-all-requires
 both-requires-2 c κs = search rules
 
-swapped-to-requires : tie.Need-swapped-to-requires
+swapped-to-requires : tie.Need-swapped_to-requires
 swapped-to-requires c κs = search rules
 
 returns : tie.Need-returns
-returns c = rw (c.swapped-to.ensures, c.before.both2.ensures, c.before.before.is-finite2.ensures, c.before.before.before.both.ensures, c.before.before.before.before.is_finite.ensures, c.before.before.before.before.before.add.ensures, c.before.before.before.before.before.before.sub.ensures)
+returns c = rw (c.swapped_to.ensures, c.both-all.ensures, c.is_finite-2.ensures, c.both.ensures, c.is_finite.ensures, c.add-q.ensures, c.sub-p.ensures)
 
-pub swap-turned-spec : {M : Type 1} → statement M
-swap-turned-spec =
+pub swap_turned_spec : {M : Type 1} → statement M
+swap_turned_spec =
     tie.close
     (tie.spec
     sub-requires

@@ -6,66 +6,55 @@ use borrow.Author.Rules.{rules}
 use Rattle.fields.proofs.value.level_in.Statement.{statement}
 use Rattle.fields.proofs.value.level_in.Tie as tie
 
-value-at-requires : tie.Need-value-at-requires
+value-at-requires : tie.Need-value_at-value-requires
 value-at-requires c κs = search rules
 
-enum-known-value : tie.Need-enum-known-value
+enum-known-value : tie.Need-enum_known-value
 enum-known-value c = search rules
 
-sub-level-of : tie.Need-overflow-sub-level-of
+sub-level-of : tie.Need-slice_bounds-level_of-count
 sub-level-of c =
-    let c3 = c.before.before.before in
-    let c6 = c3.before.before.before in
     omega (
       arith,
-      found_inside c6.args.line.now c6.args.k c6.args.key.now c3.value-at.result c3.value-at.ensures
-          c.before.value.given.0.0 c.before.value.given.0.1.0 c.before.value.given.1,
+      found_inside c.args.line.now c.args.k c.args.key.now c.value_at-value.result c.value_at-value.ensures
+          c.in-At.from c.in-At.to c.in-At.is,
     )
 
-part-level-of-start : tie.Need-slice-bounds-level-of-start
+part-level-of-start : tie.Need-slice_bounds-level_of-start
 part-level-of-start c =
-    let c3 = c.before.before.before in
-    let c6 = c3.before.before.before in
     omega (
       arith,
-      found_inside c6.args.line.now c6.args.k c6.args.key.now c3.value-at.result c3.value-at.ensures
-          c.before.value.given.0.0 c.before.value.given.0.1.0 c.before.value.given.1,
+      found_inside c.args.line.now c.args.k c.args.key.now c.value_at-value.result c.value_at-value.ensures
+          c.in-At.from c.in-At.to c.in-At.is,
     )
 
-part-level-of-end : tie.Need-slice-bounds-level-of-end
+part-level-of-end : tie.Need-slice_bounds-level_of-end
 part-level-of-end c =
-    let c3 = c.before.before.before in
-    let c6 = c3.before.before.before in
     omega (
       arith,
-      found_inside c6.args.line.now c6.args.k c6.args.key.now c3.value-at.result c3.value-at.ensures
-          c.before.value.given.0.0 c.before.value.given.0.1.0 c.before.value.given.1,
+      found_inside c.args.line.now c.args.k c.args.key.now c.value_at-value.result c.value_at-value.ensures
+          c.in-At.from c.in-At.to c.in-At.is,
     )
 
-level-of-requires : tie.Need-level-of-requires
+level-of-requires : tie.Need-level_of-requires
 level-of-requires c κs = search rules
 
-enum_told : tie.Need-enum-told
+enum_told : tie.Need-enum_told-1
 enum_told c = search rules
 
-returns : tie.Need-returns
+returns : tie.Need-returns-in-At
 unfolding level_field
 returns c =
-    let c3 = c.before.before.before in
-    let c5 = c3.before.before in
-    let c8 = c5.before.before.before in
-    rw (found-value c8.args.line.now c8.args.k c8.args.key.now c5.value-at.result c5.value-at.ensures
-    c3.value.given.0.0 c3.value.given.0.1.0 c3.value.given.1) c.level-of.ensures
+    rw (found-value c.args.line.now c.args.k c.args.key.now c.value_at-value.result c.value_at-value.ensures
+    c.in-At.from c.in-At.to c.in-At.is) c.level_of.ensures
 
-returns-2 : tie.Need-returns-2
+returns-2 : tie.Need-returns-in-Missing
 unfolding level_field
 returns-2 c =
-    let c2 = c.before.before in
-    let c5 = c2.before.before.before in
-    rw (found_none c5.args.line.now c5.args.k c5.args.key.now c2.value-at.result c2.value-at.ensures c.enum_told.given.1)
+    rw (found_none c.args.line.now c.args.k c.args.key.now c.value_at-value.result c.value_at-value.ensures c.in-Missing.is)
 
-pub level-in-spec : {M : Type 1} → statement M
-level-in-spec =
+pub level_in_spec : {M : Type 1} → statement M
+level_in_spec =
     tie.close
     (tie.spec
     value-at-requires

@@ -8,66 +8,55 @@ use borrow.Author.Rules.{rules}
 use Rattle.fields.proofs.value.name_in.Statement.{statement}
 use Rattle.fields.proofs.value.name_in.Tie as tie
 
-value-at-requires : tie.Need-value-at-requires
+value-at-requires : tie.Need-value_at-value-requires
 value-at-requires c κs = search rules
 
-enum-known-value : tie.Need-enum-known-value
+enum-known-value : tie.Need-enum_known-value
 enum-known-value c = search rules
 
-sub-name-of : tie.Need-overflow-sub-name-of
+sub-name-of : tie.Need-slice_bounds-name_of-count
 sub-name-of c =
-    let c3 = c.before.before.before in
-    let c6 = c3.before.before.before in
     omega (
       arith,
-      found_inside c6.args.line.now c6.args.k c6.args.key.now c3.value-at.result c3.value-at.ensures
-          c.before.value.given.0.0 c.before.value.given.0.1.0 c.before.value.given.1,
+      found_inside c.args.line.now c.args.k c.args.key.now c.value_at-value.result c.value_at-value.ensures
+          c.in-At.from c.in-At.to c.in-At.is,
     )
 
-part-name-of-start : tie.Need-slice-bounds-name-of-start
+part-name-of-start : tie.Need-slice_bounds-name_of-start
 part-name-of-start c =
-    let c3 = c.before.before.before in
-    let c6 = c3.before.before.before in
     omega (
       arith,
-      found_inside c6.args.line.now c6.args.k c6.args.key.now c3.value-at.result c3.value-at.ensures
-          c.before.value.given.0.0 c.before.value.given.0.1.0 c.before.value.given.1,
+      found_inside c.args.line.now c.args.k c.args.key.now c.value_at-value.result c.value_at-value.ensures
+          c.in-At.from c.in-At.to c.in-At.is,
     )
 
-part-name-of-end : tie.Need-slice-bounds-name-of-end
+part-name-of-end : tie.Need-slice_bounds-name_of-end
 part-name-of-end c =
-    let c3 = c.before.before.before in
-    let c6 = c3.before.before.before in
     omega (
       arith,
-      found_inside c6.args.line.now c6.args.k c6.args.key.now c3.value-at.result c3.value-at.ensures
-          c.before.value.given.0.0 c.before.value.given.0.1.0 c.before.value.given.1,
+      found_inside c.args.line.now c.args.k c.args.key.now c.value_at-value.result c.value_at-value.ensures
+          c.in-At.from c.in-At.to c.in-At.is,
     )
 
-name-of-requires : tie.Need-name-of-requires
+name-of-requires : tie.Need-name_of-requires
 name-of-requires c κs = search rules
 
-enum_told : tie.Need-enum-told
+enum_told : tie.Need-enum_told-1
 enum_told c = search rules
 
-returns : tie.Need-returns
+returns : tie.Need-returns-in-At
 unfolding name_field
 returns c =
-    let c3 = c.before.before.before in
-    let c5 = c3.before.before in
-    let c8 = c5.before.before.before in
-    rw (found-value c8.args.line.now c8.args.k c8.args.key.now c5.value-at.result c5.value-at.ensures
-    c3.value.given.0.0 c3.value.given.0.1.0 c3.value.given.1) (ap Name c.name_of.ensures)
+    rw (found-value c.args.line.now c.args.k c.args.key.now c.value_at-value.result c.value_at-value.ensures
+    c.in-At.from c.in-At.to c.in-At.is) (ap Name c.name_of.ensures)
 
-returns-2 : tie.Need-returns-2
+returns-2 : tie.Need-returns-in-Missing
 unfolding name_field
 returns-2 c =
-    let c2 = c.before.before in
-    let c5 = c2.before.before.before in
-    rw (found_none c5.args.line.now c5.args.k c5.args.key.now c2.value-at.result c2.value-at.ensures c.enum_told.given.1)
+    rw (found_none c.args.line.now c.args.k c.args.key.now c.value_at-value.result c.value_at-value.ensures c.in-Missing.is)
 
-pub name-in-spec : {M : Type 1} → statement M
-name-in-spec =
+pub name_in_spec : {M : Type 1} → statement M
+name_in_spec =
     tie.close
     (tie.spec
     value-at-requires

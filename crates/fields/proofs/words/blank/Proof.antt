@@ -3,11 +3,15 @@ use borrow.Author.Tests.{eq-eqb, ne_eqb}
 use Rattle.fields.proofs.words.blank.Statement.{statement}
 use Rattle.fields.proofs.words.blank.Tie as tie
 
-returns : tie.Need-returns
-returns c = rw (eq-eqb _ _ c.if1.true)
+returns : tie.Need-returns-then-b-eq32
+returns c = rw (eq-eqb _ _ c.if-b-eq32.true)
 
-returns-2 : tie.Need-returns-2
-returns-2 c = rw (ne_eqb _ _ c.if1.false)
+returns-2 : tie.Need-returns
+returns-2 c = rw (ne_eqb _ _ c.if-b-eq32.false)
 
-pub blank-spec : {M : Type 1} → statement M
-blank-spec = tie.close (tie.spec returns returns-2)
+pub blank_spec : {M : Type 1} → statement M
+blank_spec =
+    tie.close
+    (tie.spec
+    returns
+    returns-2)

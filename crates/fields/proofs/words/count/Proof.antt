@@ -10,52 +10,52 @@ use Rattle.fields.proofs.Splitting.{blank-most, counts-on, counts-last}
 use Rattle.fields.proofs.words.count.Statement.{statement}
 use Rattle.fields.proofs.words.count.Tie as tie
 
-abbrev invariant-loop : tie.invariant-loop
+abbrev invariant-loop : tie.invariant-loop-i
 invariant-loop line blanks₀ i₀ blanks i = (blanks ≤ i) × (i ≤ length line) × (blanks + length (words_of (drop i line)) ≡ length (words_of line))
 
-abbrev decreases-loop : tie.decreases-loop
+abbrev decreases-loop : tie.decreases-loop-i
 decreases-loop line blanks₀ i₀ blanks i = length line - i
 
-loop-holds : tie.Need-loop-init invariant-loop decreases-loop
+loop-holds : tie.Need-loop-i-init invariant-loop decreases-loop
 loop-holds c = (omega arith, omega arith, omega arith)
 
-shared-slice-read-blank : tie.Need-shared-slice-read-blank invariant-loop decreases-loop
+shared-slice-read-blank : tie.Need-bounds-line-i invariant-loop decreases-loop
 shared-slice-read-blank c = search rules
 
-blank-requires : tie.Need-blank-requires invariant-loop decreases-loop
+blank-requires : tie.Need-blank-blanks-requires invariant-loop decreases-loop
 blank-requires c κs = search rules
 
-add-blanks : tie.Need-overflow-add-blanks invariant-loop decreases-loop
+add-blanks : tie.Need-overflow_add-blanks invariant-loop decreases-loop
 add-blanks c =
-    let at = c.before.before.before.loop in
-    let line = c.before.before.before.before.before.args.line.now in
+    let at = c.loop-i in
+    let line = c.args.line.now in
     let most = blank-most (get_or line at.i 0) in
-    let is : c.blank.result ≡ blank_of (get_or line at.i 0) = c.blank.ensures in
+    let is : c.blank-blanks.result ≡ blank_of (get_or line at.i 0) = c.blank-blanks.ensures in
     omega arith
 
-add-i : tie.Need-overflow-add-i invariant-loop decreases-loop
+add-i : tie.Need-overflow_add-i invariant-loop decreases-loop
 add-i c = search rules
 
-loop-less : tie.Need-loop-smaller invariant-loop decreases-loop
+loop-less : tie.Need-loop-i-smaller invariant-loop decreases-loop
 loop-less c = omega arith
 
-loop-again : tie.Need-loop-preserved invariant-loop decreases-loop
+loop-again : tie.Need-loop-i-preserved invariant-loop decreases-loop
 loop-again c =
-    let at = c.before.before.before.loop in
-    let line = c.before.before.before.before.before.args.line.now in
+    let at = c.loop-i in
+    let line = c.args.line.now in
     let most = blank-most (get_or line at.i 0) in
-    let is : c.blank.result ≡ blank_of (get_or line at.i 0) = c.blank.ensures in
+    let is : c.blank-blanks.result ≡ blank_of (get_or line at.i 0) = c.blank-blanks.ensures in
     let on : length (words_of (drop at.i line)) ≡ blank_of (get_or line at.i 0) + length (words_of (drop (suc at.i) line)) =
     counts-on line at.i (omega arith) in
     (omega arith, omega arith, rw add-one (omega arith))
 
-add-result : tie.Need-overflow-add-result invariant-loop decreases-loop
+add-result : tie.Need-overflow_add-result invariant-loop decreases-loop
 add-result c = search rules
 
 returns : tie.Need-returns invariant-loop decreases-loop
 returns c =
-    let at = c.before.loop in
-    let line = c.before.before.before.args.line.now in
+    let at = c.loop-i in
+    let line = c.args.line.now in
     let last : length (words_of (drop at.i line)) ≡ 1 = counts-last line at.i (omega arith) in
     omega arith
 

@@ -1,73 +1,69 @@
 -- `fields::words::value_at` meets its contract. The word that begins there, parted at the key. Assumes nothing.
+use mathlib.Core.Bool.{not}
+use mathlib.Core.Path.{ap}
 use native.Mathlib.Omega.{arith}
 use Rattle.fields.proofs.Splitting.{reaches, found_none, found_at}
 use borrow.Author.Rules.{rules}
 use Rattle.fields.proofs.words.value_at.Statement.{statement}
 use Rattle.fields.proofs.words.value_at.Tie as tie
 
-start-requires : tie.Need-start-requires
+start-requires : tie.Need-start-from-requires
 start-requires c κs = search rules
 
-sub-place : tie.Need-overflow-sub-place
+sub-place : tie.Need-slice_bounds-place-count
 sub-place c = search rules
 
-part-place-start : tie.Need-slice-bounds-place-start
+part-place-start : tie.Need-slice_bounds-place-start
 part-place-start c = search rules
 
-part-place-end : tie.Need-slice-bounds-place-end
+part-place-end : tie.Need-slice_bounds-place-end
 part-place-end c = search rules
 
 place-requires : tie.Need-place-requires
 place-requires c κs = search rules
 
-add-to : tie.Need-overflow-add-to
+add-to : tie.Need-overflow_add-to
 add-to c =
-    let line = c.before.before.before.before.before.args.line.now in
-    let from = c.before.before.start.result in
+    let line = c.args.line.now in
+    let from = c.start-from.result in
     let p = c.place.result in
-    omega (arith, reaches line c.before.before.before.before.before.args.k from p c.before.before.start.ensures c.place.ensures)
+    omega (arith, reaches line c.args.k from p c.start-from.ensures c.place.ensures)
 
-sub-starts : tie.Need-overflow-sub-starts
+sub-starts : tie.Need-slice_bounds-starts-count
 sub-starts c = search rules
 
-part-starts-start : tie.Need-slice-bounds-starts-start
+part-starts-start : tie.Need-slice_bounds-starts-start
 part-starts-start c = search rules
 
-part-starts-end : tie.Need-slice-bounds-starts-end
+part-starts-end : tie.Need-slice_bounds-starts-end
 part-starts-end c =
-    let line = c.before.before.before.before.before.args.line.now in
-    let from = c.before.before.start.result in
+    let line = c.args.line.now in
+    let from = c.start-from.result in
     let p = c.place.result in
-    omega (arith, reaches line c.before.before.before.before.before.args.k from p c.before.before.start.ensures c.place.ensures)
+    omega (arith, reaches line c.args.k from p c.start-from.ensures c.place.ensures)
 
 starts-requires : tie.Need-starts-requires
 starts-requires c κs = search rules
 
-returns : tie.Need-returns
+returns : tie.Need-returns-then-not-starts
 returns c =
-    let c3 = c.before.before.before in
-    let c5 = c3.before.before in
-    let c8 = c5.before.before.before in
-    let line = c8.args.line.now in
-    let from = c5.start.result in
-    let p = c3.place.result in
-    found_none line c8.args.k from p c5.start.ensures c3.place.ensures c8.args.key.now c.before.starts.result c.before.starts.ensures c.if1.true
+    let line = c.args.line.now in
+    let from = c.start-from.result in
+    let p = c.place.result in
+    found_none line c.args.k from p c.start-from.ensures c.place.ensures c.args.key.now c.starts.result c.starts.ensures (ap not c.if-not-starts.true)
 
-add-t6 : tie.Need-overflow-add-t6
+add-t6 : tie.Need-overflow_add-result
 add-t6 c = search rules
 
-returns-2 : tie.Need-returns-2
+returns-2 : tie.Need-returns
 returns-2 c =
-    let c3 = c.before.before.before in
-    let c5 = c3.before.before in
-    let c8 = c5.before.before.before in
-    let line = c8.args.line.now in
-    let from = c5.start.result in
-    let p = c3.place.result in
-    found_at line c8.args.k from p c5.start.ensures c3.place.ensures c8.args.key.now c.before.starts.result c.before.starts.ensures c.if1.false
+    let line = c.args.line.now in
+    let from = c.start-from.result in
+    let p = c.place.result in
+    found_at line c.args.k from p c.start-from.ensures c.place.ensures c.args.key.now c.starts.result c.starts.ensures (ap not c.if-not-starts.false)
 
-pub value-at-spec : {M : Type 1} → statement M
-value-at-spec =
+pub value_at_spec : {M : Type 1} → statement M
+value_at_spec =
     tie.close
     (tie.spec
     start-requires

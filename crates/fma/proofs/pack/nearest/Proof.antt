@@ -27,31 +27,38 @@ by-quarters n m s r N h v e =
     sum : (s j : ℕ) → 11 ≤ s → s - 2 + j + 2 ≡ s + j
     sum s j h = omega arith
 
-sub_word : tie.Need-overflow-sub-word
+sub_word : tie.Need-overflow_sub-s
 sub_word c = search rules
 
-word-requires : tie.Need-word-requires
+word-requires : tie.Need-word-m-requires
 word-requires c κs = search rules
 
 quarters-requires : tie.Need-quarters-requires
 quarters-requires c κs =
     let s = c.before.before in
-    lt_of_lt_of_le (quarters-lt s.args.n c.word.result s.args.s s.ranges.n.fits s.requires.1 c.word.ensures) (lit≤ tt)
+    lt_of_lt_of_le (quarters-lt s.args.n c.word-m.result s.args.s s.ranges.n.fits s.requires.1 c.word-m.ensures) (lit≤ tt)
 
-returns : tie.Need-returns
+returns : tie.Need-returns-then-s-lt66
 returns c =
     let s = c.before.before.before in
-    let w = c.before.word in
+    let w = c.word-m in
     by-quarters s.args.n w.result s.args.s c.quarters.result s.ranges.n.fits s.requires.1 w.ensures c.quarters.ensures
 
-returns-2 : tie.Need-returns-2
+returns-2 : tie.Need-returns-else-s-lt66
 returns-2 c =
     let s = c.before in
     let n = s.args.n in
-    by-quarters n 1 s.args.s 0 s.ranges.n.fits s.requires.1 (sticky-one n (s.args.s - 2) s.requires.0 (lt_of_lt_of_le s.ranges.n.fits (pow_mono (two s.args.s c.if1.false)))) refl
+    by-quarters n 1 s.args.s 0 s.ranges.n.fits s.requires.1 (sticky-one n (s.args.s - 2) s.requires.0 (lt_of_lt_of_le s.ranges.n.fits (pow_mono (two s.args.s c.if-s-lt66.false)))) refl
   where
     two : (s : ℕ) → 66 ≤ s → 64 ≤ s - 2
     two s h = omega arith
 
-pub nearest-spec : {M : Type 1} → statement M
-nearest-spec = tie.close (tie.spec sub_word word-requires quarters-requires returns returns-2)
+pub nearest_spec : {M : Type 1} → statement M
+nearest_spec =
+    tie.close
+    (tie.spec
+    sub_word
+    word-requires
+    quarters-requires
+    returns
+    returns-2)

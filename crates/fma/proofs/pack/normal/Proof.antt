@@ -71,42 +71,52 @@ module _ (h l z : ℕ) (L : l < 2 ^ 64) (t : Leading h z) where
 low-pos : (h l : ℕ) → h ≡ 0 → 0 < words h l → 0 < l
 low-pos h l e p = omega arith
 
-cast-z : tie.Need-overflow-cast-z
-cast-z c = zeros-fit c.before.args.l
+cast-z : tie.Need-overflow_cast-z
+cast-z c = zeros-fit c.args.l
 
-one : (c : tie.Then1) → Leading c.before.args.l (count_leading_zeros 64 c.before.args.l)
-one c = let s = c.before in leading s.args.l (low-pos s.args.h s.args.l c.if1.true s.requires.0) s.ranges.l.fits
+one : (c : tie.Then-h-eq0) → Leading c.args.l (count_leading_zeros 64 c.args.l)
+one c = let s = c.before in leading s.args.l (low-pos s.args.h s.args.l c.if-h-eq0.true s.requires.0) s.ranges.l.fits
 
-shl-m : tie.Need-overflow-shl-m
+shl-m : tie.Need-overflow_shl-m
 shl-m c = (one c).less
 
-sub-x : tie.Need-overflow-sub-x
-sub-x c = le_trans (leading_le 64 c.before.args.l) c.before.requires.1
+sub-x : tie.Need-overflow_sub-x
+sub-x c = le_trans (leading_le 64 c.args.l) c.requires.1
 
-returns : tie.Need-returns
+returns : tie.Need-returns-then-h-eq0
 returns c =
     let s = c.before in
-    one_word s.args.h s.args.l s.args.e (count_leading_zeros 64 s.args.l) c.if1.true s.ranges.l.fits s.requires.1 (one c)
+    one_word s.args.h s.args.l s.args.e (count_leading_zeros 64 s.args.l) c.if-h-eq0.true s.ranges.l.fits s.requires.1 (one c)
 
-cast-r : tie.Need-overflow-cast-r
-cast-r c = zeros-fit c.before.args.h
+cast-r : tie.Need-overflow_cast-r
+cast-r c = zeros-fit c.args.h
 
-sub-r : tie.Need-overflow-sub-r
-sub-r c = leading_le 64 c.before.args.h
+sub-r : tie.Need-overflow_sub-r
+sub-r c = leading_le 64 c.args.h
 
-wide-requires : tie.Need-wide-requires
+wide-requires : tie.Need-wide-j-requires
 wide-requires c κs = search rules
 
-add-x : tie.Need-overflow-add-x
+add-x : tie.Need-overflow_add-x
 add-x c = search rules
 
-returns-2 : tie.Need-returns-2
+returns-2 : tie.Need-returns
 returns-2 c =
     let s = c.before.before in
     let a = s.args in
-    let r = c.wide.result in
-    two-words a.h a.l (count_leading_zeros 64 a.h) s.ranges.l.fits (leading a.h (pos_of_ne-zero c.before.if1.false) s.ranges.h.fits) r.hi r.lo a.e c.wide.ensures
+    let r = c.wide-j.result in
+    two-words a.h a.l (count_leading_zeros 64 a.h) s.ranges.l.fits (leading a.h (pos_of_ne-zero c.if-h-eq0.false) s.ranges.h.fits) r.hi r.lo a.e c.wide-j.ensures
 
-pub normal-spec : {M : Type 1} → statement M
-normal-spec =
-    tie.close (tie.spec cast-z shl-m sub-x returns cast-r sub-r wide-requires add-x returns-2)
+pub normal_spec : {M : Type 1} → statement M
+normal_spec =
+    tie.close
+    (tie.spec
+    cast-z
+    shl-m
+    sub-x
+    returns
+    cast-r
+    sub-r
+    wide-requires
+    add-x
+    returns-2)

@@ -4,13 +4,17 @@ use lib.Ieee.{of_bits, neg, round}
 use Rattle.fma.proofs.pack.nought.Statement.{statement}
 use Rattle.fma.proofs.pack.nought.Tie as tie
 
-returns : tie.Need-returns
+returns : tie.Need-returns-then-negative
 unfolding neg of_bits round
-returns c = rw c.if1.true refl
+returns c = rw c.if-negative.true refl
 
-returns-2 : tie.Need-returns-2
+returns-2 : tie.Need-returns
 unfolding of_bits round
-returns-2 c = rw c.if1.false refl
+returns-2 c = rw c.if-negative.false refl
 
-pub nought-spec : {M : Type 1} → statement M
-nought-spec = tie.close (tie.spec returns returns-2)
+pub nought_spec : {M : Type 1} → statement M
+nought_spec =
+    tie.close
+    (tie.spec
+    returns
+    returns-2)

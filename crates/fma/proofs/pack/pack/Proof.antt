@@ -11,30 +11,38 @@ signed r h = omega arith
 unsigned : (r : ℕ) → r ≤ 2047 * 2 ^ 52 → r % 2 ^ 63 ≤ 2047 * 2 ^ 52
 unsigned r h = omega arith
 
-magnitude-requires : tie.Need-magnitude-requires
+magnitude-requires : tie.Need-magnitude-b-requires
 magnitude-requires c κs = search rules
 
-add-result : tie.Need-overflow-add-result
-add-result c = omega (arith, c.before.magnitude.ensures.below)
+add-result : tie.Need-overflow_add-result
+add-result c = omega (arith, c.magnitude-b.ensures.below)
 
-float-from-bits-result : tie.Need-float-from-bits-result
-float-from-bits-result c = let m = c.before.magnitude in no_nan (2 ^ 63 + m.result) (signed m.result m.ensures.below)
+float-from-bits-result : tie.Need-float_from_bits-result
+float-from-bits-result c = let m = c.magnitude-b in no_nan (2 ^ 63 + m.result) (signed m.result m.ensures.below)
 
-float-from-bits-result-2 : tie.Need-float-from-bits-result-2
-float-from-bits-result-2 c = let m = c.before.magnitude in no_nan m.result (unsigned m.result m.ensures.below)
+float-from-bits-result-2 : tie.Need-float_from_bits-result-else-negative
+float-from-bits-result-2 c = let m = c.magnitude-b in no_nan m.result (unsigned m.result m.ensures.below)
 
-returns : tie.Need-returns
+returns : tie.Need-returns-then-negative
 returns c =
-    let a = c.before.before.args in
-    c.before.magnitude.ensures.reads true ∙ ap (λ (s : Bool). units binary64 s a.q a.k) (sym c.if1.true)
+    let a = c.args in
+    c.magnitude-b.ensures.reads true ∙ ap (λ (s : Bool). units binary64 s a.q a.k) (sym c.if-negative.true)
 
-returns-2 : tie.Need-returns-2
+returns-2 : tie.Need-returns-else-negative
 returns-2 c =
-    let a = c.before.before.args in
-    let m = c.before.magnitude in
+    let a = c.args in
+    let m = c.magnitude-b in
     ap (λ (x : ℕ). of_bits binary64 x) (sym (zero-add m.result))
     ∙ m.ensures.reads false
-    ∙ ap (λ (s : Bool). units binary64 s a.q a.k) (sym c.if1.false)
+    ∙ ap (λ (s : Bool). units binary64 s a.q a.k) (sym c.if-negative.false)
 
-pub pack-spec : {M : Type 1} → statement M
-pack-spec = tie.close (tie.spec magnitude-requires add-result float-from-bits-result float-from-bits-result-2 returns returns-2)
+pub pack_spec : {M : Type 1} → statement M
+pack_spec =
+    tie.close
+    (tie.spec
+    magnitude-requires
+    add-result
+    float-from-bits-result
+    float-from-bits-result-2
+    returns
+    returns-2)

@@ -3,14 +3,19 @@ use Rattle.std.proofs.Common.{rules}
 use Rattle.fma.proofs.pack.quarters.Statement.{statement}
 use Rattle.fma.proofs.pack.quarters.Tie as tie
 
-add-result : tie.Need-overflow-add-result
+add-result : tie.Need-overflow_add-result
 add-result c = search rules
 
-add-result-2 : tie.Need-overflow-add-result-2
+add-result-2 : tie.Need-overflow_add-result-2
 add-result-2 c = search rules
 
 returns : tie.Need-returns
 returns c = search rules
 
-pub quarters-spec : {M : Type 1} → statement M
-quarters-spec = tie.close (tie.spec add-result add-result-2 returns)
+pub quarters_spec : {M : Type 1} → statement M
+quarters_spec =
+    tie.close
+    (tie.spec
+    add-result
+    add-result-2
+    returns)

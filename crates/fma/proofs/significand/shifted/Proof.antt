@@ -47,23 +47,31 @@ module _ (c : tie.Start) where
   eleven : 11 ≤ count_leading_zeros 64 c.args.t
   eleven = zeros-ge c.args.t (count_leading_zeros 64 c.args.t) 53 zeros c.requires.1
 
-cast-z : tie.Need-overflow-cast-z
+cast-z : tie.Need-overflow_cast-z
 cast-z c = zeros-fit c.args.t
 
-sub-m : tie.Need-overflow-sub-m
+sub-m : tie.Need-overflow_sub-m
 sub-m c = omega (arith, eleven c)
 
-shl-m : tie.Need-overflow-shl-m
+shl-m : tie.Need-overflow_shl-m
 shl-m c = omega (arith, (zeros c).less)
 
-add-e : tie.Need-overflow-add-e
+add-e : tie.Need-overflow_add-e
 add-e c = search rules
 
-sub-e : tie.Need-overflow-sub-e
+sub-e : tie.Need-overflow_sub-e
 sub-e c = omega (arith, (zeros c).less)
 
 returns : tie.Need-returns
 returns c = all c.args.t c.args.k (count_leading_zeros 64 c.args.t) c.requires.2 (zeros c) (eleven c)
 
-pub shifted-spec : {M : Type 1} → statement M
-shifted-spec = tie.close (tie.spec cast-z sub-m shl-m add-e sub-e returns)
+pub shifted_spec : {M : Type 1} → statement M
+shifted_spec =
+    tie.close
+    (tie.spec
+    cast-z
+    sub-m
+    shl-m
+    add-e
+    sub-e
+    returns)

@@ -48,41 +48,48 @@ module _ (b : ℕ) (some : bit_and b 0x7fff_ffff_ffff_ffff / 2 ^ 52 ≡ 0 → �
 
 shifted-requires : tie.Need-shifted-requires
 shifted-requires c κs =
-    let b = c.before.args.b in (
-      subst (λ (x : ℕ). 0 < x) (sym (digits b)) (some-digits b c.before.requires.0 (sym (field b) ∙ c.if1.true)),
+    let b = c.args.b in (
+      subst (λ (x : ℕ). 0 < x) (sym (digits b)) (some-digits b c.requires.0 (sym (field b) ∙ c.if-field-eq0.true)),
       lt_of_lt_of_le (mask_lt b 52) (lit≤ tt),
       lit< tt,
     )
 
-add-shifted : tie.Need-overflow-add-shifted
-add-shifted c = let h = mask_lt c.before.args.b 52 in Fits-of_lt (omega arith)
+add-shifted : tie.Need-overflow_add-digits
+add-shifted c = let h = mask_lt c.args.b 52 in Fits-of_lt (omega arith)
 
-sub-shifted : tie.Need-overflow-sub-shifted
+sub-shifted : tie.Need-overflow_sub-field
 sub-shifted c = search rules
 
-shifted-requires-2 : tie.Need-shifted-requires-2
+shifted-requires-2 : tie.Need-shifted-requires-else-field-eq0
 shifted-requires-2 c κs =
-    let b = c.before.args.b in
+    let b = c.args.b in
     let h = mask_lt b 52 in
-    (omega arith, omega arith, below b c.if1.false c.before.requires.1)
+    (omega arith, omega arith, below b c.if-field-eq0.false c.requires.1)
 
-returns : tie.Need-returns
+returns : tie.Need-returns-then-field-eq0
 returns c =
-    let b = c.before.before.args.b in
+    let b = c.args.b in
     let r = c.shifted.result in
     finer b r.m r.e (bit_and b 0xf_ffff_ffff_ffff) 0 c.shifted.ensures
-    (subst (λ (t : ℕ). Units (of_bits binary64 b) (leb (2 ^ 63) b) t) (sym (digits b) ∙ sym (mul-one (bit_and b 0xf_ffff_ffff_ffff))) (value_low b (only-digits b (sym (field b) ∙ c.before.if1.true))))
+    (subst (λ (t : ℕ). Units (of_bits binary64 b) (leb (2 ^ 63) b) t) (sym (digits b) ∙ sym (mul-one (bit_and b 0xf_ffff_ffff_ffff))) (value_low b (only-digits b (sym (field b) ∙ c.if-field-eq0.true))))
 
-returns-2 : tie.Need-returns-2
+returns-2 : tie.Need-returns-else-field-eq0
 returns-2 c =
     let s = c.before.before in
     let b = s.args.b in
-    let r = c.shifted2.result in
+    let r = c.shifted-else-field-eq0.result in
     let k = bit_and b 0x7fff_ffff_ffff_ffff / 2 ^ 52 - 1 in
-    finer b r.m r.e (bit_and b 0xf_ffff_ffff_ffff + 2 ^ 52) k c.shifted2.ensures
+    finer b r.m r.e (bit_and b 0xf_ffff_ffff_ffff + 2 ^ 52) k c.shifted-else-field-eq0.ensures
     (subst (λ (t : ℕ). Units (of_bits binary64 b) (leb (2 ^ 63) b) (t * 2 ^ k)) (ap (λ (t : ℕ). 2 ^ 52 + t) (sym (digits b)) ∙ add_comm (2 ^ 52) (bit_and b 0xf_ffff_ffff_ffff))
-    (value-normal b k (b % 2 ^ 52) (next b c.before.if1.false s.requires.1) refl (below b c.before.if1.false s.requires.1)))
+    (value-normal b k (b % 2 ^ 52) (next b c.if-field-eq0.false s.requires.1) refl (below b c.if-field-eq0.false s.requires.1)))
 
-pub significand-spec : {M : Type 1} → statement M
-significand-spec =
-    tie.close (tie.spec shifted-requires add-shifted sub-shifted shifted-requires-2 returns returns-2)
+pub significand_spec : {M : Type 1} → statement M
+significand_spec =
+    tie.close
+    (tie.spec
+    shifted-requires
+    add-shifted
+    sub-shifted
+    shifted-requires-2
+    returns
+    returns-2)

@@ -6,17 +6,22 @@ use Rattle.fma.proofs.StickyBit.{sticky-cut}
 use Rattle.fma.proofs.sticky.upper.Statement.{statement}
 use Rattle.fma.proofs.sticky.upper.Tie as tie
 
-made-odd-requires : tie.Need-made-odd-requires
+made-odd-requires : tie.Need-made_odd-requires
 made-odd-requires c κs = search rules
 
-returns : tie.Need-returns
-returns c = inl (omega (arith, c.if1.true))
+returns : tie.Need-returns-then-l-eq0
+returns c = inl (omega (arith, c.if-l-eq0.true))
 
-returns-2 : tie.Need-returns-2
+returns-2 : tie.Need-returns-else-l-eq0
 returns-2 c =
     let s = c.before.before in
     let a = s.args in
-    subst (λ (x : ℕ). Sticky x 64 (words a.h a.l)) (sym c.made-odd.ensures) (sticky-cut a.h a.l (words a.h a.l) 64 refl (omega (arith, c.before.if1.false)) s.ranges.l.fits)
+    subst (λ (x : ℕ). Sticky x 64 (words a.h a.l)) (sym c.made_odd.ensures) (sticky-cut a.h a.l (words a.h a.l) 64 refl (omega (arith, c.if-l-eq0.false)) s.ranges.l.fits)
 
-pub upper-spec : {M : Type 1} → statement M
-upper-spec = tie.close (tie.spec made-odd-requires returns returns-2)
+pub upper_spec : {M : Type 1} → statement M
+upper_spec =
+    tie.close
+    (tie.spec
+    made-odd-requires
+    returns
+    returns-2)

@@ -6,24 +6,31 @@ use Rattle.fma.proofs.Shifting.{back, lost}
 use Rattle.fma.proofs.sticky.word.Statement.{statement}
 use Rattle.fma.proofs.sticky.word.Tie as tie
 
-shr-q : tie.Need-overflow-shr-q
+shr-q : tie.Need-overflow_shr-q
 shr-q c = search rules
 
-shl-if1 : tie.Need-overflow-shl-if1
+shl-if1 : tie.Need-overflow_shl-q
 shl-if1 c = search rules
 
-made-odd-requires : tie.Need-made-odd-requires
+made-odd-requires : tie.Need-made_odd-requires
 made-odd-requires c κs = search rules
 
-returns : tie.Need-returns
-returns c = let a = c.before.args in inl (sym (back a.n a.s c.before.ranges.n.fits) ∙ c.if1.true)
+returns : tie.Need-returns-then-q-s
+returns c = let a = c.args in inl (sym (back a.n a.s c.ranges.n.fits) ∙ c.if-q-s.true)
 
-returns-2 : tie.Need-returns-2
+returns-2 : tie.Need-returns-else-q-s
 returns-2 c =
     let s = c.before.before in
     let a = s.args in
-    subst (λ (x : ℕ). Sticky x a.s a.n) (sym c.made-odd.ensures)
-    (sticky-cut (a.n / 2 ^ a.s) (a.n % 2 ^ a.s) a.n a.s (div-add-mod' a.n (2 ^ a.s)) (lost a.n a.s s.ranges.n.fits c.before.if1.false) (mod-lt a.n (pow_pos a.s)))
+    subst (λ (x : ℕ). Sticky x a.s a.n) (sym c.made_odd.ensures)
+    (sticky-cut (a.n / 2 ^ a.s) (a.n % 2 ^ a.s) a.n a.s (div-add-mod' a.n (2 ^ a.s)) (lost a.n a.s s.ranges.n.fits c.if-q-s.false) (mod-lt a.n (pow_pos a.s)))
 
-pub word-spec : {M : Type 1} → statement M
-word-spec = tie.close (tie.spec shr-q shl-if1 made-odd-requires returns returns-2)
+pub word_spec : {M : Type 1} → statement M
+word_spec =
+    tie.close
+    (tie.spec
+    shr-q
+    shl-if1
+    made-odd-requires
+    returns
+    returns-2)

@@ -58,34 +58,34 @@ module _ (c : tie.Start) where
   v1-lt : v / 2 ^ 32 < 2 ^ 32
   v1-lt = shr_lt 32 32 c.ranges.v.fits
 
-mul-first : tie.Need-overflow-mul-first
+mul-first : tie.Need-overflow_mul-first
 mul-first c = half-fits (lower (u c)) (lower (v c)) (mask_lt (u c) 32) (mask_lt (v c) 32)
 
-mul-middle : tie.Need-overflow-mul-middle
+mul-middle : tie.Need-overflow_mul-middle
 mul-middle c = half-fits (u c / 2 ^ 32) (lower (v c)) (u1-lt c) (mask_lt (v c) 32)
 
-add-middle : tie.Need-overflow-add-middle
+add-middle : tie.Need-overflow_add-middle
 add-middle c =
     Fits-of_lt
     (column (u c / 2 ^ 32) (lower (v c)) (lower (u c) * lower (v c) / 2 ^ 32) (u1-lt c) (mask_lt (v c) 32) (shr_lt 32 32 (Fits-lt-pow {w = w64} (half-fits (lower (u c)) (lower (v c)) (mask_lt (u c) 32) (mask_lt (v c) 32)))))
 
-mul-second : tie.Need-overflow-mul-second
+mul-second : tie.Need-overflow_mul-second
 mul-second c = half-fits (lower (u c)) (v c / 2 ^ 32) (mask_lt (u c) 32) (v1-lt c)
 
-add-second : tie.Need-overflow-add-second
+add-second : tie.Need-overflow_add-second
 add-second c =
     Fits-of_lt (omega (arith, column (lower (u c)) (v c / 2 ^ 32) (lower (middle (u c) (v c))) (mask_lt (u c) 32) (v1-lt c) (mask_lt (middle (u c) (v c)) 32)))
 
-mul-hi : tie.Need-overflow-mul-hi
+mul-hi : tie.Need-overflow_mul-hi
 mul-hi c = half-fits (u c / 2 ^ 32) (v c / 2 ^ 32) (u1-lt c) (v1-lt c)
 
-add-hi : tie.Need-overflow-add-hi
+add-hi : tie.Need-overflow_add-hi
 add-hi c = Fits-le (le-add_right (u c / 2 ^ 32 * (v c / 2 ^ 32) + middle (u c) (v c) / 2 ^ 32) (second (u c) (v c) / 2 ^ 32)) (upper_fits (u c) (v c) c.ranges.u.fits c.ranges.v.fits)
 
-add-hi-2 : tie.Need-overflow-add-hi-2
+add-hi-2 : tie.Need-overflow_add-hi-2
 add-hi-2 c = upper_fits (u c) (v c) c.ranges.u.fits c.ranges.v.fits
 
-add-lo : tie.Need-overflow-add-lo
+add-lo : tie.Need-overflow_add-lo
 add-lo c =
     subst (λ (x : ℕ). Fits w64 (x + lower (lower (u c) * lower (v c)))) (sym (kept (second (u c) (v c)))) (Fits-cat 32 32 tt (mask_lt (second (u c) (v c)) 32) (mask_lt (lower (u c) * lower (v c)) 32))
 
@@ -95,7 +95,17 @@ returns c = (
   Fits-lt-pow {w = w64} (add-lo c),
 )
 
-pub product-spec : {M : Type 1} → statement M
-product-spec =
+pub product_spec : {M : Type 1} → statement M
+product_spec =
     tie.close
-    (tie.spec mul-first mul-middle add-middle mul-second add-second mul-hi add-hi add-hi-2 add-lo returns)
+    (tie.spec
+    mul-first
+    mul-middle
+    add-middle
+    mul-second
+    add-second
+    mul-hi
+    add-hi
+    add-hi-2
+    add-lo
+    returns)

@@ -16,31 +16,39 @@ upper-le xh xl yh yl h k = omega arith
 upper_lt : (xh xl yh yl : ℕ) → words yh yl ≤ words xh xl → xl < yl → yh < xh
 upper_lt xh xl yh yl h k = omega arith
 
-wrapping-sub-u64-requires : tie.Need-wrapping-sub-u64-requires
+wrapping-sub-u64-requires : tie.Need-wrapping_sub_u64-lo-requires
 wrapping-sub-u64-requires c κs = search rules
 
-sub-hi : tie.Need-overflow-sub-hi
+sub-hi : tie.Need-overflow_sub-hi
 sub-hi c = let s = c.before.before in let a = s.args in upper-le a.xh a.xl a.yh a.yl s.ranges.xl.fits s.requires
 
-sub-hi-2 : tie.Need-overflow-sub-hi-2
-sub-hi-2 c = let s = c.before.before in let a = s.args in omega (arith, upper_lt a.xh a.xl a.yh a.yl s.requires c.if1.true)
+sub-hi-2 : tie.Need-overflow_sub-hi-then-xl-yl
+sub-hi-2 c = let s = c.before.before in let a = s.args in omega (arith, upper_lt a.xh a.xl a.yh a.yl s.requires c.if-xl-yl.true)
 
-sub-hi-3 : tie.Need-overflow-sub-hi-3
+sub-hi-3 : tie.Need-overflow_sub-hi-else-xl-yl
 sub-hi-3 c = let s = c.before.before in let a = s.args in upper-le a.xh a.xl a.yh a.yl s.ranges.xl.fits s.requires
 
-returns : tie.Need-returns
+returns : tie.Need-returns-then-xl-yl
 returns c =
     let s = c.before.before in
     let a = s.args in
-    let w = c.before.wrapping-sub-u64 in
-    one-borrowed a.xh a.xl a.yh a.yl w.result s.ranges.yl.fits w.type-inv w.ensures c.if1.true (upper_lt a.xh a.xl a.yh a.yl s.requires c.if1.true)
+    let w = c.wrapping_sub_u64-lo in
+    one-borrowed a.xh a.xl a.yh a.yl w.result s.ranges.yl.fits w.type_inv w.ensures c.if-xl-yl.true (upper_lt a.xh a.xl a.yh a.yl s.requires c.if-xl-yl.true)
 
-returns-2 : tie.Need-returns-2
+returns-2 : tie.Need-returns-else-xl-yl
 returns-2 c =
     let s = c.before.before in
     let a = s.args in
-    let w = c.before.wrapping-sub-u64 in
-    no_borrow a.xh a.xl a.yh a.yl w.result s.ranges.yl.fits w.type-inv w.ensures c.if1.false (upper-le a.xh a.xl a.yh a.yl s.ranges.xl.fits s.requires)
+    let w = c.wrapping_sub_u64-lo in
+    no_borrow a.xh a.xl a.yh a.yl w.result s.ranges.yl.fits w.type_inv w.ensures c.if-xl-yl.false (upper-le a.xh a.xl a.yh a.yl s.ranges.xl.fits s.requires)
 
 pub sub_spec : {M : Type 1} → statement M
-sub_spec = tie.close (tie.spec wrapping-sub-u64-requires sub-hi sub-hi-2 sub-hi-3 returns returns-2)
+sub_spec =
+    tie.close
+    (tie.spec
+    wrapping-sub-u64-requires
+    sub-hi
+    sub-hi-2
+    sub-hi-3
+    returns
+    returns-2)

@@ -49,18 +49,23 @@ negative b k h =
     answer b k true (le-leb (2 ^ 63) b h) (neg (of_bits binary64 0)) (neg-fits binary64 (of_bits binary64 0) (of_bits-fits binary64 0))
     (subst (λ (n : ℕ). HasValue (neg (of_bits binary64 0)) true n 1) (sym (div-eq_of_lt k.small)) minus-zero)
 
-returns : tie.Need-returns
-returns c = sym (ap (λ (b : ℕ). ceiling (of_bits binary64 b)) c.if1.true ∙ whole-fixed (of_bits binary64 0) false 0 1 (pow_pos 0) (of_bits-fits binary64 0) zero refl)
+returns : tie.Need-returns-then-bits-eq0
+returns c = sym (ap (λ (b : ℕ). ceiling (of_bits binary64 b)) c.if-bits-eq0.true ∙ whole-fixed (of_bits binary64 0) false 0 1 (pow_pos 0) (of_bits-fits binary64 0) zero refl)
 
-returns-2 : tie.Need-returns-2
+returns-2 : tie.Need-returns-then-bits-lt9223372036854775808
 returns-2 c =
     let b = c.before.before.args.bits in
-    positive b (below_one b c.before.before.requires) c.if2.true c.before.if1.false
+    positive b (below_one b c.before.before.requires) c.if-bits-lt9223372036854775808.true c.before.if-bits-eq0.false
 
-returns-3 : tie.Need-returns-3
+returns-3 : tie.Need-returns
 returns-3 c =
     let b = c.before.before.args.bits in
-    negative b (below_one b c.before.before.requires) c.if2.false
+    negative b (below_one b c.before.before.requires) c.if-bits-lt9223372036854775808.false
 
-pub below-one-spec : {M : Type 1} → statement M
-below-one-spec = tie.close (tie.spec returns returns-2 returns-3)
+pub below_one_spec : {M : Type 1} → statement M
+below_one_spec =
+    tie.close
+    (tie.spec
+    returns
+    returns-2
+    returns-3)

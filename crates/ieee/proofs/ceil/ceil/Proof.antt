@@ -60,41 +60,41 @@ small r f e h = omega arith
 
 -- ---- the needs
 held : (c : tie.Start) → of_bits binary64 (to_bits binary64 c.args.x) ≡ c.args.x
-held c = of_bits-to_bits binary64 c.args.x (subst T (sym c.well-formed.0.1) tt)
+held c = of_bits-to_bits binary64 c.args.x (subst T (sym c.well_formed.0.1) tt)
 
-returns : tie.Need-returns
+returns : tie.Need-returns-then-x
 returns c =
-    let e : c.before.args.x ≡ nan = differs_from_itself c.before.args.x (subst T (sym c.if1.true) tt) in
+    let e : c.before.args.x ≡ nan = differs_from_itself c.before.args.x (subst T (sym c.if-x.true) tt) in
     e ∙ sym (ap ceiling e ∙ of_nan)
 
-float-to-bits-bits : tie.Need-float-to-bits-bits
-float-to-bits-bits c = number_if_same c.before.args.x c.if1.false
+float-to-bits-bits : tie.Need-float_to_bits-bits
+float-to-bits-bits c = number_if_same c.before.args.x c.if-x.false
 
-returns-2 : tie.Need-returns-2
+returns-2 : tie.Need-returns-then-field-ge1075
 returns-2 c =
     let s = c.before.before in
     let b = to_bits binary64 s.args.x in
-    sym (subst (λ (y : Float). ceiling y ≡ y) (held s) (large b (subst (λ (n : ℕ). 1075 ≤ n) (field b) c.if2.true)))
+    sym (subst (λ (y : Float). ceiling y ≡ y) (held s) (large b (subst (λ (n : ℕ). 1075 ≤ n) (field b) c.if-field-ge1075.true)))
 
-below-one-requires : tie.Need-below-one-requires
+below-one-requires : tie.Need-below_one-requires
 below-one-requires c κs =
     let b = to_bits binary64 c.before.before.before.args.x in
-    small (b % 2 ^ 63) (bit_and b 0x7fff_ffff_ffff_ffff / 2 ^ 52) (field b) c.if3.true
+    small (b % 2 ^ 63) (bit_and b 0x7fff_ffff_ffff_ffff / 2 ^ 52) (field b) c.if-field-lt1023.true
 
-returns-3 : tie.Need-returns-3
+returns-3 : tie.Need-returns-then-field-lt1023
 returns-3 c = c.below_one.ensures ∙ ap ceiling (held c.before.before.before.before)
 
-sub-from-one : tie.Need-overflow-sub-from-one
+sub-from-one : tie.Need-overflow_sub-field
 sub-from-one c = search rules
 
-from-one-requires : tie.Need-from-one-requires
+from-one-requires : tie.Need-from_one-requires
 from-one-requires c κs = let e = field (to_bits binary64 c.before.before.before.args.x) in record { field = omega arith; some = omega arith; few = omega arith }
 
-returns-4 : tie.Need-returns-4
+returns-4 : tie.Need-returns
 returns-4 c = c.from_one.ensures ∙ ap ceiling (held c.before.before.before.before)
 
-pub ceil-spec : {M : Type 1} → statement M
-ceil-spec =
+pub ceil_spec : {M : Type 1} → statement M
+ceil_spec =
     tie.close
     (tie.spec
     returns

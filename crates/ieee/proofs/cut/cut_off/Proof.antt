@@ -64,25 +64,32 @@ under (inf false) n h = absurd (true≢false h)
 under (fin true m e) n h = sym (index_below (m * up e / down e) (λ z. none (m * up e / down e) (from_one m e h) z))
 under (fin false m e) n h = absurd (positive (m * up e * 1) (1 * down e) (mul-pos (pow_pos 0) (down_pos e)) (ap (ltb 0) (add_comm (m * up e * 1) (1 * down e)) ∙ h))
 
-returns : tie.Need-returns
+returns : tie.Need-returns-then-x
 unfolding cut_of
-returns c = sym (ap cut_of (differs_from_itself c.before.args.x (subst T (sym c.if1.true) tt)))
+returns c = sym (ap cut_of (differs_from_itself c.before.args.x (subst T (sym c.if-x.true) tt)))
 
-truncating-f64-to-u64-requires : tie.Need-truncating-f64-to-u64-requires
+truncating-f64-to-u64-requires : tie.Need-truncating_f64_to_u64-requires
 unfolding of_bits neg
-truncating-f64-to-u64-requires c κs = (subst T (sym c.before.if2.true) tt, subst T (sym c.if3.true) tt)
+truncating-f64-to-u64-requires c κs = (subst T (sym c.before.if-x-2.true) tt, subst T (sym c.if-x-3.true) tt)
 
-returns-2 : tie.Need-returns-2
+returns-2 : tie.Need-returns-then-x-3
 unfolding of_bits neg
-returns-2 c = ap Index c.truncating-f64-to-u64.ensures ∙ within c.before.before.before.before.args.x c.before.before.if2.true c.before.if3.true
+returns-2 c = ap Index c.truncating_f64_to_u64.ensures ∙ within c.before.before.before.before.args.x c.before.before.if-x-2.true c.before.if-x-3.true
 
-returns-3 : tie.Need-returns-3
+returns-3 : tie.Need-returns-then-x-2
 unfolding of_bits neg
-returns-3 c = over c.before.before.before.args.x c.before.if2.true c.if3.false
+returns-3 c = over c.before.before.before.args.x c.before.if-x-2.true c.if-x-3.false
 
-returns-4 : tie.Need-returns-4
+returns-4 : tie.Need-returns
 unfolding of_bits neg
-returns-4 c = under c.before.before.args.x c.before.if1.false c.if2.false
+returns-4 c = under c.before.before.args.x c.before.if-x.false c.if-x-2.false
 
-pub cut-off-spec : {M : Type 1} → statement M
-cut-off-spec = tie.close (tie.spec returns truncating-f64-to-u64-requires returns-2 returns-3 returns-4)
+pub cut_off_spec : {M : Type 1} → statement M
+cut_off_spec =
+    tie.close
+    (tie.spec
+    returns
+    truncating-f64-to-u64-requires
+    returns-2
+    returns-3
+    returns-4)

@@ -88,64 +88,64 @@ module _ (s : tie.Start) where
   z = to_z w32 (of_z w32 s.args.n)
 
   back : exp2_of z ≡ exp2_of s.args.n
-  back = ap exp2_of (to_z-of_z w32 s.args.n s.fits.n)
+  back = ap exp2_of (to_z-of_z w32 s.args.n s.ranges.n)
 
-returns : tie.Need-returns
-returns c = zero ∙ sym (underflow (z c.before) (below c.if1.true)) ∙ back c.before
+returns : tie.Need-returns-then-n-ltminus1074
+returns c = zero ∙ sym (underflow (z c.before) (below c.if-n-ltminus1074.true)) ∙ back c.before
 
-float-from-bits-infinity : tie.Need-float-from-bits-infinity
+float-from-bits-infinity : tie.Need-float_from_bits-infinity
 unfolding nan_bits
 float-from-bits-infinity c = tt
 
-returns-2 : tie.Need-returns-2
-returns-2 c = infinity ∙ sym (overflow (z c.before.before) (below c.if2.true)) ∙ back c.before.before
+returns-2 : tie.Need-returns-then-n-gt1023
+returns-2 c = infinity ∙ sym (overflow (z c.before.before) (below c.if-n-gt1023.true)) ∙ back c.before.before
 
-places-requires : tie.Need-places-requires
-places-requires c κs = record { low = not-below c.before.if1.false; high = not-below c.if2.false }
+places-requires : tie.Need-places-k-requires
+places-requires c κs = record { low = not-below c.before.if-n-ltminus1074.false; high = not-below c.if-n-gt1023.false }
 
 -- what is known after the call
-module _ (c : tie.After-places) where
+module _ (c : tie.After-places-k) where
   abbrev start : tie.Start
   start = c.before.before.before
 
   abbrev k : ℕ
-  k = c.places.result
+  k = c.places-k.result
 
   exponent : Exponent (z start)
-  exponent = record { low = not-below c.before.before.if1.false; high = not-below c.before.if2.false }
+  exponent = record { low = not-below c.before.before.if-n-ltminus1074.false; high = not-below c.before.if-n-gt1023.false }
 
   k_lt : k < 2098
-  k_lt = let p = places (z start) exponent in subst (λ (j : ℕ). j < 2098) (places-are (z start) p k c.places.ensures) p.small
+  k_lt = let p = places (z start) exponent in subst (λ (j : ℕ). j < 2098) (places-are (z start) p k c.places-k.ensures) p.small
 
   made : (b : ℕ) → HasValue (of_bits binary64 b) false (2 ^ k) (2 ^ 1074) → of_bits binary64 b ≡ exp2_of start.args.n
-  made b v = is-power (z start) exponent k c.places.ensures b v ∙ back start
+  made b v = is-power (z start) exponent k c.places-k.ensures b v ∙ back start
 
-shl-result : tie.Need-overflow-shl-result
+shl-result : tie.Need-overflow_shl-result
 shl-result c = search rules
 
-float-from-bits-result : tie.Need-float-from-bits-result
-float-from-bits-result c = subst (λ (b : ℕ). T (not (nan_bits binary64 b))) (sym (bit-code (k c.before) c.if3.true)) (bit-finite (k c.before) c.if3.true)
+float-from-bits-result : tie.Need-float_from_bits-result
+float-from-bits-result c = subst (λ (b : ℕ). T (not (nan_bits binary64 b))) (sym (bit-code (k c.before) c.if-k-lt52.true)) (bit-finite (k c.before) c.if-k-lt52.true)
 
-returns-3 : tie.Need-returns-3
-returns-3 c = ap (of_bits binary64) (bit-code (k c.before) c.if3.true) ∙ made c.before (2 ^ k c.before) (bit-value (k c.before) c.if3.true)
+returns-3 : tie.Need-returns-then-k-lt52
+returns-3 c = ap (of_bits binary64) (bit-code (k c.before) c.if-k-lt52.true) ∙ made c.before (2 ^ k c.before) (bit-value (k c.before) c.if-k-lt52.true)
 
-sub-result : tie.Need-overflow-sub-result
+sub-result : tie.Need-overflow_sub-result
 sub-result c = search rules
 
-float-from-bits-result-2 : tie.Need-float-from-bits-result-2
+float-from-bits-result-2 : tie.Need-float_from_bits-result-2
 float-from-bits-result-2 c =
     let j = k c.before in
     let h = k_lt c.before in
-    subst (λ (b : ℕ). T (not (nan_bits binary64 b))) (sym (field-code j c.if3.false h)) (field-finite j c.if3.false h)
+    subst (λ (b : ℕ). T (not (nan_bits binary64 b))) (sym (field-code j c.if-k-lt52.false h)) (field-finite j c.if-k-lt52.false h)
 
-returns-4 : tie.Need-returns-4
+returns-4 : tie.Need-returns
 returns-4 c =
     let j = k c.before in
     let h = k_lt c.before in
-    ap (of_bits binary64) (field-code j c.if3.false h) ∙ made c.before ((j - 51) * 2 ^ 52) (field-value j c.if3.false h)
+    ap (of_bits binary64) (field-code j c.if-k-lt52.false h) ∙ made c.before ((j - 51) * 2 ^ 52) (field-value j c.if-k-lt52.false h)
 
-pub exp2-spec : {M : Type 1} → statement M
-exp2-spec =
+pub exp2_spec : {M : Type 1} → statement M
+exp2_spec =
     tie.close
     (tie.spec
     returns

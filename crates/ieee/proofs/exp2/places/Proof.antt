@@ -19,14 +19,19 @@ module _ (c : tie.Start) where
   read : to_z w32 (of_z w32 (to_z w32 (of_z w32 c.args.n) +ℤ pos 1074)) ≡ pos at.k
   read = to_z-of_z w32 (to_z w32 (of_z w32 c.args.n) +ℤ pos 1074) fits ∙ added
 
-add-result : tie.Need-overflow-add-result
+add-result : tie.Need-overflow_add-result
 add-result c = fits c
 
-cast-result : tie.Need-overflow-cast-result
+cast-result : tie.Need-overflow_cast-result
 cast-result c = subst (λ (z : ℤ). T (non_neg z) × Fits w64 (nat_abs z)) (sym (read c)) (tt, record { fits = lt_of_lt_of_le (at c).small (lit≤ tt) })
 
 returns : tie.Need-returns
 returns c = (at c).sum ∙ ap (λ (z : ℤ). pos (nat_abs z)) (sym (read c))
 
-pub places-spec : {M : Type 1} → statement M
-places-spec = tie.close (tie.spec add-result cast-result returns)
+pub places_spec : {M : Type 1} → statement M
+places_spec =
+    tie.close
+    (tie.spec
+    add-result
+    cast-result
+    returns)

@@ -18,21 +18,27 @@ not-above nan h = refl
 not-above (inf s) h = refl
 not-above (fin s m e) h = absurd (true≢false h)
 
-float-from-bits-minus-infinity : tie.Need-float-from-bits-minus-infinity
+float-from-bits-minus-infinity : tie.Need-float_from_bits-minus_infinity
 unfolding nan_bits
 float-from-bits-minus-infinity c = tt
 
-float-from-bits-infinity : tie.Need-float-from-bits-infinity
+float-from-bits-infinity : tie.Need-float_from_bits-infinity
 unfolding nan_bits
 float-from-bits-infinity c = tt
 
-returns : tie.Need-returns
+returns : tie.Need-returns-then-minus_infinity-x
 unfolding of_bits
-returns c = above c.before.args.x c.if1.true
+returns c = above c.before.args.x c.if-minus_infinity-x.true
 
-returns-2 : tie.Need-returns-2
+returns-2 : tie.Need-returns
 unfolding of_bits
-returns-2 c = not-above c.before.args.x c.if1.false
+returns-2 c = not-above c.before.args.x c.if-minus_infinity-x.false
 
-pub is-finite-spec : {M : Type 1} → statement M
-is-finite-spec = tie.close (tie.spec float-from-bits-minus-infinity float-from-bits-infinity returns returns-2)
+pub is_finite_spec : {M : Type 1} → statement M
+is_finite_spec =
+    tie.close
+    (tie.spec
+    float-from-bits-minus-infinity
+    float-from-bits-infinity
+    returns
+    returns-2)

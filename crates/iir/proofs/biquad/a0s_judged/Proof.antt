@@ -14,13 +14,13 @@ use Rattle.iir.specs.Section.{a0_at, a0s_from}
 use Rattle.iir.proofs.biquad.a0s_judged.Statement.{statement}
 use Rattle.iir.proofs.biquad.a0s_judged.Tie as tie
 
-abbrev invariant-loop : tie.invariant-loop
+abbrev invariant-loop : tie.invariant-loop-k
 invariant-loop numbers count k₀ k = (k ≤ count) × (a0s_from numbers count 0 ≡ a0s_from numbers (count - k) k)
 
-abbrev decreases-loop : tie.decreases-loop
+abbrev decreases-loop : tie.decreases-loop-k
 decreases-loop numbers count k₀ k = count - k
 
-loop-holds : tie.Need-loop-init invariant-loop decreases-loop
+loop-holds : tie.Need-loop-k-init invariant-loop decreases-loop
 loop-holds c =
     let l = c.args.numbers.now in
     let e : length l / 6 - 0 ≡ length l / 6 = omega arith in
@@ -34,46 +34,46 @@ next l n k right h e =
     let more : k + 1 ≡ suc k = omega arith in
     rw (left, e, more)
 
-mul-if1 : tie.Need-overflow-mul-if1 invariant-loop decreases-loop
+mul-if1 : tie.Need-overflow_mul-k invariant-loop decreases-loop
 mul-if1 c = search rules
 
-add-if1 : tie.Need-overflow-add-if1 invariant-loop decreases-loop
+add-if1 : tie.Need-overflow_add-k invariant-loop decreases-loop
 add-if1 c = search rules
 
-mul-if1-2 : tie.Need-overflow-mul-if1-2 invariant-loop decreases-loop
+mul-if1-2 : tie.Need-offset_bounds-numbers-k invariant-loop decreases-loop
 mul-if1-2 c = search rules
 
-shared-slice-read-if1 : tie.Need-shared-slice-read-if1 invariant-loop decreases-loop
+shared-slice-read-if1 : tie.Need-bounds-numbers-k invariant-loop decreases-loop
 shared-slice-read-if1 c = search rules
 
-add-k : tie.Need-overflow-add-k invariant-loop decreases-loop
+add-k : tie.Need-overflow_add-k-then-numbers-k invariant-loop decreases-loop
 add-k c = omega arith
 
-loop-less : tie.Need-loop-smaller invariant-loop decreases-loop
+loop-less : tie.Need-loop-k-smaller invariant-loop decreases-loop
 loop-less c = omega arith
 
-loop-again : tie.Need-loop-preserved invariant-loop decreases-loop
+loop-again : tie.Need-loop-k-preserved invariant-loop decreases-loop
 loop-again c =
     let at = c.before.before.before in
-    let l = at.before.args.numbers.now in
-    (omega arith, at.loop.invariant.1 ∙ next l (length l / 6) at.loop.k true (omega arith) c.if1.true)
+    let l = at.args.numbers.now in
+    (omega arith, at.loop-k.invariant.1 ∙ next l (length l / 6) at.loop-k.k true (omega arith) c.if-numbers-k.true)
 
-returns : tie.Need-returns invariant-loop decreases-loop
+returns : tie.Need-returns-else-numbers-k invariant-loop decreases-loop
 returns c =
     let at = c.before.before.before in
-    let l = at.before.args.numbers.now in
-    sym (at.loop.invariant.1 ∙ next l (length l / 6) at.loop.k false (omega arith) c.if1.false)
+    let l = at.args.numbers.now in
+    sym (at.loop-k.invariant.1 ∙ next l (length l / 6) at.loop-k.k false (omega arith) c.if-numbers-k.false)
 
-returns-2 : tie.Need-returns-2 invariant-loop decreases-loop
+returns-2 : tie.Need-returns invariant-loop decreases-loop
 unfolding a0s_from
 returns-2 c =
-    let at = c.before.loop in
-    let l = c.before.before.args.numbers.now in
-    let none : length l / 6 - at.k ≡ 0 = omega (arith, c.loop-test.false) in
+    let at = c.loop-k in
+    let l = c.args.numbers.now in
+    let none : length l / 6 - at.k ≡ 0 = omega (arith, c.loop-k-test.false) in
     sym (at.invariant.1 ∙ ap (λ (n : ℕ). a0s_from l n at.k) none)
 
-pub a0s-judged-spec : {M : Type 1} → statement M
-a0s-judged-spec =
+pub a0s_judged_spec : {M : Type 1} → statement M
+a0s_judged_spec =
     tie.close
     (tie.spec
     invariant-loop

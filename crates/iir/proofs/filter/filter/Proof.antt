@@ -20,9 +20,9 @@ many l xs h =
     let some : n ≡ 0 → ⊥ = λ e. omega arith in
     simp (count-from l n 0, ne_eqb n 0 some, lt-leb n 4 h)
 
-returns : tie.Need-returns
+returns : tie.Need-returns-then-count-eq0
 unfolding sections_from
-returns c = rw c.if1.true
+returns c = rw c.if-count-eq0.true
 
 section-requires : tie.Need-section-requires
 section-requires c κs = search rules
@@ -30,88 +30,88 @@ section-requires c κs = search rules
 one-requires : tie.Need-one-requires
 one-requires c κs = search rules
 
-same_length : tie.Need-same-length
+same_length : tie.Need-shape_of-row-then-count-eq1
 same_length c = search rules
 
-returns-2 : tie.Need-returns-2
+returns-2 : tie.Need-returns-then-count-eq1
 returns-2 c =
-    let a = c.before.before.before.before.before.before.before.before.before.args in
-    rw (c.before.before.one.ensures, c.before.before.before.section.ensures) (alone a.numbers.now a.row.now c.before.before.before.before.before.if2.true)
+    let a = c.args in
+    rw (c.one.ensures, c.section.ensures) (alone a.numbers.now a.row.now c.if-count-eq1.true)
 
-section-requires-2 : tie.Need-section-requires-2
+section-requires-2 : tie.Need-section-requires-then-count-eq2
 section-requires-2 c κs = search rules
 
-section-requires-3 : tie.Need-section-requires-3
+section-requires-3 : tie.Need-section-requires-then-count-eq2-2
 section-requires-3 c κs = search rules
 
-pipeline-of-two-requires : tie.Need-pipeline-of-two-requires
+pipeline-of-two-requires : tie.Need-pipeline_of_two-requires
 pipeline-of-two-requires c κs = search rules
 
-same-length-2 : tie.Need-same-length-2
+same-length-2 : tie.Need-shape_of-row-then-count-eq2
 same-length-2 c = search rules
 
-returns-3 : tie.Need-returns-3
+returns-3 : tie.Need-returns-then-count-eq2
 unfolding sections_from
-returns-3 c = rw (c.before.before.pipeline-of-two.ensures, c.before.before.before.section3.ensures, c.before.before.before.before.section2.ensures, c.before.before.before.before.before.before.if3.true)
+returns-3 c = rw (c.pipeline_of_two.ensures, c.section-then-count-eq2-2.ensures, c.section-then-count-eq2.ensures, c.if-count-eq2.true)
 
-section-requires-4 : tie.Need-section-requires-4
+section-requires-4 : tie.Need-section-requires-then-count-eq3
 section-requires-4 c κs = search rules
 
-section-requires-5 : tie.Need-section-requires-5
+section-requires-5 : tie.Need-section-requires-then-count-eq3-2
 section-requires-5 c κs = search rules
 
-section-requires-6 : tie.Need-section-requires-6
+section-requires-6 : tie.Need-section-requires-then-count-eq3-3
 section-requires-6 c κs = search rules
 
-pipeline-of-three-requires : tie.Need-pipeline-of-three-requires
+pipeline-of-three-requires : tie.Need-pipeline_of_three-requires
 pipeline-of-three-requires c κs = search rules
 
-same-length-3 : tie.Need-same-length-3
+same-length-3 : tie.Need-shape_of-row-then-count-eq3
 same-length-3 c = search rules
 
-returns-4 : tie.Need-returns-4
+returns-4 : tie.Need-returns-then-count-eq3
 unfolding sections_from
 returns-4 c =
-    rw (c.before.before.pipeline-of-three.ensures, c.before.before.before.section6.ensures, c.before.before.before.before.section5.ensures, c.before.before.before.before.before.section4.ensures, c.before.before.before.before.before.before.before.if4.true)
+    rw (c.pipeline_of_three.ensures, c.section-then-count-eq3-3.ensures, c.section-then-count-eq3-2.ensures, c.section-then-count-eq3.ensures, c.if-count-eq3.true)
 
-section-requires-7 : tie.Need-section-requires-7
+section-requires-7 : tie.Need-section-requires-then-count-eq4
 section-requires-7 c κs = search rules
 
-section-requires-8 : tie.Need-section-requires-8
+section-requires-8 : tie.Need-section-requires-then-count-eq4-2
 section-requires-8 c κs = search rules
 
-section-requires-9 : tie.Need-section-requires-9
+section-requires-9 : tie.Need-section-requires-then-count-eq4-3
 section-requires-9 c κs = search rules
 
-section-requires-10 : tie.Need-section-requires-10
+section-requires-10 : tie.Need-section-requires-then-count-eq4-4
 section-requires-10 c κs = search rules
 
-pipeline-of-four-requires : tie.Need-pipeline-of-four-requires
+pipeline-of-four-requires : tie.Need-pipeline_of_four-requires
 pipeline-of-four-requires c κs = search rules
 
-same-length-4 : tie.Need-same-length-4
+same-length-4 : tie.Need-shape_of-row-then-count-eq4
 same-length-4 c = search rules
 
-returns-5 : tie.Need-returns-5
+returns-5 : tie.Need-returns-then-count-eq4
 unfolding sections_from
 returns-5 c =
-    rw (c.before.before.pipeline-of-four.ensures, c.before.before.before.section10.ensures, c.before.before.before.before.section9.ensures, c.before.before.before.before.before.section8.ensures, c.before.before.before.before.before.before.section7.ensures, c.before.before.before.before.before.before.before.before.if5.true)
+    rw (c.pipeline_of_four.ensures, c.section-then-count-eq4-4.ensures, c.section-then-count-eq4-3.ensures, c.section-then-count-eq4-2.ensures, c.section-then-count-eq4.ensures, c.if-count-eq4.true)
 
-in-cascade-requires : tie.Need-in-cascade-requires
+in-cascade-requires : tie.Need-in_cascade-requires
 in-cascade-requires c κs = search rules
 
-same-length-5 : tie.Need-same-length-5
+same-length-5 : tie.Need-shape_of-row
 same-length-5 c = search rules
 
-returns-6 : tie.Need-returns-6
+returns-6 : tie.Need-returns
 returns-6 c =
-    let a = c.before.before.before.before.before.before.before.before.before.before.before.args in
+    let a = c.args in
     let n = length a.numbers.now / 6 in
-    let more : 4 < n = omega (arith, c.before.before.before.before.if5.false, c.before.before.before.before.before.if4.false, c.before.before.before.before.before.before.if3.false, c.before.before.before.before.before.before.before.if2.false, c.before.before.before.before.before.before.before.before.if1.false) in
-    c.before.before.in-cascade.ensures ∙ sym (many a.numbers.now a.row.now more)
+    let more : 4 < n = omega (arith, c.if-count-eq4.false, c.if-count-eq3.false, c.if-count-eq2.false, c.if-count-eq1.false, c.if-count-eq0.false) in
+    c.in_cascade.ensures ∙ sym (many a.numbers.now a.row.now more)
 
-pub filter-spec : {M : Type 1} → statement M
-filter-spec =
+pub filter_spec : {M : Type 1} → statement M
+filter_spec =
     tie.close
     (tie.spec
     returns

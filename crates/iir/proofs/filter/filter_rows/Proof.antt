@@ -7,22 +7,22 @@ use Rattle.iir.proofs.filter.filter_rows.Tie as tie
 section-requires : tie.Need-section-requires
 section-requires c κs = search rules
 
-side-by-side-requires : tie.Need-side-by-side-requires
+side-by-side-requires : tie.Need-side_by_side-requires
 side-by-side-requires c κs = search rules
 
-same_length : tie.Need-same-length
+same_length : tie.Need-shape_of-i-then-numbers-eq1
 same_length c = search rules
 
-same-length-2 : tie.Need-same-length-2
+same-length-2 : tie.Need-shape_of-q-then-numbers-eq1
 same-length-2 c = search rules
 
-returns : tie.Need-returns
+returns : tie.Need-returns-then-numbers-eq1
 returns c =
-    let a = c.before.before.before.before.before.before.before.before.before.before.before.before.before.args in
+    let a = c.args in
     let one = alone a.numbers.now in
-    let section = c.before.before.before.before.before.section.ensures in
-    let sides = c.before.before.before.before.side_by_side.ensures in
-    let single = c.before.before.before.before.before.before.before.before.if2.true in
+    let section = c.section.ensures in
+    let sides = c.side_by_side.ensures in
+    let single = c.if-numbers-eq1.true in
     (rw (sides.0, section) (one a.i.now single), rw (sides.1, section) (one a.q.now single))
 
 filter-requires : tie.Need-filter-requires
@@ -31,17 +31,17 @@ filter-requires c κs = search rules
 filter-requires-2 : tie.Need-filter-requires-2
 filter-requires-2 c κs = search rules
 
-same-length-3 : tie.Need-same-length-3
+same-length-3 : tie.Need-shape_of-i
 same-length-3 c = search rules
 
-same-length-4 : tie.Need-same-length-4
+same-length-4 : tie.Need-shape_of-q
 same-length-4 c = search rules
 
-returns-2 : tie.Need-returns-2
+returns-2 : tie.Need-returns
 returns-2 c = search rules
 
-pub filter-rows-spec : {M : Type 1} → statement M
-filter-rows-spec =
+pub filter_rows_spec : {M : Type 1} → statement M
+filter_rows_spec =
     tie.close
     (tie.spec
     section-requires

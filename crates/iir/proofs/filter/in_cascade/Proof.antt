@@ -14,81 +14,81 @@ use Rattle.iir.proofs.Cascade.{parts}
 use Rattle.iir.proofs.filter.in_cascade.Statement.{statement}
 use Rattle.iir.proofs.filter.in_cascade.Tie as tie
 
-abbrev invariant-loop : tie.invariant-loop
+abbrev invariant-loop : tie.invariant-loop-k
 invariant-loop row₀ numbers count k₀ row k = (k ≤ count) × (length row ≡ length row₀) × (cascade (sections_from numbers (count - k) k) row ≡ cascade (sections_from numbers count 0) row₀)
 
-abbrev decreases-loop : tie.decreases-loop
+abbrev decreases-loop : tie.decreases-loop-k
 decreases-loop row₀ numbers count k₀ row k = count - k
 
-loop-holds : tie.Need-loop-init invariant-loop decreases-loop
+loop-holds : tie.Need-loop-k-init invariant-loop decreases-loop
 loop-holds c =
-    let a = c.before.before.args in
+    let a = c.args in
     (search rules, refl, ap (λ (bs : List Biquad). cascade bs a.row.now) (all_from a.numbers.now (length a.numbers.now / 6)))
 
-add-loop : tie.Need-overflow-add-loop invariant-loop decreases-loop
+add-loop : tie.Need-overflow_add-k invariant-loop decreases-loop
 add-loop c = omega arith
 
 section-requires : tie.Need-section-requires invariant-loop decreases-loop
 section-requires c κs = search rules
 
-add-section : tie.Need-overflow-add-section invariant-loop decreases-loop
+add-section : tie.Need-overflow_add-k-in-loop-k invariant-loop decreases-loop
 add-section c = omega arith
 
-section-requires-2 : tie.Need-section-requires-2 invariant-loop decreases-loop
+section-requires-2 : tie.Need-section-requires-in-loop-k invariant-loop decreases-loop
 section-requires-2 c κs = search rules
 
-add-section-2 : tie.Need-overflow-add-section-2 invariant-loop decreases-loop
+add-section-2 : tie.Need-overflow_add-k-in-loop-k-2 invariant-loop decreases-loop
 add-section-2 c = omega arith
 
-section-requires-3 : tie.Need-section-requires-3 invariant-loop decreases-loop
+section-requires-3 : tie.Need-section-requires-in-loop-k-2 invariant-loop decreases-loop
 section-requires-3 c κs = search rules
 
-add-section-3 : tie.Need-overflow-add-section-3 invariant-loop decreases-loop
+add-section-3 : tie.Need-overflow_add-k-in-loop-k-3 invariant-loop decreases-loop
 add-section-3 c = omega arith
 
-section-requires-4 : tie.Need-section-requires-4 invariant-loop decreases-loop
+section-requires-4 : tie.Need-section-requires-in-loop-k-3 invariant-loop decreases-loop
 section-requires-4 c κs = search rules
 
 four-requires : tie.Need-four-requires invariant-loop decreases-loop
 four-requires c κs = search rules
 
-add-k : tie.Need-overflow-add-k invariant-loop decreases-loop
-add-k c = omega (arith, c.before.before.before.before.before.before.before.before.before.before.before.before.well-formed.1.0.0, c.before.before.before.before.before.before.before.before.loop-test.true)
+add-k : tie.Need-overflow_add-k-in-loop-k-4 invariant-loop decreases-loop
+add-k c = omega (arith, c.well_formed.1.0.0, c.loop-k-test.true)
 
-loop-less : tie.Need-loop-smaller invariant-loop decreases-loop
+loop-less : tie.Need-loop-k-smaller invariant-loop decreases-loop
 loop-less c = omega arith
 
-loop-again : tie.Need-loop-preserved invariant-loop decreases-loop
+loop-again : tie.Need-loop-k-preserved invariant-loop decreases-loop
 loop-again c =
     let start = c.before.before.before.before.before.before.before.before.before.before.before.before in
-    let at = c.before.before.before.before.before.before.before.before.before.loop in
+    let at = c.loop-k in
     let l = start.args.numbers.now in
     let n = length l / 6 in
     let k = at.k in
-    let more : k + 4 ≤ n = c.before.before.before.before.before.before.before.before.loop-test.true in (
+    let more : k + 4 ≤ n = c.loop-k-test.true in (
       more,
-      c.before.row.given ∙ at.invariant.1,
-      rw (c.before.before.four.ensures, c.before.before.before.section4.ensures, c.before.before.before.before.section3.ensures, c.before.before.before.before.before.section2.ensures, c.before.before.before.before.before.before.section.ensures)
+      c.row-1.given ∙ at.invariant.1,
+      rw (c.four.ensures, c.section-in-loop-k-3.ensures, c.section-in-loop-k-2.ensures, c.section-in-loop-k.ensures, c.section.ensures)
           (sym (parts (section_at l k ∷ section_at l (k + 1) ∷ section_at l (k + 2) ∷ section_at l (k + 3) ∷ []) (sections_from l (n - (k + 4)) (k + 4)) at.row)
           ∙ ap (λ (bs : List Biquad). cascade bs at.row) (sym (four-from l n k more))
           ∙ at.invariant.2),
     )
 
-sub-rest-in-cascade : tie.Need-overflow-sub-rest-in-cascade invariant-loop decreases-loop
+sub-rest-in-cascade : tie.Need-overflow_sub-count invariant-loop decreases-loop
 sub-rest-in-cascade c = omega arith
 
-rest-in-cascade-requires : tie.Need-rest-in-cascade-requires invariant-loop decreases-loop
+rest-in-cascade-requires : tie.Need-rest_in_cascade-requires invariant-loop decreases-loop
 rest-in-cascade-requires c κs = search rules
 
-same_length : tie.Need-same-length invariant-loop decreases-loop
-same_length c = c.before.row2.given ∙ c.before.before.before.before.before.loop.invariant.1
+same_length : tie.Need-shape_of-row invariant-loop decreases-loop
+same_length c = c.row-2-1.given ∙ c.loop-k.invariant.1
 
 returns : tie.Need-returns invariant-loop decreases-loop
 returns c =
-    c.before.before.rest-in-cascade.ensures ∙ c.before.before.before.before.before.loop.invariant.2
+    c.rest_in_cascade.ensures ∙ c.loop-k.invariant.2
 
-pub in-cascade-spec : {M : Type 1} → statement M
-in-cascade-spec =
+pub in_cascade_spec : {M : Type 1} → statement M
+in_cascade_spec =
     tie.close
     (tie.spec
     invariant-loop

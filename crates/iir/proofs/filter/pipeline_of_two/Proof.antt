@@ -14,15 +14,21 @@ run-requires c κs = search rules
 two-requires : tie.Need-two-requires
 two-requires c κs = search rules
 
-same_length : tie.Need-same-length
+same_length : tie.Need-shape_of-row
 same_length c = search rules
 
 returns : tie.Need-returns
 unfolding through
 returns c =
     let start = c.before.before.before.before.before.before in
-    rw (c.before.before.two.ensures, c.before.before.before.run.ensures)
+    rw (c.two.ensures, c.run.ensures)
     (sym (pipeline-cascade (start.args.a ∷ start.args.b ∷ []) start.args.row.now))
 
-pub pipeline-of-two-spec : {M : Type 1} → statement M
-pipeline-of-two-spec = tie.close (tie.spec run-requires two-requires same_length returns)
+pub pipeline_of_two_spec : {M : Type 1} → statement M
+pipeline_of_two_spec =
+    tie.close
+    (tie.spec
+    run-requires
+    two-requires
+    same_length
+    returns)

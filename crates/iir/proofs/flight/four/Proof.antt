@@ -12,59 +12,59 @@ use Rattle.iir.proofs.flight.four.Tie as tie
 two-requires : tie.Need-two-requires
 two-requires c κs = search rules
 
-two-requires-2 : tie.Need-two-requires-2
+two-requires-2 : tie.Need-two-requires-then-row-lt3
 two-requires-2 c κs = search rules
 
-same_length : tie.Need-same-length
+same_length : tie.Need-shape_of-row-then-row-lt3
 same_length c = search rules
 
-returns : tie.Need-returns
+returns : tie.Need-returns-then-row-lt3
 returns c =
     let start = c.before.before.before.before.before.before.before.before.before.before in
-    rw (c.before.before.two2.ensures, c.before.before.before.before.before.before.two.ensures)
+    rw (c.two-then-row-lt3.ensures, c.two.ensures)
     (sym (parts (start.args.a ∷ start.args.b ∷ []) (start.args.c ∷ start.args.d ∷ []) start.args.row.now))
 
-slice-read-run : tie.Need-slice-read-run
+slice-read-run : tie.Need-bounds-row-0
 slice-read-run c = search rules
 
-run-requires : tie.Need-run-requires
+run-requires : tie.Need-run-p-requires
 run-requires c κs = search rules
 
-run-requires-2 : tie.Need-run-requires-2
+run-requires-2 : tie.Need-run-q-requires
 run-requires-2 c κs = search rules
 
-run-requires-3 : tie.Need-run-requires-3
+run-requires-3 : tie.Need-run-r-requires
 run-requires-3 c κs = search rules
 
-slice-read-run-2 : tie.Need-slice-read-run-2
+slice-read-run-2 : tie.Need-bounds-row-1
 slice-read-run-2 c = search rules
 
-run-requires-4 : tie.Need-run-requires-4
+run-requires-4 : tie.Need-run-p-requires-2
 run-requires-4 c κs = search rules
 
-run-requires-5 : tie.Need-run-requires-5
+run-requires-5 : tie.Need-run-q-requires-2
 run-requires-5 c κs = search rules
 
-slice-read-run-3 : tie.Need-slice-read-run-3
+slice-read-run-3 : tie.Need-bounds-row-2
 slice-read-run-3 c = search rules
 
-run-requires-6 : tie.Need-run-requires-6
+run-requires-6 : tie.Need-run-p-requires-3
 run-requires-6 c κs = search rules
 
-four-in-flight-requires : tie.Need-four-in-flight-requires
+four-in-flight-requires : tie.Need-four_in_flight-requires
 four-in-flight-requires c κs = search rules
 
-same-length-2 : tie.Need-same-length-2
+same-length-2 : tie.Need-shape_of-row
 same-length-2 c = search rules
 
-returns-2 : tie.Need-returns-2
+returns-2 : tie.Need-returns
 returns-2 c =
     let start = c.before.before.before.before.before.before.before.before.before.before.before.before.before.before.before in
-    rw (c.before.before.four-in-flight.ensures, c.before.before.before.before.run6.ensures, c.before.before.before.before.before.before.run5.ensures, c.before.before.before.before.before.before.before.run4.ensures, c.before.before.before.before.before.before.before.before.before.run3.ensures, c.before.before.before.before.before.before.before.before.before.before.run2.ensures, c.before.before.before.before.before.before.before.before.before.before.before.run.ensures)
-    (four_launched start.args.a start.args.b start.args.c start.args.d start.args.row.now (omega (arith, c.before.before.before.before.before.before.before.before.before.before.before.before.before.if1.false)))
+    rw (c.four_in_flight.ensures, c.run-p-3.ensures, c.run-q-2.ensures, c.run-p-2.ensures, c.run-r.ensures, c.run-q.ensures, c.run-p.ensures)
+    (four_launched start.args.a start.args.b start.args.c start.args.d start.args.row.now (omega (arith, c.if-row-lt3.false)))
 
-pub four-spec : {M : Type 1} → statement M
-four-spec =
+pub four_spec : {M : Type 1} → statement M
+four_spec =
     tie.close
     (tie.spec
     two-requires

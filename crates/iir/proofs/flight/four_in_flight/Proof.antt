@@ -11,92 +11,92 @@ use Rattle.iir.proofs.Flights.{Laid, turned, landed}
 use Rattle.iir.proofs.flight.four_in_flight.Statement.{statement}
 use Rattle.iir.proofs.flight.four_in_flight.Tie as tie
 
-abbrev invariant-loop : tie.invariant-loop
+abbrev invariant-loop : tie.invariant-loop-k
 invariant-loop row₀ p₀ q₀ r₀ s₀ k₀ row p q r s k = Laid row₀ (onward p₀ (q₀ ∷ r₀ ∷ s₀ ∷ []) (drop 3 row₀)) row k (k + 3) p (q ∷ r ∷ s ∷ [])
 
-abbrev decreases-loop : tie.decreases-loop
+abbrev decreases-loop : tie.decreases-loop-k
 decreases-loop row₀ p₀ q₀ r₀ s₀ k₀ row p q r s k = length row - k
 
-loop-holds : tie.Need-loop-init invariant-loop decreases-loop
+loop-holds : tie.Need-loop-k-init invariant-loop decreases-loop
 loop-holds c = record { within = search rules; same = refl; whole = refl }
 
-add-loop : tie.Need-overflow-add-loop invariant-loop decreases-loop
+add-loop : tie.Need-overflow_add-k invariant-loop decreases-loop
 add-loop c = omega arith
 
-run-requires : tie.Need-run-requires invariant-loop decreases-loop
+run-requires : tie.Need-run-s-requires invariant-loop decreases-loop
 run-requires c κs = search rules
 
-run-requires-2 : tie.Need-run-requires-2 invariant-loop decreases-loop
+run-requires-2 : tie.Need-run-r-requires invariant-loop decreases-loop
 run-requires-2 c κs = search rules
 
-run-requires-3 : tie.Need-run-requires-3 invariant-loop decreases-loop
+run-requires-3 : tie.Need-run-q-requires invariant-loop decreases-loop
 run-requires-3 c κs = search rules
 
-add-run : tie.Need-overflow-add-run invariant-loop decreases-loop
+add-run : tie.Need-overflow_add-k-in-loop-k invariant-loop decreases-loop
 add-run c = omega arith
 
-mul-run : tie.Need-overflow-mul-run invariant-loop decreases-loop
+mul-run : tie.Need-offset_bounds-row-k invariant-loop decreases-loop
 mul-run c = omega arith
 
-slice-read-run : tie.Need-slice-read-run invariant-loop decreases-loop
+slice-read-run : tie.Need-bounds-row-k invariant-loop decreases-loop
 slice-read-run c = omega arith
 
-run-requires-4 : tie.Need-run-requires-4 invariant-loop decreases-loop
+run-requires-4 : tie.Need-run-p-requires invariant-loop decreases-loop
 run-requires-4 c κs = search rules
 
-mul-row : tie.Need-overflow-mul-row invariant-loop decreases-loop
+mul-row : tie.Need-offset_bounds-row-k-in-loop-k invariant-loop decreases-loop
 mul-row c = omega arith
 
-slice-write-row : tie.Need-slice-write-row invariant-loop decreases-loop
+slice-write-row : tie.Need-bounds-row-k-in-loop-k invariant-loop decreases-loop
 slice-write-row c = omega arith
 
-add-k : tie.Need-overflow-add-k invariant-loop decreases-loop
+add-k : tie.Need-overflow_add-k-in-loop-k-2 invariant-loop decreases-loop
 add-k c = omega arith
 
-loop-less : tie.Need-loop-smaller invariant-loop decreases-loop
+loop-less : tie.Need-loop-k-smaller invariant-loop decreases-loop
 loop-less c = simp length-set (omega arith)
 
-loop-again : tie.Need-loop-preserved invariant-loop decreases-loop
+loop-again : tie.Need-loop-k-preserved invariant-loop decreases-loop
 unfolding given pipelined
 loop-again c =
-    let at = c.before.before.before.before.before.before.loop in
-    rw (c.before.before.before.before.run.ensures, c.before.before.before.run2.ensures, c.before.before.run3.ensures, c.run4.ensures)
+    let at = c.loop-k in
+    rw (c.run-s.ensures, c.run-r.ensures, c.run-q.ensures, c.run-p.ensures)
     (turned _ _ at.row at.k (at.k + 3) at.p (at.q ∷ at.r ∷ at.s ∷ []) at.invariant (omega arith) (omega arith) (at.k + 1 + 3) (omega arith))
 
-add_row : tie.Need-overflow-add-row invariant-loop decreases-loop
+add_row : tie.Need-overflow_add-row invariant-loop decreases-loop
 add_row c = omega arith
 
-mul-row-2 : tie.Need-overflow-mul-row-2 invariant-loop decreases-loop
+mul-row-2 : tie.Need-offset_bounds-row-k-2 invariant-loop decreases-loop
 mul-row-2 c = omega arith
 
-slice-write-row-2 : tie.Need-slice-write-row-2 invariant-loop decreases-loop
+slice-write-row-2 : tie.Need-bounds-row-k-2 invariant-loop decreases-loop
 slice-write-row-2 c = omega arith
 
-mul-three-in-flight : tie.Need-overflow-mul-three-in-flight invariant-loop decreases-loop
+mul-three-in-flight : tie.Need-offset_bounds-row-k-3 invariant-loop decreases-loop
 mul-three-in-flight c = omega arith
 
-sub-three-in-flight : tie.Need-overflow-sub-three-in-flight invariant-loop decreases-loop
+sub-three-in-flight : tie.Need-slice_bounds-three_in_flight-count invariant-loop decreases-loop
 sub-three-in-flight c = simp length-set (omega arith)
 
-part-three-in-flight-start : tie.Need-slice-bounds-three-in-flight-start invariant-loop decreases-loop
+part-three-in-flight-start : tie.Need-slice_bounds-three_in_flight-start invariant-loop decreases-loop
 part-three-in-flight-start c = simp length-set (omega arith)
 
-part-three-in-flight-end : tie.Need-slice-bounds-three-in-flight-end invariant-loop decreases-loop
+part-three-in-flight-end : tie.Need-slice_bounds-three_in_flight-end invariant-loop decreases-loop
 part-three-in-flight-end c = omega arith
 
-three-in-flight-requires : tie.Need-three-in-flight-requires invariant-loop decreases-loop
+three-in-flight-requires : tie.Need-three_in_flight-requires invariant-loop decreases-loop
 three-in-flight-requires c κs = simp (length-take, length-drop, length-set) (omega arith)
 
-same_length : tie.Need-same-length invariant-loop decreases-loop
-same_length c = c.before.row.given.1 ∙ simp length-set c.before.before.before.before.before.loop.invariant.same
+same_length : tie.Need-shape_of-row invariant-loop decreases-loop
+same_length c = c.row-1.given.1 ∙ simp length-set c.loop-k.invariant.same
 
 returns : tie.Need-returns invariant-loop decreases-loop
 returns c =
-    let at = c.before.before.before.before.before.loop in
-    landed _ _ at.row at.k (at.k + 2) (at.k + 3) 2 at.p at.q (at.r ∷ at.s ∷ []) at.invariant (omega arith) (omega arith) (omega arith) _ c.before.before.three-in-flight.ensures
+    let at = c.loop-k in
+    landed _ _ at.row at.k (at.k + 2) (at.k + 3) 2 at.p at.q (at.r ∷ at.s ∷ []) at.invariant (omega arith) (omega arith) (omega arith) _ c.three_in_flight.ensures
 
-pub four-in-flight-spec : {M : Type 1} → statement M
-four-in-flight-spec =
+pub four_in_flight_spec : {M : Type 1} → statement M
+four_in_flight_spec =
     tie.close
     (tie.spec
     invariant-loop

@@ -15,44 +15,44 @@ one-requires c κs = search rules
 two-requires : tie.Need-two-requires
 two-requires c κs = search rules
 
-same_length : tie.Need-same-length
+same_length : tie.Need-shape_of-row-then-row-lt2
 same_length c = search rules
 
-returns : tie.Need-returns
+returns : tie.Need-returns-then-row-lt2
 returns c =
     let start = c.before.before.before.before.before.before.before.before.before.before in
-    rw (c.before.before.two.ensures, c.before.before.before.before.before.before.one.ensures)
+    rw (c.two.ensures, c.one.ensures)
     (sym (first start.args.a (start.args.b ∷ start.args.c ∷ []) start.args.row.now))
 
-slice-read-run : tie.Need-slice-read-run
+slice-read-run : tie.Need-bounds-row-0
 slice-read-run c = search rules
 
-run-requires : tie.Need-run-requires
+run-requires : tie.Need-run-p-requires
 run-requires c κs = search rules
 
-run-requires-2 : tie.Need-run-requires-2
+run-requires-2 : tie.Need-run-q-requires
 run-requires-2 c κs = search rules
 
-slice-read-run-2 : tie.Need-slice-read-run-2
+slice-read-run-2 : tie.Need-bounds-row-1
 slice-read-run-2 c = search rules
 
-run-requires-3 : tie.Need-run-requires-3
+run-requires-3 : tie.Need-run-p-requires-2
 run-requires-3 c κs = search rules
 
-three-in-flight-requires : tie.Need-three-in-flight-requires
+three-in-flight-requires : tie.Need-three_in_flight-requires
 three-in-flight-requires c κs = search rules
 
-same-length-2 : tie.Need-same-length-2
+same-length-2 : tie.Need-shape_of-row
 same-length-2 c = search rules
 
-returns-2 : tie.Need-returns-2
+returns-2 : tie.Need-returns
 returns-2 c =
     let start = c.before.before.before.before.before.before.before.before.before.before.before in
-    rw (c.before.before.three-in-flight.ensures, c.before.before.before.before.run3.ensures, c.before.before.before.before.before.before.run2.ensures, c.before.before.before.before.before.before.before.run.ensures)
-    (three_launched start.args.a start.args.b start.args.c start.args.row.now (omega (arith, c.before.before.before.before.before.before.before.before.before.if1.false)))
+    rw (c.three_in_flight.ensures, c.run-p-2.ensures, c.run-q.ensures, c.run-p.ensures)
+    (three_launched start.args.a start.args.b start.args.c start.args.row.now (omega (arith, c.if-row-lt2.false)))
 
-pub three-spec : {M : Type 1} → statement M
-three-spec =
+pub three_spec : {M : Type 1} → statement M
+three_spec =
     tie.close
     (tie.spec
     one-requires

@@ -17,7 +17,7 @@ play-requires c κs = search rules
 returns : tie.Need-returns
 unfolding command_of
 returns c =
-    rw (sym c.before.before.is_IsWord.ensures ∙ c.before.if1.true) c.play.ensures
+    rw (sym c.before.before.is_word.ensures ∙ c.before.if1.true) c.play.ensures
 
 slice-aggregate-is-word-2 : tie.Need-slice-aggregate-is-word-2
 slice-aggregate-is-word-2 c = search rules
@@ -32,7 +32,7 @@ returns-2 : tie.Need-returns-2
 unfolding command_of
 returns-2 c =
     rw (
-      sym c.before.before.before.before.before.is_IsWord.ensures ∙ c.before.before.before.before.if1.false,
+      sym c.before.before.before.before.before.is_word.ensures ∙ c.before.before.before.before.if1.false,
       sym c.before.before.is-word2.ensures ∙ c.before.if2.true,
     ) c.swap.ensures
 
@@ -49,7 +49,7 @@ returns-3 : tie.Need-returns-3
 unfolding command_of
 returns-3 c =
     rw (
-      sym c.before.before.before.before.before.before.before.before.is_IsWord.ensures ∙ c.before.before.before.before.before.before.before.if1.false,
+      sym c.before.before.before.before.before.before.before.before.is_word.ensures ∙ c.before.before.before.before.before.before.before.if1.false,
       sym c.before.before.before.before.before.is-word2.ensures ∙ c.before.before.before.before.if2.false,
       sym c.before.before.is-word3.ensures ∙ c.before.if3.true,
     ) c.barrier.ensures
@@ -61,7 +61,7 @@ returns-4 : tie.Need-returns-4
 unfolding command_of
 returns-4 c =
     rw (
-      sym c.before.before.before.before.before.before.before.before.is_IsWord.ensures ∙ c.before.before.before.before.before.before.before.if1.false,
+      sym c.before.before.before.before.before.before.before.before.is_word.ensures ∙ c.before.before.before.before.before.before.before.if1.false,
       sym c.before.before.before.before.before.is-word2.ensures ∙ c.before.before.before.before.if2.false,
       sym c.before.before.is-word3.ensures ∙ c.before.if3.false,
     ) c.step.ensures

@@ -23,7 +23,7 @@ shift-phase-requires c κs = search rules
 returns : tie.Need-returns
 unfolding step_of
 returns c =
-    rw (sym c.before.before.before.before.is_IsWord.ensures ∙ c.before.before.before.if1.true) (c.shift-phase.ensures ∙ ap shift_phase_by c.before.turn_by.ensures)
+    rw (sym c.before.before.before.before.is_word.ensures ∙ c.before.before.before.if1.true) (c.shift-phase.ensures ∙ ap shift_phase_by c.before.turn_by.ensures)
 
 slice-aggregate-is-word-2 : tie.Need-slice-aggregate-is-word-2
 slice-aggregate-is-word-2 c = search rules
@@ -44,7 +44,7 @@ returns-2 : tie.Need-returns-2
 unfolding step_of
 returns-2 c =
     rw (
-      sym c.before.before.before.before.before.before.before.is_IsWord.ensures ∙ c.before.before.before.before.before.before.if1.false,
+      sym c.before.before.before.before.before.before.before.is_word.ensures ∙ c.before.before.before.before.before.before.if1.false,
       sym c.before.before.before.before.is-word2.ensures ∙ c.before.before.before.if2.true,
     ) (c.set-phase.ensures ∙ ap set_phase_by c.before.turn-by2.ensures)
 
@@ -73,7 +73,7 @@ returns-3 c =
     let c9 = c7.before.before in
     let c10 = c9.before in
     rw (
-      sym c10.is_IsWord.ensures ∙ c9.if1.false,
+      sym c10.is_word.ensures ∙ c9.if1.false,
       sym c7.is-word2.ensures ∙ c6.if2.false,
       sym c4.is-word3.ensures ∙ c3.if3.true,
     ) (c.shift_freq.ensures ∙ ap shift_freq_by c.before.turn-by3.ensures)
@@ -105,7 +105,7 @@ returns-4 c =
     let c12 = c10.before.before in
     let c13 = c12.before in
     rw (
-      sym c13.is_IsWord.ensures ∙ c12.if1.false,
+      sym c13.is_word.ensures ∙ c12.if1.false,
       sym c10.is-word2.ensures ∙ c9.if2.false,
       sym c7.is-word3.ensures ∙ c6.if3.false,
       sym c4.is-word4.ensures ∙ c3.if4.true,
@@ -125,7 +125,7 @@ returns-5 c =
     let c10 = c8.before.before in
     let c11 = c10.before in
     rw (
-      sym c11.is_IsWord.ensures ∙ c10.if1.false,
+      sym c11.is_word.ensures ∙ c10.if1.false,
       sym c8.is-word2.ensures ∙ c7.if2.false,
       sym c5.is-word3.ensures ∙ c4.if3.false,
       sym c2.is-word4.ensures ∙ c.before.if4.false,

@@ -28,7 +28,7 @@ unfolding action_of
 returns-2 c =
     rw (
       equals c.before.before.before.before.count.ensures c.before.before.before.if1.false,
-      sym c.before.is_IsWord.ensures ∙ c.if2.true,
+      sym c.before.is_word.ensures ∙ c.if2.true,
     )
 
 slice-aggregate-is-word-2 : tie.Need-slice-aggregate-is-word-2
@@ -42,7 +42,7 @@ unfolding action_of
 returns-3 c =
     rw (
       equals c.before.before.before.before.before.before.before.count.ensures c.before.before.before.before.before.before.if1.false,
-      sym c.before.before.before.before.is_IsWord.ensures ∙ c.before.before.before.if2.false,
+      sym c.before.before.before.before.is_word.ensures ∙ c.before.before.before.if2.false,
       sym c.before.is-word2.ensures ∙ c.if3.true,
     )
 
@@ -63,7 +63,7 @@ returns-4 c =
     let c10 = c9.before in
     rw (
       equals c10.count.ensures c9.if1.false,
-      sym c7.is_IsWord.ensures ∙ c6.if2.false,
+      sym c7.is_word.ensures ∙ c6.if2.false,
       sym c4.is-word2.ensures ∙ c3.if3.false,
       sym c.before.is-word3.ensures ∙ c.if4.true,
     )
@@ -83,7 +83,7 @@ returns-5 c =
     let c11 = c10.before in
     rw (
       equals c11.count.ensures c10.if1.false,
-      sym c8.is_IsWord.ensures ∙ c7.if2.false,
+      sym c8.is_word.ensures ∙ c7.if2.false,
       sym c5.is-word2.ensures ∙ c4.if3.false,
       sym c2.is-word3.ensures ∙ c.before.if4.false,
     ) c.command2.ensures

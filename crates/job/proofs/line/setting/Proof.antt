@@ -17,7 +17,7 @@ tables-requires c κs = search rules
 returns : tie.Need-returns
 unfolding setting_of
 returns c =
-    rw (sym c.before.before.is_IsWord.ensures ∙ c.before.if1.true) c.tables.ensures
+    rw (sym c.before.before.is_word.ensures ∙ c.before.if1.true) c.tables.ensures
 
 slice-aggregate-is-word-2 : tie.Need-slice-aggregate-is-word-2
 slice-aggregate-is-word-2 c = search rules
@@ -32,7 +32,7 @@ returns-2 : tie.Need-returns-2
 unfolding setting_of
 returns-2 c =
     rw (
-      sym c.before.before.before.before.before.is_IsWord.ensures ∙ c.before.before.before.before.if1.false,
+      sym c.before.before.before.before.before.is_word.ensures ∙ c.before.before.before.before.if1.false,
       sym c.before.before.is-word2.ensures ∙ c.before.if2.true,
     ) c.channel.ensures
 
@@ -49,7 +49,7 @@ returns-3 : tie.Need-returns-3
 unfolding setting_of
 returns-3 c =
     rw (
-      sym c.before.before.before.before.before.before.before.before.is_IsWord.ensures ∙ c.before.before.before.before.before.before.before.if1.false,
+      sym c.before.before.before.before.before.before.before.before.is_word.ensures ∙ c.before.before.before.before.before.before.before.if1.false,
       sym c.before.before.before.before.before.is-word2.ensures ∙ c.before.before.before.before.if2.false,
       sym c.before.before.is-word3.ensures ∙ c.before.if3.true,
     ) c.shape.ensures
@@ -74,7 +74,7 @@ returns-4 c =
     let c10 = c8.before.before in
     let c11 = c10.before in
     rw (
-      sym c11.is_IsWord.ensures ∙ c10.if1.false,
+      sym c11.is_word.ensures ∙ c10.if1.false,
       sym c8.is-word2.ensures ∙ c7.if2.false,
       sym c5.is-word3.ensures ∙ c4.if3.false,
       sym c2.is-word4.ensures ∙ c.before.if4.true,
@@ -102,7 +102,7 @@ returns-5 c =
     let c13 = c11.before.before in
     let c14 = c13.before in
     rw (
-      sym c14.is_IsWord.ensures ∙ c13.if1.false,
+      sym c14.is_word.ensures ∙ c13.if1.false,
       sym c11.is-word2.ensures ∙ c10.if2.false,
       sym c8.is-word3.ensures ∙ c7.if3.false,
       sym c5.is-word4.ensures ∙ c4.if4.false,
@@ -125,7 +125,7 @@ returns-6 c =
     let c13 = c11.before.before in
     let c14 = c13.before in
     rw (
-      sym c14.is_IsWord.ensures ∙ c13.if1.false,
+      sym c14.is_word.ensures ∙ c13.if1.false,
       sym c11.is-word2.ensures ∙ c10.if2.false,
       sym c8.is-word3.ensures ∙ c7.if3.false,
       sym c5.is-word4.ensures ∙ c4.if4.false,

@@ -26,7 +26,7 @@ unfolding shape_of
 returns-2 c =
     rw (
       equals c.before.before.before.before.count.ensures c.before.before.before.if1.false,
-      taken _ _ c.before.is_IsWord.ensures c.if2.true,
+      taken _ _ c.before.is_word.ensures c.if2.true,
     )
 
 slice-aggregate-name-in : tie.Need-slice-aggregate-name-in
@@ -46,7 +46,7 @@ unfolding shape_of
 returns-3 c =
     rw (
       equals c.before.before.before.before.before.before.before.before.before.count.ensures c.before.before.before.before.before.before.before.before.if1.false,
-      passed _ _ c.before.before.before.before.before.before.is_IsWord.ensures c.before.before.before.before.before.if2.false,
+      passed _ _ c.before.before.before.before.before.before.is_word.ensures c.before.before.before.before.before.if2.false,
       sym c.before.before.before.name_in.ensures ∙ c.before.named.given.1,
     )
 
@@ -55,7 +55,7 @@ unfolding shape_of
 returns-4 c =
     rw (
       equals c.before.before.before.before.before.before.before.before.count.ensures c.before.before.before.before.before.before.before.if1.false,
-      passed _ _ c.before.before.before.before.before.is_IsWord.ensures c.before.before.before.before.if2.false,
+      passed _ _ c.before.before.before.before.before.is_word.ensures c.before.before.before.before.if2.false,
       sym c.before.before.name_in.ensures ∙ c.enum_told.given.1,
     )
 

@@ -19,7 +19,7 @@ unfolding list_of
 returns c =
     let c1 = c.before in
     let c2 = c1.before in
-    rw (sym c2.is_IsWord.ensures ∙ c1.if1.true) c.mixer.ensures
+    rw (sym c2.is_word.ensures ∙ c1.if1.true) c.mixer.ensures
 
 slice-aggregate-is-word-2 : tie.Need-slice-aggregate-is-word-2
 slice-aggregate-is-word-2 c = search rules
@@ -41,7 +41,7 @@ returns-2 c =
     let c5 = c3.before.before in
     let c6 = c5.before in
     rw (
-      sym c6.is_IsWord.ensures ∙ c5.if1.false,
+      sym c6.is_word.ensures ∙ c5.if1.false,
       sym c3.is-word2.ensures ∙ c2.if2.true,
     ) (c.iir.ensures ∙ ap iir_by c.before.counted.ensures)
 
@@ -67,7 +67,7 @@ returns-3 c =
     let c8 = c6.before.before in
     let c9 = c8.before in
     rw (
-      sym c9.is_IsWord.ensures ∙ c8.if1.false,
+      sym c9.is_word.ensures ∙ c8.if1.false,
       sym c6.is-word2.ensures ∙ c5.if2.false,
       sym c3.is-word3.ensures ∙ c2.if3.true,
     ) (c.fir.ensures ∙ ap fir_by c.before.counted2.ensures)
@@ -93,7 +93,7 @@ returns-4 c =
     let c10 = c8.before.before in
     let c11 = c10.before in
     rw (
-      sym c11.is_IsWord.ensures ∙ c10.if1.false,
+      sym c11.is_word.ensures ∙ c10.if1.false,
       sym c8.is-word2.ensures ∙ c7.if2.false,
       sym c5.is-word3.ensures ∙ c4.if3.false,
       sym c2.is-word4.ensures ∙ c1.if4.true,
@@ -122,7 +122,7 @@ returns-5 c =
     let c13 = c11.before.before in
     let c14 = c13.before in
     rw (
-      sym c14.is_IsWord.ensures ∙ c13.if1.false,
+      sym c14.is_word.ensures ∙ c13.if1.false,
       sym c11.is-word2.ensures ∙ c10.if2.false,
       sym c8.is-word3.ensures ∙ c7.if3.false,
       sym c5.is-word4.ensures ∙ c4.if4.false,
@@ -154,7 +154,7 @@ returns-6 c =
     let c16 = c14.before.before in
     let c17 = c16.before in
     rw (
-      sym c17.is_IsWord.ensures ∙ c16.if1.false,
+      sym c17.is_word.ensures ∙ c16.if1.false,
       sym c14.is-word2.ensures ∙ c13.if2.false,
       sym c11.is-word3.ensures ∙ c10.if3.false,
       sym c8.is-word4.ensures ∙ c7.if4.false,
@@ -177,7 +177,7 @@ returns-7 c =
     let c15 = c13.before.before in
     let c16 = c15.before in
     rw (
-      sym c16.is_IsWord.ensures ∙ c15.if1.false,
+      sym c16.is_word.ensures ∙ c15.if1.false,
       sym c13.is-word2.ensures ∙ c12.if2.false,
       sym c10.is-word3.ensures ∙ c9.if3.false,
       sym c7.is-word4.ensures ∙ c6.if4.false,

@@ -5,17 +5,23 @@ use Rattle.lines.proofs.Nan.{is-not, nan-of-bits, zero_by_zero}
 use Rattle.lines.proofs.field.float_of.Statement.{statement}
 use Rattle.lines.proofs.field.float_of.Tie as tie
 
-nan-bits-requires : tie.Need-nan-bits-requires
+nan-bits-requires : tie.Need-nan_bits-requires
 nan-bits-requires c κs = search rules
 
-returns : tie.Need-returns
-returns c = zero_by_zero ∙ sym (nan-of-bits _ (sym c.before.nan-bits.ensures ∙ c.if1.true))
+returns : tie.Need-returns-then-nan_bits
+returns c = zero_by_zero ∙ sym (nan-of-bits _ (sym c.nan_bits.ensures ∙ c.if-nan_bits.true))
 
-float-from-bits-result : tie.Need-float-from-bits-result
-float-from-bits-result c = is-not _ (sym c.before.nan-bits.ensures ∙ c.if1.false)
+float-from-bits-result : tie.Need-float_from_bits-result
+float-from-bits-result c = is-not _ (sym c.nan_bits.ensures ∙ c.if-nan_bits.false)
 
-returns-2 : tie.Need-returns-2
+returns-2 : tie.Need-returns
 returns-2 c = search rules
 
-pub float-of-spec : {M : Type 1} → statement M
-float-of-spec = tie.close (tie.spec nan-bits-requires returns float-from-bits-result returns-2)
+pub float_of_spec : {M : Type 1} → statement M
+float_of_spec =
+    tie.close
+    (tie.spec
+    nan-bits-requires
+    returns
+    float-from-bits-result
+    returns-2)

@@ -9,5 +9,8 @@ use Rattle.lines.proofs.field.nan_bits.Tie as tie
 returns : tie.Need-returns
 returns c = sym (nan_bits_above binary64 c.args.bits)
 
-pub nan-bits-spec : {M : Type 1} → statement M
-nan-bits-spec = tie.close (tie.spec returns)
+pub nan_bits_spec : {M : Type 1} → statement M
+nan_bits_spec =
+    tie.close
+    (tie.spec
+    returns)

@@ -8,5 +8,8 @@ use Rattle.lines.proofs.text.room.Tie as tie
 returns : tie.Need-returns
 returns c = (sym (length-replicate {0} {A = ℕ} 1048576 0), refl)
 
-pub room-spec : {M : Type 1} → statement M
-room-spec = tie.close (tie.spec returns)
+pub room_spec : {M : Type 1} → statement M
+room_spec =
+    tie.close
+    (tie.spec
+    returns)

@@ -10,7 +10,12 @@ add-requires-2 : tie.Need-add-requires-2
 add-requires-2 c κs = search rules
 
 returns : tie.Need-returns
-returns c = rw (c.before.add.ensures, c.add2.ensures)
+returns c = rw (c.add.ensures, c.add-2.ensures)
 
-pub plus-spec : {M : Type 1} → statement M
-plus-spec = tie.close (tie.spec add-requires add-requires-2 returns)
+pub plus_spec : {M : Type 1} → statement M
+plus_spec =
+    tie.close
+    (tie.spec
+    add-requires
+    add-requires-2
+    returns)

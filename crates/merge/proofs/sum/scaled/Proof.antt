@@ -10,7 +10,12 @@ scale-requires-2 : tie.Need-scale-requires-2
 scale-requires-2 c κs = search rules
 
 returns : tie.Need-returns
-returns c = rw (c.before.scale.ensures, c.scale2.ensures)
+returns c = rw (c.scale.ensures, c.scale-2.ensures)
 
-pub scaled-spec : {M : Type 1} → statement M
-scaled-spec = tie.close (tie.spec scale-requires scale-requires-2 returns)
+pub scaled_spec : {M : Type 1} → statement M
+scaled_spec =
+    tie.close
+    (tie.spec
+    scale-requires
+    scale-requires-2
+    returns)

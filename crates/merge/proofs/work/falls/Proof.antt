@@ -3,14 +3,19 @@ use borrow.Author.Rules.{rules}
 use Rattle.merge.proofs.work.falls.Statement.{statement}
 use Rattle.merge.proofs.work.falls.Tie as tie
 
-is-near-requires : tie.Need-is-near-requires
+is-near-requires : tie.Need-is_near-requires
 is-near-requires c κs = search rules
 
 both-requires : tie.Need-both-requires
 both-requires c κs = search rules
 
 returns : tie.Need-returns
-returns c = rw (c.both.ensures, c.before.is-near.ensures)
+returns c = rw (c.both.ensures, c.is_near.ensures)
 
-pub falls-spec : {M : Type 1} → statement M
-falls-spec = tie.close (tie.spec is-near-requires both-requires returns)
+pub falls_spec : {M : Type 1} → statement M
+falls_spec =
+    tie.close
+    (tie.spec
+    is-near-requires
+    both-requires
+    returns)

@@ -13,6 +13,7 @@ use Rattle.merge.specs.Sum.{plus_p, together_in_bin}
 use Rattle.merge.specs.Work.{row_of_pulse, mark_of, laid}
 use Rattle.merge.specs.Keep.{pulse_in, kept_in}
 use Rattle.merge.proofs.work.keep.Statement.{statement}
+use Rattle.merge.proofs.work.keep.Lts.{then-from-at+else-falls, else-from-at}
 use Rattle.merge.proofs.work.keep.Tie as tie
 
 -- the three ways; k is the pulse of the last row, and b whether p falls onto it
@@ -36,22 +37,22 @@ module _ (l : List (List Float)) (ms : List ℕ) (from at : ℕ) (p : Pulse) (t 
   unfolding kept_in
   fresh row er h = rw (er, le-ltb from at h)
 
-sub-last : tie.Need-overflow-sub-last
+sub-last : tie.Need-overflow_sub-last
 sub-last c = search rules
 
-mul-pulse-in : tie.Need-overflow-mul-pulse-in
+mul-pulse-in : tie.Need-offset_bounds-work-last
 mul-pulse-in c = search rules
 
-slice-copy-out-pulse-in : tie.Need-slice-copy-out-pulse-in
+slice-copy-out-pulse-in : tie.Need-slice_copy_out-pulse_in
 slice-copy-out-pulse-in c = search rules
 
-mul-pulse-in-2 : tie.Need-overflow-mul-pulse-in-2
+mul-pulse-in-2 : tie.Need-offset_bounds-marks-last
 mul-pulse-in-2 c = search rules
 
-slice-read-pulse-in : tie.Need-slice-read-pulse-in
+slice-read-pulse-in : tie.Need-bounds-marks-last
 slice-read-pulse-in c = search rules
 
-pulse-in-requires : tie.Need-pulse-in-requires
+pulse-in-requires : tie.Need-pulse_in-kept-requires
 pulse-in-requires c κs = search rules
 
 falls-requires : tie.Need-falls-requires
@@ -60,59 +61,58 @@ falls-requires c κs = search rules
 plus-requires : tie.Need-plus-requires
 plus-requires c κs = search rules
 
-row-of-requires : tie.Need-row-of-requires
+row-of-requires : tie.Need-row_of-requires
 row-of-requires c κs = search rules
 
-mul-t19 : tie.Need-overflow-mul-t19
+mul-t19 : tie.Need-offset_bounds-work-last-then-falls
 mul-t19 c = search rules
 
-slice-set-from-work : tie.Need-slice-set-from-work
+slice-set-from-work : tie.Need-bounds-work-last
 slice-set-from-work c = search rules
 
-same_length : tie.Need-same-length
+same_length : tie.Need-shape_of-work-then-falls
 same_length c = search rules
 
-returns : tie.Need-returns
+returns : tie.Need-returns-then-falls
 returns c =
-    let f = c.before.before.before in
-    let k = f.before in
-    let a = k.before.before.before.before.before.args in
-    added a.work.now a.marks.now a.from a.at a.p a.tolerance.0 k.pulse-in.result f.falls.result k.before.before.before.if1.true k.pulse-in.ensures
-    f.falls.ensures
-    c.before.plus.result c.row_of.result c.before.plus.ensures c.row_of.ensures c.before.before.if2.true
+    let a = c.args in
+    added a.work.now a.marks.now a.from a.at a.p a.tolerance.0 c.pulse_in-kept.result c.falls.result c.if-from-at.true c.pulse_in-kept.ensures
+    c.falls.ensures
+    c.plus.result c.row_of.result c.plus.ensures c.row_of.ensures c.if-falls.true
 
-row-of-requires-2 : tie.Need-row-of-requires-2
+row-of-requires-2 : tie.Need-row_of-requires-2
 row-of-requires-2 c κs = search rules
 
-mul-t22 : tie.Need-overflow-mul-t22
+mul-t22 : tie.Need-offset_bounds-work-at
 mul-t22 c = search rules
 
-slice-set-from-work-2 : tie.Need-slice-set-from-work-2
+slice-set-from-work-2 : tie.Need-bounds-work-at
 slice-set-from-work-2 c = search rules
 
-mul-marks : tie.Need-overflow-mul-marks
+mul-marks : tie.Need-offset_bounds-marks-at
 mul-marks c = search rules
 
-slice-write-marks : tie.Need-slice-write-marks
+slice-write-marks : tie.Need-bounds-marks-at
 slice-write-marks c = search rules
 
-add-result : tie.Need-overflow-add-result
+add-result : tie.Need-overflow_add-result
 add-result c = search rules
 
-same-length-2 : tie.Need-same-length-2
+same-length-2 : tie.Need-shape_of-work
 same-length-2 c = search rules
 
-same-length-3 : tie.Need-same-length-3
+same-length-3 : tie.Need-shape_of-marks
 same-length-3 c = search rules
 
-returns-2 : tie.Need-returns-2
+returns-2 : tie.Need-returns
 returns-2 c =
-    let a = c.before.before.before.args in
-    ⊎_elim
-    (λ w. apart a.work.now a.marks.now a.from a.at a.p a.tolerance.0 w.3.result w.4.result w.0.taken w.3.ensures w.4.ensures c.row-of2.result
-    c.row-of2.ensures w.5.left)
-    (λ w. fresh a.work.now a.marks.now a.from a.at a.p a.tolerance.0 c.row-of2.result c.row-of2.ensures w.left)
-    c.before.if1.branch
+    let a = c.args in
+    elim c.if-from-at.branch [
+      then-from-at+else-falls w ↦
+        apart a.work.now a.marks.now a.from a.at a.p a.tolerance.0 w.pulse_in-kept.result w.falls.result w.if-from-at.true w.pulse_in-kept.ensures
+        w.falls.ensures c.row_of-2.result c.row_of-2.ensures w.if-falls.false
+      | else-from-at w ↦ fresh a.work.now a.marks.now a.from a.at a.p a.tolerance.0 c.row_of-2.result c.row_of-2.ensures w.if-from-at.false
+    ]
 
 pub keep_spec : {M : Type 1} → statement M
 keep_spec =

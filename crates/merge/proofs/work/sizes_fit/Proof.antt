@@ -10,7 +10,12 @@ both-requires-2 : tie.Need-both-requires-2
 both-requires-2 c κs = search rules
 
 returns : tie.Need-returns
-returns c = rw (c.both2.ensures, c.before.both.ensures)
+returns c = rw (c.both-2.ensures, c.both.ensures)
 
-pub sizes-fit-spec : {M : Type 1} → statement M
-sizes-fit-spec = tie.close (tie.spec both-requires both-requires-2 returns)
+pub sizes_fit_spec : {M : Type 1} → statement M
+sizes_fit_spec =
+    tie.close
+    (tie.spec
+    both-requires
+    both-requires-2
+    returns)

@@ -4,35 +4,35 @@ use borrow.Author.Rules.{rules}
 use Rattle.merge.proofs.work.span_of.Statement.{statement}
 use Rattle.merge.proofs.work.span_of.Tie as tie
 
-mul-i : tie.Need-overflow-mul-i
+mul-i : tie.Need-offset_bounds-taking-k
 mul-i c = search rules
 
-element-copy-out-i : tie.Need-element-copy-out-i
+element-copy-out-i : tie.Need-bounds-taking-k
 element-copy-out-i c = search rules
 
-returns : tie.Need-returns
-returns c = rw (le-ltb _ _ c.if1.true)
+returns : tie.Need-returns-then-i-ge8
+returns c = rw (le-ltb _ _ c.if-i-ge8.true)
 
-mul-c : tie.Need-overflow-mul-c
+mul-c : tie.Need-offset_bounds-t-i
 mul-c c = search rules
 
-element-copy-out-c : tie.Need-element-copy-out-c
+element-copy-out-c : tie.Need-bounds-t-i
 element-copy-out-c c = search rules
 
-mul-t16 : tie.Need-overflow-mul-t16
+mul-t16 : tie.Need-overflow_mul-result
 mul-t16 c = search rules
 
-returns-2 : tie.Need-returns-2
-returns-2 c = rw (lt-ltb _ _ c.before.before.before.if1.false, lt-ltb _ _ c.if2.true)
+returns-2 : tie.Need-returns-then-c-lt1024
+returns-2 c = rw (lt-ltb _ _ c.if-i-ge8.false, lt-ltb _ _ c.if-c-lt1024.true)
 
-mul-t11 : tie.Need-overflow-mul-t11
+mul-t11 : tie.Need-overflow_mul-result-2
 mul-t11 c = search rules
 
-returns-3 : tie.Need-returns-3
-returns-3 c = rw (lt-ltb _ _ c.before.before.before.if1.false, le-ltb _ _ c.if2.false)
+returns-3 : tie.Need-returns
+returns-3 c = rw (lt-ltb _ _ c.if-i-ge8.false, le-ltb _ _ c.if-c-lt1024.false)
 
-pub span-of-spec : {M : Type 1} → statement M
-span-of-spec =
+pub span_of_spec : {M : Type 1} → statement M
+span_of_spec =
     tie.close
     (tie.spec
     mul-i

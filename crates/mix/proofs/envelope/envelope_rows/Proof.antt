@@ -25,7 +25,7 @@ unlaid : (part : Complex → Float) (amp drag d z : Complex) (points row : List 
     → Laid (shaped_by part amp drag d points z row) row row 0 (shaped part amp drag d nought (drop 0 points) z (drop 0 row))
 unlaid part amp drag d z points row = record { within = omega arith; same = refl; whole = refl }
 
-abbrev invariant-loop : tie.invariant-loop
+abbrev invariant-loop : tie.invariant-loop-k
 invariant-loop i₀ q₀ points amp drag rotation left₀ here₀ last₀ re₀ k₀ i q left here last re k =
     Laid (take k₀ i₀ ++ shaped real amp drag rotation left₀ (drop k₀ points) (ahead re₀ last₀ rotation) (drop k₀ i₀)) i₀ i k (shaped real amp drag rotation left (drop k points) (ahead re last rotation) (drop k i))
     × Laid (take k₀ q₀ ++ shaped imaginary amp drag rotation left₀ (drop k₀ points) (ahead re₀ last₀ rotation) (drop k₀ q₀)) q₀ q k (shaped imaginary amp drag rotation left (drop k points) (ahead re last rotation) (drop k q))
@@ -34,104 +34,102 @@ invariant-loop i₀ q₀ points amp drag rotation left₀ here₀ last₀ re₀ 
     × (length q ≡ length points)
     × (8 * length points < 2 ^ 63)
 
-abbrev decreases-loop : tie.decreases-loop
+abbrev decreases-loop : tie.decreases-loop-k
 decreases-loop i₀ q₀ points amp drag rotation left₀ here₀ last₀ re₀ k₀ i q left here last re k = length i - k
 
-returns : tie.Need-returns invariant-loop decreases-loop
+returns : tie.Need-returns-then-i-lt1 invariant-loop decreases-loop
 returns c =
-    let s = c.before.before.before.before in
-    let a = s.args in (
-      envelope-end real a.amp a.drag a.rotation a.points.now _ _ a.i.now 0 nought a.carrier (omega arith) (omega (arith, s.requires.0)) (unlaid real a.amp a.drag a.rotation a.carrier a.points.now a.i.now),
-      envelope-end imaginary a.amp a.drag a.rotation a.points.now _ _ a.q.now 0 nought a.carrier (omega (arith, s.requires.0, s.requires.1)) (omega (arith, s.requires.0)) (unlaid imaginary a.amp a.drag a.rotation a.carrier a.points.now a.q.now),
+    let a = c.args in (
+      envelope-end real a.amp a.drag a.rotation a.points.now _ _ a.i.now 0 nought a.carrier (omega arith) (omega (arith, c.requires.0)) (unlaid real a.amp a.drag a.rotation a.carrier a.points.now a.i.now),
+      envelope-end imaginary a.amp a.drag a.rotation a.points.now _ _ a.q.now 0 nought a.carrier (omega (arith, c.requires.0, c.requires.1)) (omega (arith, c.requires.0)) (unlaid imaginary a.amp a.drag a.rotation a.carrier a.points.now a.q.now),
     )
 
-point-requires : tie.Need-point-requires invariant-loop decreases-loop
+point-requires : tie.Need-point-left-requires invariant-loop decreases-loop
 point-requires c κs = search rules
 
-point-requires-2 : tie.Need-point-requires-2 invariant-loop decreases-loop
+point-requires-2 : tie.Need-point-here-requires invariant-loop decreases-loop
 point-requires-2 c κs = search rules
 
-wave-requires : tie.Need-wave-requires invariant-loop decreases-loop
+wave-requires : tie.Need-wave-first-requires invariant-loop decreases-loop
 wave-requires c κs = search rules
 
-slice-read-i : tie.Need-slice-read-i invariant-loop decreases-loop
+slice-read-i : tie.Need-bounds-i-0 invariant-loop decreases-loop
 slice-read-i c = omega arith
 
-slice-write-i : tie.Need-slice-write-i invariant-loop decreases-loop
+slice-write-i : tie.Need-bounds-i-0-2 invariant-loop decreases-loop
 slice-write-i c = omega arith
 
-slice-read-q : tie.Need-slice-read-q invariant-loop decreases-loop
-slice-read-q c = let s = c.before.before.before.before.before.before.before.before.before.before in omega (arith, c.before.before.before.before.before.before.if1.false, s.requires.0, s.requires.1)
+slice-read-q : tie.Need-bounds-q-0 invariant-loop decreases-loop
+slice-read-q c = omega (arith, c.if-i-lt1.false, c.requires.0, c.requires.1)
 
-slice-write-q : tie.Need-slice-write-q invariant-loop decreases-loop
-slice-write-q c = let s = c.before.before.before.before.before.before.before.before.before.before.before in omega (arith, c.before.before.before.before.before.before.before.if1.false, s.requires.0, s.requires.1)
+slice-write-q : tie.Need-bounds-q-0-2 invariant-loop decreases-loop
+slice-write-q c = omega (arith, c.if-i-lt1.false, c.requires.0, c.requires.1)
 
-mul-requires : tie.Need-mul-requires invariant-loop decreases-loop
+mul-requires : tie.Need-mul-second-requires invariant-loop decreases-loop
 mul-requires c κs = search rules
 
-loop-holds : tie.Need-loop-init invariant-loop decreases-loop
+loop-holds : tie.Need-loop-k-init invariant-loop decreases-loop
 loop-holds c =
-    let s = c.before.before.before.before.before.before.before.before.before.before.before.before in
-    let some = c.before.before.before.before.before.before.before.before.if1.false in (
+    let some = c.if-i-lt1.false in (
       record { within = simp length-set (omega (arith, some)); same = refl; whole = refl },
-      record { within = simp length-set (omega (arith, some, s.requires.0, s.requires.1)); same = refl; whole = refl },
-      c.before.before.before.before.before.before.point2.ensures,
-      simp length-set s.requires.0,
-      simp length-set s.requires.1,
-      omega (arith, s.requires.0, s.well-formed.0.1),
+      record { within = simp length-set (omega (arith, some, c.requires.0, c.requires.1)); same = refl; whole = refl },
+      c.point-here.ensures,
+      simp length-set c.requires.0,
+      simp length-set c.requires.1,
+      omega (arith, c.requires.0, c.well_formed.0.1),
     )
 
-mul-requires-2 : tie.Need-mul-requires-2 invariant-loop decreases-loop
+mul-requires-2 : tie.Need-mul-turned-requires invariant-loop decreases-loop
 mul-requires-2 c κs = search rules
 
-mul-requires-3 : tie.Need-mul-requires-3 invariant-loop decreases-loop
+mul-requires-3 : tie.Need-mul-next-requires invariant-loop decreases-loop
 mul-requires-3 c κs = search rules
 
-add-point : tie.Need-overflow-add-point invariant-loop decreases-loop
-add-point c = let inv = c.before.before.before.loop.invariant in omega (arith, inv.3, inv.4, inv.5)
+add-point : tie.Need-overflow_add-k invariant-loop decreases-loop
+add-point c = let inv = c.loop-k.invariant in omega (arith, inv.3, inv.4, inv.5)
 
-point-requires-3 : tie.Need-point-requires-3 invariant-loop decreases-loop
+point-requires-3 : tie.Need-point-right-requires invariant-loop decreases-loop
 point-requires-3 c κs = search rules
 
-wave-requires-2 : tie.Need-wave-requires-2 invariant-loop decreases-loop
+wave-requires-2 : tie.Need-wave-w-requires invariant-loop decreases-loop
 wave-requires-2 c κs = search rules
 
-mul-i : tie.Need-overflow-mul-i invariant-loop decreases-loop
-mul-i c = let inv = c.before.before.before.before.before.loop.invariant in omega (arith, inv.3, inv.4, inv.5)
+mul-i : tie.Need-offset_bounds-i-k invariant-loop decreases-loop
+mul-i c = let inv = c.loop-k.invariant in omega (arith, inv.3, inv.4, inv.5)
 
-slice-read-i-2 : tie.Need-slice-read-i-2 invariant-loop decreases-loop
-slice-read-i-2 c = let inv = c.before.before.before.before.before.before.loop.invariant in omega (arith, inv.3, inv.4, inv.5)
+slice-read-i-2 : tie.Need-bounds-i-k invariant-loop decreases-loop
+slice-read-i-2 c = let inv = c.loop-k.invariant in omega (arith, inv.3, inv.4, inv.5)
 
-mul-i-2 : tie.Need-overflow-mul-i-2 invariant-loop decreases-loop
-mul-i-2 c = let inv = c.before.before.before.before.before.before.before.loop.invariant in omega (arith, inv.3, inv.4, inv.5)
+mul-i-2 : tie.Need-offset_bounds-i-k-in-loop-k invariant-loop decreases-loop
+mul-i-2 c = let inv = c.loop-k.invariant in omega (arith, inv.3, inv.4, inv.5)
 
-slice-write-i-2 : tie.Need-slice-write-i-2 invariant-loop decreases-loop
-slice-write-i-2 c = let inv = c.before.before.before.before.before.before.before.loop.invariant in omega (arith, inv.3, inv.4, inv.5)
+slice-write-i-2 : tie.Need-bounds-i-k-in-loop-k invariant-loop decreases-loop
+slice-write-i-2 c = let inv = c.loop-k.invariant in omega (arith, inv.3, inv.4, inv.5)
 
-mul-q : tie.Need-overflow-mul-q invariant-loop decreases-loop
-mul-q c = let inv = c.before.before.before.before.before.before.before.loop.invariant in omega (arith, inv.3, inv.4, inv.5)
+mul-q : tie.Need-offset_bounds-q-k invariant-loop decreases-loop
+mul-q c = let inv = c.loop-k.invariant in omega (arith, inv.3, inv.4, inv.5)
 
-slice-read-q-2 : tie.Need-slice-read-q-2 invariant-loop decreases-loop
-slice-read-q-2 c = let inv = c.before.before.before.before.before.before.before.before.loop.invariant in omega (arith, inv.3, inv.4, inv.5)
+slice-read-q-2 : tie.Need-bounds-q-k invariant-loop decreases-loop
+slice-read-q-2 c = let inv = c.loop-k.invariant in omega (arith, inv.3, inv.4, inv.5)
 
-mul-q-2 : tie.Need-overflow-mul-q-2 invariant-loop decreases-loop
-mul-q-2 c = let inv = c.before.before.before.before.before.before.before.before.before.loop.invariant in omega (arith, inv.3, inv.4, inv.5)
+mul-q-2 : tie.Need-offset_bounds-q-k-in-loop-k invariant-loop decreases-loop
+mul-q-2 c = let inv = c.loop-k.invariant in omega (arith, inv.3, inv.4, inv.5)
 
-slice-write-q-2 : tie.Need-slice-write-q-2 invariant-loop decreases-loop
-slice-write-q-2 c = let inv = c.before.before.before.before.before.before.before.before.before.loop.invariant in omega (arith, inv.3, inv.4, inv.5)
+slice-write-q-2 : tie.Need-bounds-q-k-in-loop-k invariant-loop decreases-loop
+slice-write-q-2 c = let inv = c.loop-k.invariant in omega (arith, inv.3, inv.4, inv.5)
 
-add-k : tie.Need-overflow-add-k invariant-loop decreases-loop
-add-k c = let inv = c.before.before.before.before.before.before.before.before.before.loop.invariant in omega (arith, inv.3, inv.4, inv.5)
+add-k : tie.Need-overflow_add-k-in-loop-k invariant-loop decreases-loop
+add-k c = let inv = c.loop-k.invariant in omega (arith, inv.3, inv.4, inv.5)
 
-loop-less : tie.Need-loop-smaller invariant-loop decreases-loop
+loop-less : tie.Need-loop-k-smaller invariant-loop decreases-loop
 loop-less c = simp length-set (omega arith)
 
-loop-again : tie.Need-loop-preserved invariant-loop decreases-loop
+loop-again : tie.Need-loop-k-preserved invariant-loop decreases-loop
 loop-again c =
-    let at = c.before.before.before.before.before.before.before.before.before.loop in
-    let a = c.before.before.before.before.before.before.before.before.before.before.before.before.before.before.before.before.before.before.before.before.before.before.args in
-    let right = c.before.before.before.before.before.point3 in
-    rw (c.before.before.before.before.wave2.ensures, c.before.before.before.before.before.before.mul3.ensures, c.before.before.before.before.before.before.before.mul2.ensures) (
+    let at = c.loop-k in
+    let a = c.args in
+    let right = c.point-right in
+    rw (c.wave-w.ensures, c.mul-next.ensures, c.mul-turned.ensures) (
       envelope-turn real a.amp a.drag a.rotation a.points.now _ _ at.i at.k at.left (ahead at.re at.last a.rotation) at.here right.result at.invariant.2 right.ensures (omega (arith, at.invariant.3, at.invariant.4)) (omega (arith, at.invariant.3)) at.invariant.0,
       envelope-turn imaginary a.amp a.drag a.rotation a.points.now _ _ at.q at.k at.left (ahead at.re at.last a.rotation) at.here right.result at.invariant.2 right.ensures (omega (arith, at.invariant.3, at.invariant.4)) (omega (arith, at.invariant.3)) at.invariant.1,
       right.ensures,
@@ -140,28 +138,27 @@ loop-again c =
       at.invariant.5,
     )
 
-same_length : tie.Need-same-length invariant-loop decreases-loop
-same_length c = c.before.loop.invariant.3 ∙ sym c.before.before.before.before.before.before.before.before.before.before.before.before.before.before.requires.0
+same_length : tie.Need-shape_of-i invariant-loop decreases-loop
+same_length c = c.loop-k.invariant.3 ∙ sym c.requires.0
 
-same-length-2 : tie.Need-same-length-2 invariant-loop decreases-loop
-same-length-2 c = c.before.loop.invariant.4 ∙ sym c.before.before.before.before.before.before.before.before.before.before.before.before.before.before.requires.1
+same-length-2 : tie.Need-shape_of-q invariant-loop decreases-loop
+same-length-2 c = c.loop-k.invariant.4 ∙ sym c.requires.1
 
-returns-2 : tie.Need-returns-2 invariant-loop decreases-loop
+returns-2 : tie.Need-returns invariant-loop decreases-loop
 returns-2 c =
-    let at = c.before.loop in
-    let s = c.before.before.before.before.before.before.before.before.before.before.before.before.before.before in
-    let a = s.args in
-    let some = c.before.before.before.before.before.before.before.before.before.before.if1.false in
-    let p = c.before.before.before.before.before.before.before.before.before.point in
-    let r = c.before.before.before.before.before.before.before.before.point2 in
-    let w = c.before.before.before.before.before.before.before.wave.ensures in
-    let m = c.before.before.mul.ensures in (
-      (rw (w, m) at (envelope-end real a.amp a.drag a.rotation a.points.now _ _ at.i at.k at.left (ahead at.re at.last a.rotation) (omega (arith, at.invariant.3, at.invariant.4)) (omega (arith, at.invariant.3)) at.invariant.0)) ∙ (envelope-turn real a.amp a.drag a.rotation a.points.now _ _ a.i.now 0 nought a.carrier p.result r.result p.ensures r.ensures (omega (arith, some, s.requires.0, s.requires.1)) (omega (arith, some, s.requires.0)) (unlaid real a.amp a.drag a.rotation a.carrier a.points.now a.i.now)).whole,
-      (rw (w, m) at (envelope-end imaginary a.amp a.drag a.rotation a.points.now _ _ at.q at.k at.left (ahead at.re at.last a.rotation) (omega (arith, at.invariant.3, at.invariant.4)) (omega (arith, at.invariant.3)) at.invariant.1)) ∙ (envelope-turn imaginary a.amp a.drag a.rotation a.points.now _ _ a.q.now 0 nought a.carrier p.result r.result p.ensures r.ensures (omega (arith, some, s.requires.0, s.requires.1)) (omega (arith, some, s.requires.0)) (unlaid imaginary a.amp a.drag a.rotation a.carrier a.points.now a.q.now)).whole,
+    let at = c.loop-k in
+    let a = c.args in
+    let some = c.if-i-lt1.false in
+    let p = c.point-left in
+    let r = c.point-here in
+    let w = c.wave-first.ensures in
+    let m = c.mul-second.ensures in (
+      (rw (w, m) at (envelope-end real a.amp a.drag a.rotation a.points.now _ _ at.i at.k at.left (ahead at.re at.last a.rotation) (omega (arith, at.invariant.3, at.invariant.4)) (omega (arith, at.invariant.3)) at.invariant.0)) ∙ (envelope-turn real a.amp a.drag a.rotation a.points.now _ _ a.i.now 0 nought a.carrier p.result r.result p.ensures r.ensures (omega (arith, some, c.requires.0, c.requires.1)) (omega (arith, some, c.requires.0)) (unlaid real a.amp a.drag a.rotation a.carrier a.points.now a.i.now)).whole,
+      (rw (w, m) at (envelope-end imaginary a.amp a.drag a.rotation a.points.now _ _ at.q at.k at.left (ahead at.re at.last a.rotation) (omega (arith, at.invariant.3, at.invariant.4)) (omega (arith, at.invariant.3)) at.invariant.1)) ∙ (envelope-turn imaginary a.amp a.drag a.rotation a.points.now _ _ a.q.now 0 nought a.carrier p.result r.result p.ensures r.ensures (omega (arith, some, c.requires.0, c.requires.1)) (omega (arith, some, c.requires.0)) (unlaid imaginary a.amp a.drag a.rotation a.carrier a.points.now a.q.now)).whole,
     )
 
-pub envelope-rows-spec : {M : Type 1} → statement M
-envelope-rows-spec =
+pub envelope_rows_spec : {M : Type 1} → statement M
+envelope_rows_spec =
     tie.close
     (tie.spec
     invariant-loop

@@ -16,17 +16,23 @@ within [] k x y h = absurd (not-suc-le-zero h)
 within (a ∷ l) zero x y h = refl
 within (a ∷ l) (suc k) x y h = within l k x y (le_of_suc-le-suc h)
 
-mul-result : tie.Need-overflow-mul-result
+mul-result : tie.Need-offset_bounds-points-k
 mul-result c = search rules
 
-shared-slice-read-result : tie.Need-shared-slice-read-result
+shared-slice-read-result : tie.Need-bounds-points-k
 shared-slice-read-result c = search rules
 
-returns : tie.Need-returns
-returns c = within c.before.before.args.points.now c.before.before.args.k _ _ (omega arith)
+returns : tie.Need-returns-then-k-points
+returns c = within c.args.points.now c.args.k _ _ (omega arith)
 
-returns-2 : tie.Need-returns-2
-returns-2 c = sym (get_or-eq_default c.before.args.points.now _ (omega arith))
+returns-2 : tie.Need-returns
+returns-2 c = sym (get_or-eq_default c.args.points.now _ (omega arith))
 
-pub point-spec : {M : Type 1} → statement M
-point-spec = tie.close (tie.spec mul-result shared-slice-read-result returns returns-2)
+pub point_spec : {M : Type 1} → statement M
+point_spec =
+    tie.close
+    (tie.spec
+    mul-result
+    shared-slice-read-result
+    returns
+    returns-2)

@@ -16,7 +16,14 @@ mul-requires : tie.Need-mul-requires
 mul-requires c κs = search rules
 
 returns : tie.Need-returns
-returns c = rw (c.mul.ensures, c.before.add.ensures, c.before.before.scale2.ensures, c.before.before.before.scale.ensures)
+returns c = rw (c.mul.ensures, c.add.ensures, c.scale-2.ensures, c.scale.ensures)
 
-pub wave-spec : {M : Type 1} → statement M
-wave-spec = tie.close (tie.spec scale-requires scale-requires-2 add-requires mul-requires returns)
+pub wave_spec : {M : Type 1} → statement M
+wave_spec =
+    tie.close
+    (tie.spec
+    scale-requires
+    scale-requires-2
+    add-requires
+    mul-requires
+    returns)

@@ -9,47 +9,47 @@ use Rattle.mix.proofs.Turns.{Laid, plateau-turn, plateau-end}
 use Rattle.mix.proofs.one_row.plateau_row.Statement.{statement}
 use Rattle.mix.proofs.one_row.plateau_row.Tie as tie
 
-abbrev invariant-loop : tie.invariant-loop
+abbrev invariant-loop : tie.invariant-loop-k
 invariant-loop i₀ rotation z₀ k₀ i z k = Laid (carried real z₀ rotation i₀) i₀ i k (carried real z rotation (drop k i))
 
-abbrev decreases-loop : tie.decreases-loop
+abbrev decreases-loop : tie.decreases-loop-k
 decreases-loop i₀ rotation z₀ k₀ i z k = length i - k
 
-loop-holds : tie.Need-loop-init invariant-loop decreases-loop
+loop-holds : tie.Need-loop-k-init invariant-loop decreases-loop
 loop-holds c = record { within = search rules; same = refl; whole = refl }
 
-mul-i : tie.Need-overflow-mul-i invariant-loop decreases-loop
+mul-i : tie.Need-offset_bounds-i-k invariant-loop decreases-loop
 mul-i c = omega arith
 
-slice-read-i : tie.Need-slice-read-i invariant-loop decreases-loop
+slice-read-i : tie.Need-bounds-i-k invariant-loop decreases-loop
 slice-read-i c = omega arith
 
-mul-i-2 : tie.Need-overflow-mul-i-2 invariant-loop decreases-loop
+mul-i-2 : tie.Need-offset_bounds-i-k-in-loop-k invariant-loop decreases-loop
 mul-i-2 c = omega arith
 
-slice-write-i : tie.Need-slice-write-i invariant-loop decreases-loop
+slice-write-i : tie.Need-bounds-i-k-in-loop-k invariant-loop decreases-loop
 slice-write-i c = omega arith
 
-mul-requires : tie.Need-mul-requires invariant-loop decreases-loop
+mul-requires : tie.Need-mul-z-requires invariant-loop decreases-loop
 mul-requires c κs = search rules
 
-add-k : tie.Need-overflow-add-k invariant-loop decreases-loop
+add-k : tie.Need-overflow_add-k invariant-loop decreases-loop
 add-k c = omega arith
 
-loop-less : tie.Need-loop-smaller invariant-loop decreases-loop
+loop-less : tie.Need-loop-k-smaller invariant-loop decreases-loop
 loop-less c = simp length-set (omega arith)
 
-loop-again : tie.Need-loop-preserved invariant-loop decreases-loop
-loop-again c = rw c.mul.ensures (plateau-turn real _ _ c.before.before.before.before.loop.i c.before.before.before.before.loop.k c.before.before.before.before.loop.z c.before.before.before.before.before.before.args.rotation (omega arith) c.before.before.before.before.loop.invariant)
+loop-again : tie.Need-loop-k-preserved invariant-loop decreases-loop
+loop-again c = rw c.mul-z.ensures (plateau-turn real _ _ c.loop-k.i c.loop-k.k c.loop-k.z c.args.rotation (omega arith) c.loop-k.invariant)
 
-same_length : tie.Need-same-length invariant-loop decreases-loop
-same_length c = c.before.loop.invariant.same
+same_length : tie.Need-shape_of-i invariant-loop decreases-loop
+same_length c = c.loop-k.invariant.same
 
 returns : tie.Need-returns invariant-loop decreases-loop
-returns c = plateau-end real _ _ c.before.loop.i c.before.loop.k c.before.loop.z c.before.before.before.args.rotation (omega arith) c.before.loop.invariant
+returns c = plateau-end real _ _ c.loop-k.i c.loop-k.k c.loop-k.z c.args.rotation (omega arith) c.loop-k.invariant
 
-pub plateau-row-spec : {M : Type 1} → statement M
-plateau-row-spec =
+pub plateau_row_spec : {M : Type 1} → statement M
+plateau_row_spec =
     tie.close
     (tie.spec
     invariant-loop

@@ -17,11 +17,15 @@ moved s n len h = by (leb s (len - n)) (leb (s + n) len) (leb-true s (len - n)) 
     by true false a b c d = absurd (omega (arith, a refl, d refl))
     by false true a b c d = absurd (omega (arith, b refl, c refl))
 
-returns : tie.Need-returns
-returns c = rw (lt-leb (c.before.args.start + c.before.args.count) c.before.args.len (omega arith))
+returns : tie.Need-returns-then-len-count
+returns c = rw (lt-leb (c.args.start + c.args.count) c.args.len (omega arith))
 
-returns-2 : tie.Need-returns-2
-returns-2 c = moved c.before.args.start c.before.args.count c.before.args.len (omega arith)
+returns-2 : tie.Need-returns
+returns-2 c = moved c.args.start c.args.count c.args.len (omega arith)
 
-pub lies-within-spec : {M : Type 1} → statement M
-lies-within-spec = tie.close (tie.spec returns returns-2)
+pub lies_within_spec : {M : Type 1} → statement M
+lies_within_spec =
+    tie.close
+    (tie.spec
+    returns
+    returns-2)

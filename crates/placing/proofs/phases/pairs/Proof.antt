@@ -7,41 +7,37 @@ use Rattle.placing.proofs.phases.pairs.Tie as tie
 phaser-requires : tie.Need-phaser-requires
 phaser-requires c κs = search rules
 
-enum-known-u : tie.Need-enum-known-u
+enum-known-u : tie.Need-enum_known-u
 enum-known-u c = search rules
 
-phaser-requires-2 : tie.Need-phaser-requires-2
+phaser-requires-2 : tie.Need-phaser-requires-in-Pair
 phaser-requires-2 c κs = search rules
 
-enum-known-d : tie.Need-enum-known-d
+enum-known-d : tie.Need-enum_known-d
 enum-known-d c = search rules
 
-enum_told : tie.Need-enum-told
+enum_told : tie.Need-enum_told-1
 enum_told c = search rules
 
-enum-told-2 : tie.Need-enum-told-2
+enum-told-2 : tie.Need-enum_told-in-NotFinite
 enum-told-2 c = search rules
 
-returns : tie.Need-returns
+returns : tie.Need-returns-in-Pair-phaser
 returns c =
-    let d = c.before.before.before in
-    let e = d.before.before.before.before in
-    both-given _ _ _ _ (sym e.phaser.ensures ∙ d.before.before.u.given.1) (sym d.phaser2.ensures ∙ c.before.d.given.1)
+    both-given _ _ _ _ (sym c.phaser.ensures ∙ c.in-Pair.is) (sym c.phaser-in-Pair.ensures ∙ c.in-Pair-phaser.is)
 
-returns-2 : tie.Need-returns-2
+returns-2 : tie.Need-returns-in-NotFinite-phaser
 returns-2 c =
-    let d = c.before.before in
-    let a = d.before.before.before.before.before.args in
-    second-missing a.phase0.0 a.dphase.0 (sym d.phaser2.ensures ∙ c.enum_told.given.1)
+    let a = c.args in
+    second-missing a.phase0.0 a.dphase.0 (sym c.phaser-in-Pair.ensures ∙ c.in-NotFinite-phaser.is)
 
-returns-3 : tie.Need-returns-3
+returns-3 : tie.Need-returns-in-NotFinite
 returns-3 c =
-    let d = c.before.before in
-    let a = d.before.args in
-    first-missing a.phase0.0 a.dphase.0 (sym d.phaser.ensures ∙ c.enum-told2.given.1)
+    let a = c.args in
+    first-missing a.phase0.0 a.dphase.0 (sym c.phaser.ensures ∙ c.in-NotFinite.is)
 
-pub pairs-spec : {M : Type 1} → statement M
-pairs-spec =
+pub pairs_spec : {M : Type 1} → statement M
+pairs_spec =
     tie.close
     (tie.spec
     phaser-requires

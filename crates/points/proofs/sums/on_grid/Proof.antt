@@ -8,34 +8,34 @@ use Rattle.points.proofs.Stepping.{stride, on-grid}
 use Rattle.points.proofs.sums.on_grid.Statement.{statement}
 use Rattle.points.proofs.sums.on_grid.Tie as tie
 
-returns : tie.Need-returns
+returns : tie.Need-returns-then-n-gt65536
 returns c = λ e. absurd (false≢true e)
 
-returns-2 : tie.Need-returns-2
+returns-2 : tie.Need-returns-then-not-dx
 returns-2 c = λ e. absurd (false≢true e)
 
-returns-3 : tie.Need-returns-3
+returns-3 : tie.Need-returns-then-not-dx-2
 returns-3 c = λ e. absurd (false≢true e)
 
-nearest-u64-to-f64-requires : tie.Need-nearest-u64-to-f64-requires
+nearest-u64-to-f64-requires : tie.Need-nearest_u64_to_f64-requires
 nearest-u64-to-f64-requires c κs = search rules
 
-returns-4 : tie.Need-returns-4
+returns-4 : tie.Need-returns-then-not-nearest_u64_to_f64-dx
 returns-4 c = λ e. absurd (false≢true e)
 
-is-stepped-requires : tie.Need-is-stepped-requires
+is-stepped-requires : tie.Need-is_stepped-requires
 is-stepped-requires c κs = search rules
 
-returns-5 : tie.Need-returns-5
+returns-5 : tie.Need-returns
 returns-5 c =
     let s = c.before.before.before.before.before.before in λ e.
     on-grid s.args.n s.args.x s.args.dx (omega arith)
-    (stride s.args.dx (subst T (sym s.well-formed.1.1.0.1) tt) (not-false _ c.before.before.before.before.if2.false) (not-false _ c.before.before.before.if3.false))
-    (subst (λ (m : Float). lt (mul binary64 m s.args.dx) two ≡ true) c.before.before.nearest-u64-to-f64.ensures (not-false _ c.before.if4.false))
-    (c.is-stepped.ensures e)
+    (stride s.args.dx (subst T (sym s.well_formed.1.1.0.1) tt) c.if-not-dx.false c.if-not-dx-2.false)
+    (subst (λ (m : Float). lt (mul binary64 m s.args.dx) two ≡ true) c.nearest_u64_to_f64.ensures c.if-not-nearest_u64_to_f64-dx.false)
+    (c.is_stepped.ensures e)
 
-pub on-grid-spec : {M : Type 1} → statement M
-on-grid-spec =
+pub on_grid_spec : {M : Type 1} → statement M
+on_grid_spec =
     tie.close
     (tie.spec
     returns

@@ -6,25 +6,31 @@ use borrow.Author.Rules.{rules}
 use Rattle.pulse.proofs.bin.head_in.Statement.{statement}
 use Rattle.pulse.proofs.bin.head_in.Tie as tie
 
-array-read-t5 : tie.Need-array-read-t5
+array-read-t5 : tie.Need-bounds-row-0
 array-read-t5 c = search rules
 
-array-read-t8 : tie.Need-array-read-t8
+array-read-t8 : tie.Need-bounds-row-1
 array-read-t8 c = search rules
 
-array-read-t11 : tie.Need-array-read-t11
+array-read-t11 : tie.Need-bounds-row-2
 array-read-t11 c = search rules
 
-array-read-t14 : tie.Need-array-read-t14
+array-read-t14 : tie.Need-bounds-row-3
 array-read-t14 c = search rules
 
-array-read-t17 : tie.Need-array-read-t17
+array-read-t17 : tie.Need-bounds-row-4
 array-read-t17 c = search rules
 
 returns : tie.Need-returns
-returns c = sym (first-five c.args.t1 (omega (arith, c.well-formed.0.1.0.1)))
+returns c = sym (first-five c.args.row (omega (arith, c.well_formed.0.1.0.1)))
 
-pub head-in-spec : {M : Type 1} → statement M
-head-in-spec =
+pub head_in_spec : {M : Type 1} → statement M
+head_in_spec =
     tie.close
-    (tie.spec array-read-t5 array-read-t8 array-read-t11 array-read-t14 array-read-t17 returns)
+    (tie.spec
+    array-read-t5
+    array-read-t8
+    array-read-t11
+    array-read-t14
+    array-read-t17
+    returns)

@@ -13,52 +13,50 @@ use borrow.Author.Rules.{rules}
 use Rattle.pulse.proofs.bin.place_plain.Statement.{statement}
 use Rattle.pulse.proofs.bin.place_plain.Tie as tie
 
-abbrev invariant-loop : tie.invariant-loop
+abbrev invariant-loop : tie.invariant-loop-i
 invariant-loop head rows i₀ i = (i ≤ length rows) × (i + place_of head (drop i rows) ≡ place_of head rows)
 
-abbrev decreases-loop : tie.decreases-loop
+abbrev decreases-loop : tie.decreases-loop-i
 decreases-loop head rows i₀ i = length rows - i
 
-loop-holds : tie.Need-loop-init invariant-loop decreases-loop
+loop-holds : tie.Need-loop-i-init invariant-loop decreases-loop
 loop-holds c = search rules
 
-mul-same-head : tie.Need-overflow-mul-same-head invariant-loop decreases-loop
+mul-same-head : tie.Need-offset_bounds-rows-i invariant-loop decreases-loop
 mul-same-head c = search rules
 
-shared-slice-copy-out-same-head : tie.Need-shared-slice-copy-out-same-head invariant-loop decreases-loop
+shared-slice-copy-out-same-head : tie.Need-bounds-rows-i invariant-loop decreases-loop
 shared-slice-copy-out-same-head c = search rules
 
-same-head-requires : tie.Need-same-head-requires invariant-loop decreases-loop
+same-head-requires : tie.Need-same_head-requires invariant-loop decreases-loop
 same-head-requires c κs = search rules
 
-returns : tie.Need-returns invariant-loop decreases-loop
+returns : tie.Need-returns-then-same_head invariant-loop decreases-loop
 returns c =
-    let d = c.before.before.before.before in
-    let a = d.before.args in
-    let e = here a.head a.rows.now d.loop.i (omega arith) (plain-alone (get_or a.rows.now d.loop.i []) a.head d.before.well-formed.0.1.0.1 d.before.requires ∙ sym c.before.same_head.ensures ∙ c.if1.true) in
-    omega (arith, e, d.loop.invariant.1)
+    let a = c.args in
+    let e = here a.head a.rows.now c.loop-i.i (omega arith) (plain-alone (get_or a.rows.now c.loop-i.i []) a.head c.well_formed.0.1.0.1 c.requires ∙ sym c.same_head.ensures ∙ c.if-same_head.true) in
+    omega (arith, e, c.loop-i.invariant.1)
 
-add-i : tie.Need-overflow-add-i invariant-loop decreases-loop
+add-i : tie.Need-overflow_add-i invariant-loop decreases-loop
 add-i c = search rules
 
-loop-less : tie.Need-loop-smaller invariant-loop decreases-loop
+loop-less : tie.Need-loop-i-smaller invariant-loop decreases-loop
 loop-less c = search rules
 
-loop-again : tie.Need-loop-preserved invariant-loop decreases-loop
+loop-again : tie.Need-loop-i-preserved invariant-loop decreases-loop
 loop-again c =
-    let d = c.before.before.before.before in
-    let a = d.before.args in
-    let e = onward a.head a.rows.now d.loop.i (omega arith) (plain-alone (get_or a.rows.now d.loop.i []) a.head d.before.well-formed.0.1.0.1 d.before.requires ∙ sym c.before.same_head.ensures ∙ c.if1.false) in
-    (omega arith, rw add-one (omega (arith, e, d.loop.invariant.1)))
+    let a = c.args in
+    let e = onward a.head a.rows.now c.loop-i.i (omega arith) (plain-alone (get_or a.rows.now c.loop-i.i []) a.head c.well_formed.0.1.0.1 c.requires ∙ sym c.same_head.ensures ∙ c.if-same_head.false) in
+    (omega arith, rw add-one (omega (arith, e, c.loop-i.invariant.1)))
 
-returns-2 : tie.Need-returns-2 invariant-loop decreases-loop
+returns-2 : tie.Need-returns invariant-loop decreases-loop
 returns-2 c =
-    let a = c.before.before.args in
-    let e = over a.head a.rows.now c.before.loop.i (omega arith) in
-    omega (arith, e, c.before.loop.invariant.1)
+    let a = c.args in
+    let e = over a.head a.rows.now c.loop-i.i (omega arith) in
+    omega (arith, e, c.loop-i.invariant.1)
 
-pub place-plain-spec : {M : Type 1} → statement M
-place-plain-spec =
+pub place_plain_spec : {M : Type 1} → statement M
+place_plain_spec =
     tie.close
     (tie.spec
     invariant-loop

@@ -5,34 +5,34 @@ use borrow.Author.Rules.{rules}
 use Rattle.pulse.proofs.bin.same_head.Statement.{statement}
 use Rattle.pulse.proofs.bin.same_head.Tie as tie
 
-array-read-both : tie.Need-array-read-both
+array-read-both : tie.Need-bounds-row-0
 array-read-both c = search rules
 
-array-read-both-2 : tie.Need-array-read-both-2
+array-read-both-2 : tie.Need-bounds-head-0
 array-read-both-2 c = search rules
 
-array-read-both-3 : tie.Need-array-read-both-3
+array-read-both-3 : tie.Need-bounds-row-1
 array-read-both-3 c = search rules
 
-array-read-both-4 : tie.Need-array-read-both-4
+array-read-both-4 : tie.Need-bounds-head-1
 array-read-both-4 c = search rules
 
-array-read-both-5 : tie.Need-array-read-both-5
+array-read-both-5 : tie.Need-bounds-row-2
 array-read-both-5 c = search rules
 
-array-read-both-6 : tie.Need-array-read-both-6
+array-read-both-6 : tie.Need-bounds-head-2
 array-read-both-6 c = search rules
 
-array-read-both-7 : tie.Need-array-read-both-7
+array-read-both-7 : tie.Need-bounds-row-3
 array-read-both-7 c = search rules
 
-array-read-both-8 : tie.Need-array-read-both-8
+array-read-both-8 : tie.Need-bounds-head-3
 array-read-both-8 c = search rules
 
-array-read-both-9 : tie.Need-array-read-both-9
+array-read-both-9 : tie.Need-bounds-row-4
 array-read-both-9 c = search rules
 
-array-read-both-10 : tie.Need-array-read-both-10
+array-read-both-10 : tie.Need-bounds-head-4
 array-read-both-10 c = search rules
 
 both-requires : tie.Need-both-requires
@@ -49,11 +49,10 @@ both-requires-4 c κs = search rules
 
 returns : tie.Need-returns
 returns c =
-    let d = c.before.before.before.before in
-    rw (c.both4.ensures, c.before.both3.ensures, c.before.before.both2.ensures, c.before.before.before.both.ensures, five d.args.t1 d.args.t2 (omega (arith, d.well-formed.0.1.0.1)) d.well-formed.1.0.1.0.1)
+    rw (c.both-4.ensures, c.both-3.ensures, c.both-2.ensures, c.both.ensures, five c.args.row c.args.head (omega (arith, c.well_formed.0.1.0.1)) c.well_formed.1.0.1.0.1)
 
-pub same-head-spec : {M : Type 1} → statement M
-same-head-spec =
+pub same_head_spec : {M : Type 1} → statement M
+same_head_spec =
     tie.close
     (tie.spec
     array-read-both

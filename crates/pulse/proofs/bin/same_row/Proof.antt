@@ -7,16 +7,16 @@ use borrow.Author.Rules.{rules}
 use Rattle.pulse.proofs.bin.same_row.Statement.{statement}
 use Rattle.pulse.proofs.bin.same_row.Tie as tie
 
-same-head-requires : tie.Need-same-head-requires
+same-head-requires : tie.Need-same_head-requires
 same-head-requires c κs = search rules
 
-sub_same : tie.Need-overflow-sub-same
+sub_same : tie.Need-slice_bounds-same-count
 sub_same c = search rules
 
-part-same-start : tie.Need-slice-bounds-same-start
+part-same-start : tie.Need-slice_bounds-same-start
 part-same-start c = search rules
 
-part-same-end : tie.Need-slice-bounds-same-end
+part-same-end : tie.Need-slice_bounds-same-end
 part-same-end c = search rules
 
 same-requires : tie.Need-same-requires
@@ -27,12 +27,11 @@ both-requires c κs = search rules
 
 returns : tie.Need-returns
 returns c =
-    let at = c.before.before.before.before.before.before in
-    let le : length (drop 5 at.args.t1) ≤ 72 = omega (arith, length-drop 5 at.args.t1, at.well-formed.1.0.1.0.1) in
-    rw (c.both.ensures, c.before.same.ensures, c.before.before.before.before.same_head.ensures, take_all 72 (drop 5 at.args.t1) le)
+    let le : length (drop 5 c.args.row) ≤ 72 = omega (arith, length-drop 5 c.args.row, c.well_formed.1.0.1.0.1) in
+    rw (c.both.ensures, c.same.ensures, c.same_head.ensures, take_all 72 (drop 5 c.args.row) le)
 
-pub same-row-spec : {M : Type 1} → statement M
-same-row-spec =
+pub same_row_spec : {M : Type 1} → statement M
+same_row_spec =
     tie.close
     (tie.spec
     same-head-requires

@@ -2,14 +2,19 @@
 use Rattle.pulse.proofs.bin.shape_of.Statement.{statement}
 use Rattle.pulse.proofs.bin.shape_of.Tie as tie
 
-returns : tie.Need-returns
-returns c = rw c.if1.true
+returns : tie.Need-returns-then-code
+returns c = rw c.if-code.true
 
-returns-2 : tie.Need-returns-2
-returns-2 c = rw (c.before.if1.false, c.if2.true)
+returns-2 : tie.Need-returns-then-code-2
+returns-2 c = rw (c.if-code.false, c.if-code-2.true)
 
-returns-3 : tie.Need-returns-3
-returns-3 c = rw (c.before.if1.false, c.if2.false)
+returns-3 : tie.Need-returns
+returns-3 c = rw (c.if-code.false, c.if-code-2.false)
 
-pub shape-of-spec : {M : Type 1} → statement M
-shape-of-spec = tie.close (tie.spec returns returns-2 returns-3)
+pub shape_of_spec : {M : Type 1} → statement M
+shape_of_spec =
+    tie.close
+    (tie.spec
+    returns
+    returns-2
+    returns-3)

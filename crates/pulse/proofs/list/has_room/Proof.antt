@@ -16,14 +16,19 @@ moved len from count h = by-test (ltb from (len - count)) refl where
   by-test true e = lt-ltb (from + count) len (omega (arith, ltb-true from (len - count) e)) ∙ sym e
   by-test false e = le-ltb (from + count) len (omega (arith, ltb-false from (len - count) e)) ∙ sym e
 
-returns : tie.Need-returns
-returns c = rw (le-ltb (c.before.args.from + c.before.args.count) c.before.args.len (omega arith))
+returns : tie.Need-returns-then-len-count
+returns c = rw (le-ltb (c.args.from + c.args.count) c.args.len (omega arith))
 
-sub-result : tie.Need-overflow-sub-result
+sub-result : tie.Need-overflow_sub-result
 sub-result c = search rules
 
-returns-2 : tie.Need-returns-2
-returns-2 c = sym (moved _ _ _ c.if1.false)
+returns-2 : tie.Need-returns
+returns-2 c = sym (moved _ _ _ c.if-len-count.false)
 
-pub has-room-spec : {M : Type 1} → statement M
-has-room-spec = tie.close (tie.spec returns sub-result returns-2)
+pub has_room_spec : {M : Type 1} → statement M
+has_room_spec =
+    tie.close
+    (tie.spec
+    returns
+    sub-result
+    returns-2)

@@ -3,14 +3,19 @@ use borrow.Author.Tests.{lt-ltb, le-ltb, eq-eqb, ne_eqb}
 use Rattle.pulse.proofs.list.stays_before.Statement.{statement}
 use Rattle.pulse.proofs.list.stays_before.Tie as tie
 
-returns : tie.Need-returns
-returns c = rw (lt-ltb _ _ c.if1.true)
+returns : tie.Need-returns-then-q-p
+returns c = rw (lt-ltb _ _ c.if-q-p.true)
 
-returns-2 : tie.Need-returns-2
-returns-2 c = rw (le-ltb _ _ c.before.before.before.if1.false, ne_eqb _ _ c.if2.true)
+returns-2 : tie.Need-returns-then-q-p-2
+returns-2 c = rw (le-ltb _ _ c.if-q-p.false, ne_eqb _ _ c.if-q-p-2.true)
 
-returns-3 : tie.Need-returns-3
-returns-3 c = rw (le-ltb _ _ c.before.before.before.before.before.if1.false, eq-eqb _ _ c.before.before.if2.false)
+returns-3 : tie.Need-returns
+returns-3 c = rw (le-ltb _ _ c.if-q-p.false, eq-eqb _ _ c.if-q-p-2.false)
 
-pub stays-before-spec : {M : Type 1} → statement M
-stays-before-spec = tie.close (tie.spec returns returns-2 returns-3)
+pub stays_before_spec : {M : Type 1} → statement M
+stays_before_spec =
+    tie.close
+    (tie.spec
+    returns
+    returns-2
+    returns-3)

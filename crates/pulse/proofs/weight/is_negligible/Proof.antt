@@ -3,14 +3,19 @@ use borrow.Author.Rules.{rules}
 use Rattle.pulse.proofs.weight.is_negligible.Statement.{statement}
 use Rattle.pulse.proofs.weight.is_negligible.Tie as tie
 
-returns : tie.Need-returns
-returns c = rw c.if1.true
+returns : tie.Need-returns-then-amplitude
+returns c = rw c.if-amplitude.true
 
 both-requires : tie.Need-both-requires
 both-requires c κs = search rules
 
-returns-2 : tie.Need-returns-2
-returns-2 c = rw (c.both.ensures, c.before.before.before.before.before.if1.false)
+returns-2 : tie.Need-returns
+returns-2 c = rw (c.both.ensures, c.if-amplitude.false)
 
-pub is-negligible-spec : {M : Type 1} → statement M
-is-negligible-spec = tie.close (tie.spec returns both-requires returns-2)
+pub is_negligible_spec : {M : Type 1} → statement M
+is_negligible_spec =
+    tie.close
+    (tie.spec
+    returns
+    both-requires
+    returns-2)

@@ -17,19 +17,19 @@ answered : (a k : Float) (u amp turned drag : Complex) (p q r z : Bool) → amp 
 unfolding weighed
 answered a k u amp turned drag p q r z e f g h i j l = rw (← l, j, i, h, g, f, e)
 
-scale-requires : tie.Need-scale-requires
+scale-requires : tie.Need-scale-amp-requires
 scale-requires c κs = search rules
 
-mul-i-requires : tie.Need-mul-i-requires
+mul-i-requires : tie.Need-mul_i-turned-requires
 mul-i-requires c κs = search rules
 
-scale-requires-2 : tie.Need-scale-requires-2
+scale-requires-2 : tie.Need-scale-drag-requires
 scale-requires-2 c κs = search rules
 
-is-finite-pair-requires : tie.Need-is-finite-pair-requires
+is-finite-pair-requires : tie.Need-is_finite_pair-requires
 is-finite-pair-requires c κs = search rules
 
-is-finite-pair-requires-2 : tie.Need-is-finite-pair-requires-2
+is-finite-pair-requires-2 : tie.Need-is_finite_pair-requires-2
 is-finite-pair-requires-2 c κs = search rules
 
 both-requires : tie.Need-both-requires
@@ -40,25 +40,25 @@ module _ (d : tie.After-both) where
   start = d.before.before.before.before.before.before
 
   abbrev amp : Complex
-  amp = d.before.before.before.before.before.scale.result
+  amp = d.scale-amp.result
 
   abbrev drag : Complex
-  drag = d.before.before.before.scale2.result
+  drag = d.scale-drag.result
 
   judged : (z : Bool) → d.both.result ≡ z → weighed start.args.amplitude.0 (Pair start.args.u) start.args.drag ≡ cond z (Fine (record { amp = amp; drag = drag })) Overflow
   judged z k =
-      answered start.args.amplitude.0 start.args.drag start.args.u amp _ drag _ _ _ z d.before.before.before.before.before.scale.ensures
-      d.before.before.before.before.mul-i.ensures d.before.before.before.scale2.ensures
-      d.before.before.is-finite-pair.ensures d.before.is-finite-pair2.ensures d.both.ensures k
+      answered start.args.amplitude.0 start.args.drag start.args.u amp _ drag _ _ _ z d.scale-amp.ensures
+      d.mul_i-turned.ensures d.scale-drag.ensures
+      d.is_finite_pair.ensures d.is_finite_pair-2.ensures d.both.ensures k
 
-returns : tie.Need-returns
-returns c = sym (judged c.before true c.if1.true)
+returns : tie.Need-returns-then-both
+returns c = sym (judged c.before true c.if-both.true)
 
-returns-2 : tie.Need-returns-2
-returns-2 c = sym (judged c.before false c.if1.false)
+returns-2 : tie.Need-returns
+returns-2 c = sym (judged c.before false c.if-both.false)
 
-pub weigh-at-spec : {M : Type 1} → statement M
-weigh-at-spec =
+pub weigh_at_spec : {M : Type 1} → statement M
+weigh_at_spec =
     tie.close
     (tie.spec
     scale-requires

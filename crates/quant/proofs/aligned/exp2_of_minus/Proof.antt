@@ -45,35 +45,42 @@ module _ (s : tie.Start) where
   z = to_z w32 (of_z w32 s.args.level)
 
   same : z ≡ s.args.level
-  same = to_z-of_z w32 s.args.level s.fits.level
+  same = to_z-of_z w32 s.args.level s.ranges.level
 
-fits_neg : (c : tie.Else1) → SFits w32 (pos 0 -ℤ z c.before)
+fits_neg : (c : tie.Else-level-ltminus2147483647) → SFits w32 (pos 0 -ℤ z c.before)
 fits_neg c =
     let s = c.before in
-    subst (SFits w32) (sym (minus (z s))) (near (z s) (subst (SFits w32) (sym (same s)) s.ranges.level) (not-below c.if1.false))
+    subst (SFits w32) (sym (minus (z s))) (near (z s) (subst (SFits w32) (sym (same s)) s.ranges.level) (not-below c.if-level-ltminus2147483647.false))
 
 exp2-requires : tie.Need-exp2-requires
 exp2-requires c κs = search rules
 
-returns : tie.Need-returns
+returns : tie.Need-returns-then-level-ltminus2147483647
 returns c =
     let s = c.before.before in
     c.exp2.ensures
     ∙ overflow (pos 2147483647) (record { lt = tt })
-    ∙ sym (ap (λ (y : ℤ). exp2_of (neg_ℤ y)) (sym (same s)) ∙ far (z s) (below c.before.if1.true))
+    ∙ sym (ap (λ (y : ℤ). exp2_of (neg_ℤ y)) (sym (same s)) ∙ far (z s) (below c.if-level-ltminus2147483647.true))
 
-sub-exp2 : tie.Need-overflow-sub-exp2
+sub-exp2 : tie.Need-overflow_sub-level
 sub-exp2 c = fits_neg c
 
 exp2-requires-2 : tie.Need-exp2-requires-2
 exp2-requires-2 c κs = search rules
 
-returns-2 : tie.Need-returns-2
+returns-2 : tie.Need-returns
 returns-2 c =
     let s = c.before.before in
-    c.exp22.ensures
+    c.exp2-2.ensures
     ∙ ap exp2_of (to_z-of_z w32 (pos 0 -ℤ z s) (fits_neg c.before) ∙ minus (z s))
     ∙ ap (λ (y : ℤ). exp2_of (neg_ℤ y)) (same s)
 
-pub exp2-of-minus-spec : {M : Type 1} → statement M
-exp2-of-minus-spec = tie.close (tie.spec exp2-requires returns sub-exp2 exp2-requires-2 returns-2)
+pub exp2_of_minus_spec : {M : Type 1} → statement M
+exp2_of_minus_spec =
+    tie.close
+    (tie.spec
+    exp2-requires
+    returns
+    sub-exp2
+    exp2-requires-2
+    returns-2)

@@ -11,7 +11,11 @@ both-requires : tie.Need-both-requires
 both-requires c κs = search rules
 
 returns : tie.Need-returns
-returns c = c.both.ensures ∙ ap is_level (to_z-of_z w32 c.before.args.level c.before.ranges.level)
+returns c = c.both.ensures ∙ ap is_level (to_z-of_z w32 c.args.level c.ranges.level)
 
-pub is-level-spec : {M : Type 1} → statement M
-is-level-spec = tie.close (tie.spec both-requires returns)
+pub is_level_spec : {M : Type 1} → statement M
+is_level_spec =
+    tie.close
+    (tie.spec
+    both-requires
+    returns)

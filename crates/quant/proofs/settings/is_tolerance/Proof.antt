@@ -3,14 +3,19 @@ use borrow.Author.Rules.{rules}
 use Rattle.quant.proofs.settings.is_tolerance.Statement.{statement}
 use Rattle.quant.proofs.settings.is_tolerance.Tie as tie
 
-is-finite-requires : tie.Need-is-finite-requires
+is-finite-requires : tie.Need-is_finite-requires
 is-finite-requires c κs = search rules
 
 both-requires : tie.Need-both-requires
 both-requires c κs = search rules
 
 returns : tie.Need-returns
-returns c = rw (c.both.ensures, c.before.is_finite.ensures)
+returns c = rw (c.both.ensures, c.is_finite.ensures)
 
-pub is-tolerance-spec : {M : Type 1} → statement M
-is-tolerance-spec = tie.close (tie.spec is-finite-requires both-requires returns)
+pub is_tolerance_spec : {M : Type 1} → statement M
+is_tolerance_spec =
+    tie.close
+    (tie.spec
+    is-finite-requires
+    both-requires
+    returns)

@@ -7,44 +7,44 @@ use Rattle.ring.proofs.Adding.{Adding, adding_none, adding_more, adding_all}
 use Rattle.ring.proofs.eight.add_crossed.Statement.{statement}
 use Rattle.ring.proofs.eight.add_crossed.Tie as tie
 
-abbrev invariant-loop : tie.invariant-loop
+abbrev invariant-loop : tie.invariant-loop-p
 invariant-loop sums₀ taps m old new p₀ sums p = Adding (crossed taps m old new) sums₀ p sums
 
-abbrev decreases-loop : tie.decreases-loop
+abbrev decreases-loop : tie.decreases-loop-p
 decreases-loop sums₀ taps m old new p₀ sums p = 8 - p
 
-loop-holds : tie.Need-loop-init invariant-loop decreases-loop
-loop-holds c = adding_none _ _ c.before.requires.1.1
+loop-holds : tie.Need-loop-p-init invariant-loop decreases-loop
+loop-holds c = adding_none _ _ c.requires.1.1
 
 cross-requires : tie.Need-cross-requires invariant-loop decreases-loop
 cross-requires c κs = search rules
 
-mul-sums : tie.Need-overflow-mul-sums invariant-loop decreases-loop
+mul-sums : tie.Need-offset_bounds-sums-p invariant-loop decreases-loop
 mul-sums c = omega arith
 
-element-copy-out-sums : tie.Need-element-copy-out-sums invariant-loop decreases-loop
+element-copy-out-sums : tie.Need-bounds-sums-p invariant-loop decreases-loop
 element-copy-out-sums c = omega arith
 
-mul-sums-2 : tie.Need-overflow-mul-sums-2 invariant-loop decreases-loop
+mul-sums-2 : tie.Need-offset_bounds-sums-p-in-loop-p invariant-loop decreases-loop
 mul-sums-2 c = omega arith
 
-element-write-sums : tie.Need-element-write-sums invariant-loop decreases-loop
+element-write-sums : tie.Need-bounds-sums-p-in-loop-p invariant-loop decreases-loop
 element-write-sums c = omega arith
 
-add-p : tie.Need-overflow-add-p invariant-loop decreases-loop
+add-p : tie.Need-overflow_add-p invariant-loop decreases-loop
 add-p c = omega arith
 
-loop-less : tie.Need-loop-smaller invariant-loop decreases-loop
+loop-less : tie.Need-loop-p-smaller invariant-loop decreases-loop
 loop-less c = omega arith
 
-loop-again : tie.Need-loop-preserved invariant-loop decreases-loop
-loop-again c = let at = c.before.before.before.loop in adding_more _ _ at.sums at.p c.before.cross.result c.before.before.loop-test.true c.before.cross.ensures at.invariant
+loop-again : tie.Need-loop-p-preserved invariant-loop decreases-loop
+loop-again c = let at = c.loop-p in adding_more _ _ at.sums at.p c.cross.result c.loop-p-test.true c.cross.ensures at.invariant
 
 returns : tie.Need-returns invariant-loop decreases-loop
-returns c = let at = c.before.loop in adding_all _ _ at.sums at.p (omega arith) at.invariant
+returns c = let at = c.loop-p in adding_all _ _ at.sums at.p (omega arith) at.invariant
 
-pub add-crossed-spec : {M : Type 1} → statement M
-add-crossed-spec =
+pub add_crossed_spec : {M : Type 1} → statement M
+add_crossed_spec =
     tie.close
     (tie.spec
     invariant-loop

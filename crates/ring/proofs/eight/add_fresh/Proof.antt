@@ -9,57 +9,57 @@ use Rattle.ring.proofs.Summing.{summed-crossed, summed_at}
 use Rattle.ring.proofs.eight.add_fresh.Statement.{statement}
 use Rattle.ring.proofs.eight.add_fresh.Tie as tie
 
-abbrev invariant-loop : tie.invariant-loop
+abbrev invariant-loop : tie.invariant-loop-m
 invariant-loop sums₀ fresh ring taps s m₀ sums m = (m ≤ 8) × Summed taps ring s fresh (s + m) sums
 
-abbrev decreases-loop : tie.decreases-loop
+abbrev decreases-loop : tie.decreases-loop-m
 decreases-loop sums₀ fresh ring taps s m₀ sums m = 8 - m
 
-loop-holds : tie.Need-loop-init invariant-loop decreases-loop
+loop-holds : tie.Need-loop-m-init invariant-loop decreases-loop
 loop-holds c =
     let start = c.before.before in
     (search rules, summed_at (sym (add-zero start.args.s)) start.requires.1.1.1)
 
-add-old : tie.Need-overflow-add-old invariant-loop decreases-loop
+add-old : tie.Need-overflow_add-old invariant-loop decreases-loop
 add-old c = omega arith
 
-mul-old : tie.Need-overflow-mul-old invariant-loop decreases-loop
+mul-old : tie.Need-offset_bounds-ring-s invariant-loop decreases-loop
 mul-old c = omega arith
 
-shared-slice-read-old : tie.Need-shared-slice-read-old invariant-loop decreases-loop
+shared-slice-read-old : tie.Need-bounds-ring-s invariant-loop decreases-loop
 shared-slice-read-old c = omega arith
 
-mul-new : tie.Need-overflow-mul-new invariant-loop decreases-loop
+mul-new : tie.Need-offset_bounds-fresh-m invariant-loop decreases-loop
 mul-new c = omega arith
 
-element-copy-out-new : tie.Need-element-copy-out-new invariant-loop decreases-loop
+element-copy-out-new : tie.Need-bounds-fresh-m invariant-loop decreases-loop
 element-copy-out-new c = omega arith
 
-add-crossed-requires : tie.Need-add-crossed-requires invariant-loop decreases-loop
+add-crossed-requires : tie.Need-add_crossed-requires invariant-loop decreases-loop
 add-crossed-requires c κs = search rules
 
-add-m : tie.Need-overflow-add-m invariant-loop decreases-loop
+add-m : tie.Need-overflow_add-m invariant-loop decreases-loop
 add-m c = omega arith
 
-loop-less : tie.Need-loop-smaller invariant-loop decreases-loop
+loop-less : tie.Need-loop-m-smaller invariant-loop decreases-loop
 loop-less c = omega arith
 
-loop-again : tie.Need-loop-preserved invariant-loop decreases-loop
+loop-again : tie.Need-loop-m-preserved invariant-loop decreases-loop
 loop-again c =
-    let at = c.before.before.before.before.before.loop in
+    let at = c.loop-m in
     let start = c.before.before.before.before.before.before.before.before in
     let a = start.args in
     let on : a.s + at.m + 1 ≡ a.s + (at.m + 1) = omega arith in
-    (omega arith, summed_at on (summed-crossed a.taps.now a.ring.now a.s a.fresh.now start.requires.0 start.requires.1.0 start.requires.1.1.0 at.m c.before.before.before.before.loop-test.true at.invariant.1 c.add-crossed.ensures))
+    (omega arith, summed_at on (summed-crossed a.taps.now a.ring.now a.s a.fresh.now start.requires.0 start.requires.1.0 start.requires.1.1.0 at.m c.loop-m-test.true at.invariant.1 c.add_crossed.ensures))
 
 returns : tie.Need-returns invariant-loop decreases-loop
 returns c =
-    let at = c.before.loop in
-    let end : c.before.before.before.before.args.s + at.m ≡ c.before.before.before.before.args.s + 8 = omega arith in
+    let at = c.loop-m in
+    let end : c.args.s + at.m ≡ c.args.s + 8 = omega arith in
     summed_at end at.invariant.1
 
-pub add-fresh-spec : {M : Type 1} → statement M
-add-fresh-spec =
+pub add_fresh_spec : {M : Type 1} → statement M
+add_fresh_spec =
     tie.close
     (tie.spec
     invariant-loop

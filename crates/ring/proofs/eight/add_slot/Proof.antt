@@ -8,50 +8,50 @@ use Rattle.ring.proofs.Adding.{Adding, adding_none, adding_more, adding_all}
 use Rattle.ring.proofs.eight.add_slot.Statement.{statement}
 use Rattle.ring.proofs.eight.add_slot.Tie as tie
 
-abbrev invariant-loop : tie.invariant-loop
+abbrev invariant-loop : tie.invariant-loop-p
 invariant-loop sums₀ taps t x p₀ sums p = Adding (λ q. mul binary64 (get_or taps (t + q) nan) x) sums₀ p sums
 
-abbrev decreases-loop : tie.decreases-loop
+abbrev decreases-loop : tie.decreases-loop-p
 decreases-loop sums₀ taps t x p₀ sums p = 8 - p
 
-loop-holds : tie.Need-loop-init invariant-loop decreases-loop
+loop-holds : tie.Need-loop-p-init invariant-loop decreases-loop
 loop-holds c = adding_none _ _ c.requires.1
 
-add-sums : tie.Need-overflow-add-sums invariant-loop decreases-loop
+add-sums : tie.Need-overflow_add-sums invariant-loop decreases-loop
 add-sums c = omega arith
 
-mul-sums : tie.Need-overflow-mul-sums invariant-loop decreases-loop
+mul-sums : tie.Need-offset_bounds-taps-t invariant-loop decreases-loop
 mul-sums c = omega arith
 
-shared-slice-read-sums : tie.Need-shared-slice-read-sums invariant-loop decreases-loop
+shared-slice-read-sums : tie.Need-bounds-taps-t invariant-loop decreases-loop
 shared-slice-read-sums c = omega arith
 
-mul-sums-2 : tie.Need-overflow-mul-sums-2 invariant-loop decreases-loop
+mul-sums-2 : tie.Need-offset_bounds-sums-p invariant-loop decreases-loop
 mul-sums-2 c = omega arith
 
-element-copy-out-sums : tie.Need-element-copy-out-sums invariant-loop decreases-loop
+element-copy-out-sums : tie.Need-bounds-sums-p invariant-loop decreases-loop
 element-copy-out-sums c = omega arith
 
-mul-sums-3 : tie.Need-overflow-mul-sums-3 invariant-loop decreases-loop
+mul-sums-3 : tie.Need-offset_bounds-sums-p-in-loop-p invariant-loop decreases-loop
 mul-sums-3 c = omega arith
 
-element-write-sums : tie.Need-element-write-sums invariant-loop decreases-loop
+element-write-sums : tie.Need-bounds-sums-p-in-loop-p invariant-loop decreases-loop
 element-write-sums c = omega arith
 
-add-p : tie.Need-overflow-add-p invariant-loop decreases-loop
+add-p : tie.Need-overflow_add-p invariant-loop decreases-loop
 add-p c = omega arith
 
-loop-less : tie.Need-loop-smaller invariant-loop decreases-loop
+loop-less : tie.Need-loop-p-smaller invariant-loop decreases-loop
 loop-less c = omega arith
 
-loop-again : tie.Need-loop-preserved invariant-loop decreases-loop
-loop-again c = let at = c.before.before.before.loop in adding_more _ _ at.sums at.p _ c.before.before.loop-test.true refl at.invariant
+loop-again : tie.Need-loop-p-preserved invariant-loop decreases-loop
+loop-again c = let at = c.loop-p in adding_more _ _ at.sums at.p _ c.loop-p-test.true refl at.invariant
 
 returns : tie.Need-returns invariant-loop decreases-loop
-returns c = let at = c.before.loop in adding_all _ _ at.sums at.p (omega arith) at.invariant
+returns c = let at = c.loop-p in adding_all _ _ at.sums at.p (omega arith) at.invariant
 
-pub add-slot-spec : {M : Type 1} → statement M
-add-slot-spec =
+pub add_slot_spec : {M : Type 1} → statement M
+add_slot_spec =
     tie.close
     (tie.spec
     invariant-loop

@@ -1,77 +1,74 @@
 -- `shape::envelope::fill` meets its contract: judged whole, then the three parts are put into the scratch in order. Assumes nothing.
+use mathlib.Core.Bool.{not}
+use mathlib.Core.Path.{ap}
 use Rattle.std.proofs.Common.{◌∙◌, arith, rules}
 use Rattle.quant.proofs.Judging.{taken, passed}
 use Rattle.shape.proofs.Filling.{refused, filled, all_laid}
 use Rattle.shape.proofs.envelope.fill.Statement.{statement}
 use Rattle.shape.proofs.envelope.fill.Tie as tie
 
-fine-points-requires : tie.Need-fine-points-requires
-fine-points-requires c κs = c.before.before.requires.1
+fine-points-requires : tie.Need-fine_points-requires
+fine-points-requires c κs = c.requires.1
 
-returns : tie.Need-returns
+returns : tie.Need-returns-then-not-fine_points
 returns c =
-    let d = c.before in
-    let a = d.before.before.before.args in
-    refused a.shape a.numbers.now a.p a.scratch.now (taken d.fine-points.result _ d.fine-points.ensures c.if1.true)
+    let a = c.args in
+    refused a.shape a.numbers.now a.p a.scratch.now (taken c.fine_points.result _ c.fine_points.ensures (ap not c.if-not-fine_points.true))
 
-sub-sample : tie.Need-overflow-sub-sample
-sub-sample c = let fit = c.before.before.before.before.requires.0 in omega (arith, fit.head, fit.tail, fit.room)
+sub-sample : tie.Need-slice_bounds-sample-count
+sub-sample c = let fit = c.requires.0 in omega (arith, fit.head, fit.tail, fit.room)
 
-part-sample-start : tie.Need-slice-bounds-sample-start
-part-sample-start c = let fit = c.before.before.before.before.requires.0 in omega (arith, fit.head, fit.tail, fit.room)
+part-sample-start : tie.Need-slice_bounds-sample-start
+part-sample-start c = let fit = c.requires.0 in omega (arith, fit.head, fit.tail, fit.room)
 
-part-sample-end : tie.Need-slice-bounds-sample-end
-part-sample-end c = let fit = c.before.before.before.before.requires.0 in omega (arith, fit.head, fit.tail, fit.room)
+part-sample-end : tie.Need-slice_bounds-sample-end
+part-sample-end c = let fit = c.requires.0 in omega (arith, fit.head, fit.tail, fit.room)
 
 sample-requires : tie.Need-sample-requires
 sample-requires c κs = search rules
 
-mul-hold : tie.Need-overflow-mul-hold
-mul-hold c = let fit = c.before.before.before.before.before.before.before.before.requires.0 in omega (arith, fit.head, fit.tail, fit.room)
+mul-hold : tie.Need-offset_bounds-scratch-start
+mul-hold c = let fit = c.requires.0 in omega (arith, fit.head, fit.tail, fit.room)
 
-sub-hold : tie.Need-overflow-sub-hold
-sub-hold c = let fit = c.before.before.before.before.before.before.before.before.requires.0 in omega (arith, fit.head, fit.tail, fit.room)
+sub-hold : tie.Need-slice_bounds-hold-count
+sub-hold c = let fit = c.requires.0 in omega (arith, fit.head, fit.tail, fit.room)
 
-part-hold-start : tie.Need-slice-bounds-hold-start
-part-hold-start c = let fit = c.before.before.before.before.before.before.before.before.requires.0 in omega (arith, fit.head, fit.tail, fit.room)
+part-hold-start : tie.Need-slice_bounds-hold-start
+part-hold-start c = let fit = c.requires.0 in omega (arith, fit.head, fit.tail, fit.room)
 
-part-hold-end : tie.Need-slice-bounds-hold-end
-part-hold-end c = let fit = c.before.before.before.before.before.before.before.before.requires.0 in omega (arith, fit.head, fit.tail, fit.room)
+part-hold-end : tie.Need-slice_bounds-hold-end
+part-hold-end c = let fit = c.requires.0 in omega (arith, fit.head, fit.tail, fit.room)
 
 hold-requires : tie.Need-hold-requires
 hold-requires c κs = search rules
 
-mul-sample : tie.Need-overflow-mul-sample
-mul-sample c = let fit = c.before.before.before.before.before.before.before.before.before.before.before.before.requires.0 in omega (arith, fit.head, fit.tail, fit.room)
+mul-sample : tie.Need-offset_bounds-scratch-end
+mul-sample c = let fit = c.requires.0 in omega (arith, fit.head, fit.tail, fit.room)
 
-sub-sample-2 : tie.Need-overflow-sub-sample-2
-sub-sample-2 c = let fit = c.before.before.before.before.before.before.before.before.before.before.before.before.requires.0 in omega (arith, fit.head, fit.tail, fit.room)
+sub-sample-2 : tie.Need-slice_bounds-sample-count-2
+sub-sample-2 c = let fit = c.requires.0 in omega (arith, fit.head, fit.tail, fit.room)
 
-part-sample-start-2 : tie.Need-slice-bounds-sample-start-2
-part-sample-start-2 c = let fit = c.before.before.before.before.before.before.before.before.before.before.before.before.requires.0 in omega (arith, fit.head, fit.tail, fit.room)
+part-sample-start-2 : tie.Need-slice_bounds-sample-start-2
+part-sample-start-2 c = let fit = c.requires.0 in omega (arith, fit.head, fit.tail, fit.room)
 
-part-sample-end-2 : tie.Need-slice-bounds-sample-end-2
-part-sample-end-2 c = let fit = c.before.before.before.before.before.before.before.before.before.before.before.before.requires.0 in omega (arith, fit.head, fit.tail, fit.room)
+part-sample-end-2 : tie.Need-slice_bounds-sample-end-2
+part-sample-end-2 c = let fit = c.requires.0 in omega (arith, fit.head, fit.tail, fit.room)
 
 sample-requires-2 : tie.Need-sample-requires-2
 sample-requires-2 c κs = search rules
 
-same_length : tie.Need-same-length
+same_length : tie.Need-shape_of-scratch
 same_length c =
-    let d = c.before.before.before.before.before in
-    c.before.scratch3.given.1 ∙ d.scratch2.given.1 ∙ d.before.before.before.before.scratch.given.1
+    c.scratch-3-1.given.1 ∙ c.scratch-2-1.given.1 ∙ c.scratch-1.given.1
 
-returns-2 : tie.Need-returns-2
+returns-2 : tie.Need-returns
 returns-2 c =
-    let k = c.before.before.before.before.before.before.before.before.before.before in
-    let d = k.before.before.before in
-    let start = d.before.before.before in
-    let shape = start.args.shape in
-    let numbers = start.args.numbers.now in
-    let p = start.args.p in
-    let old = start.args.scratch.now in
-    let fine = passed d.fine-points.result _ d.fine-points.ensures k.before.before.if1.false in
-    filled shape numbers p old fine _ (all_laid shape numbers p old start.requires.0 _ _ _ k.sample.ensures c.before.before.before.before.before.before.hold.ensures c.before.before.sample2.ensures)
+    let shape = c.args.shape in
+    let numbers = c.args.numbers.now in
+    let p = c.args.p in
+    let old = c.args.scratch.now in
+    let fine = passed c.fine_points.result _ c.fine_points.ensures (ap not c.if-not-fine_points.false) in
+    filled shape numbers p old fine _ (all_laid shape numbers p old c.requires.0 _ _ _ c.sample.ensures c.hold.ensures c.sample-2.ensures)
 
 pub fill_spec : {M : Type 1} → statement M
 fill_spec =

@@ -4,11 +4,15 @@ use borrow.Author.Tests.{lt-leb}
 use Rattle.shape.proofs.envelope.smaller.Statement.{statement}
 use Rattle.shape.proofs.envelope.smaller.Tie as tie
 
-returns : tie.Need-returns
-returns c = rw (le-leb _ _ c.if1.true)
+returns : tie.Need-returns-then-a-b
+returns c = rw (le-leb _ _ c.if-a-b.true)
 
-returns-2 : tie.Need-returns-2
-returns-2 c = rw (lt-leb _ _ c.if1.false)
+returns-2 : tie.Need-returns
+returns-2 c = rw (lt-leb _ _ c.if-a-b.false)
 
-pub smaller-spec : {M : Type 1} → statement M
-smaller-spec = tie.close (tie.spec returns returns-2)
+pub smaller_spec : {M : Type 1} → statement M
+smaller_spec =
+    tie.close
+    (tie.spec
+    returns
+    returns-2)

@@ -11,5 +11,9 @@ returns : tie.Need-returns
 unfolding hann_of
 returns c = rw c.cosine.ensures
 
-pub hann-spec : {M : Type 1} → statement M
-hann-spec = tie.close (tie.spec cosine-requires returns)
+pub hann_spec : {M : Type 1} → statement M
+hann_spec =
+    tie.close
+    (tie.spec
+    cosine-requires
+    returns)

@@ -4,11 +4,15 @@ use borrow.Author.Tests.{lt-leb}
 use Rattle.shape.proofs.parts.in_order.Statement.{statement}
 use Rattle.shape.proofs.parts.in_order.Tie as tie
 
-returns : tie.Need-returns
-returns c = rw (le-leb _ _ c.if1.true)
+returns : tie.Need-returns-then-start-end
+returns c = rw (le-leb _ _ c.if-start-end.true)
 
-returns-2 : tie.Need-returns-2
-returns-2 c = rw (lt-leb _ _ c.if1.false)
+returns-2 : tie.Need-returns
+returns-2 c = rw (lt-leb _ _ c.if-start-end.false)
 
-pub in-order-spec : {M : Type 1} → statement M
-in-order-spec = tie.close (tie.spec returns returns-2)
+pub in_order_spec : {M : Type 1} → statement M
+in_order_spec =
+    tie.close
+    (tie.spec
+    returns
+    returns-2)

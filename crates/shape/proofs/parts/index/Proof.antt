@@ -15,35 +15,35 @@ was t rate y k e f = sym (ap index_of (ap cut_of (sym e) ∙ f))
 ceil-requires : tie.Need-ceil-requires
 ceil-requires c κs = search rules
 
-cut-off-requires : tie.Need-cut-off-requires
+cut-off-requires : tie.Need-cut_off-requires
 cut-off-requires c κs = search rules
 
-enum-known-n : tie.Need-enum-known-n
+enum-known-n : tie.Need-enum_known-n
 enum-known-n c = search rules
 
-enum_told : tie.Need-enum-told
+enum_told : tie.Need-enum_told-1
 enum_told c = search rules
 
-enum-told-2 : tie.Need-enum-told-2
+enum-told-2 : tie.Need-enum_told-in-Above
 enum-told-2 c = search rules
 
-enum-told-3 : tie.Need-enum-told-3
+enum-told-3 : tie.Need-enum_told-in-NotANumber
 enum-told-3 c = search rules
 
-returns : tie.Need-returns
-returns c = was c.before.before.before.before.before.args.t c.before.before.before.before.before.args.rate _ _ c.before.before.before.before.ceil.ensures (sym c.before.before.before.cut_off.ensures ∙ c.before.n.given.1)
+returns : tie.Need-returns-in-Index
+returns c = was c.args.t c.args.rate _ _ c.ceil.ensures (sym c.cut_off.ensures ∙ c.in-Index.is)
 
-returns-2 : tie.Need-returns-2
-returns-2 c = was c.before.before.before.before.args.t c.before.before.before.before.args.rate _ _ c.before.before.before.ceil.ensures (sym c.before.before.cut_off.ensures ∙ c.enum_told.given.1)
+returns-2 : tie.Need-returns-in-Below
+returns-2 c = was c.args.t c.args.rate _ _ c.ceil.ensures (sym c.cut_off.ensures ∙ c.in-Below.is)
 
-returns-3 : tie.Need-returns-3
-returns-3 c = was c.before.before.before.before.args.t c.before.before.before.before.args.rate _ _ c.before.before.before.ceil.ensures (sym c.before.before.cut_off.ensures ∙ c.enum-told2.given.1)
+returns-3 : tie.Need-returns-in-Above
+returns-3 c = was c.args.t c.args.rate _ _ c.ceil.ensures (sym c.cut_off.ensures ∙ c.in-Above.is)
 
-returns-4 : tie.Need-returns-4
-returns-4 c = was c.before.before.before.before.args.t c.before.before.before.before.args.rate _ _ c.before.before.before.ceil.ensures (sym c.before.before.cut_off.ensures ∙ c.enum-told3.given.1)
+returns-4 : tie.Need-returns-in-NotANumber
+returns-4 c = was c.args.t c.args.rate _ _ c.ceil.ensures (sym c.cut_off.ensures ∙ c.in-NotANumber.is)
 
-pub index-spec : {M : Type 1} → statement M
-index-spec =
+pub index_spec : {M : Type 1} → statement M
+index_spec =
     tie.close
     (tie.spec
     ceil-requires

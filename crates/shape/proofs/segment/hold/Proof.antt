@@ -7,45 +7,45 @@ use Rattle.rows.proofs.Valued.{Valued, valued-turn, valued-all, constant}
 use Rattle.shape.proofs.segment.hold.Statement.{statement}
 use Rattle.shape.proofs.segment.hold.Tie as tie
 
-abbrev invariant-loop : tie.invariant-loop
+abbrev invariant-loop : tie.invariant-loop-i
 invariant-loop part₀ i₀ part i = Valued (λ (x : Float). one) part₀ part i
 
-abbrev decreases-loop : tie.decreases-loop
+abbrev decreases-loop : tie.decreases-loop-i
 decreases-loop part₀ i₀ part i = length part₀ - i
 
-loop-holds : tie.Need-loop-init invariant-loop decreases-loop
+loop-holds : tie.Need-loop-i-init invariant-loop decreases-loop
 unfolding upto
 loop-holds c = record { within = search rules; same = refl; done = refl }
 
-mul-part : tie.Need-overflow-mul-part invariant-loop decreases-loop
+mul-part : tie.Need-offset_bounds-part-i invariant-loop decreases-loop
 mul-part c = omega arith
 
-slice-write-part : tie.Need-slice-write-part invariant-loop decreases-loop
+slice-write-part : tie.Need-bounds-part-i invariant-loop decreases-loop
 slice-write-part c = omega arith
 
-add-i : tie.Need-overflow-add-i invariant-loop decreases-loop
+add-i : tie.Need-overflow_add-i invariant-loop decreases-loop
 add-i c = omega arith
 
-loop-less : tie.Need-loop-smaller invariant-loop decreases-loop
+loop-less : tie.Need-loop-i-smaller invariant-loop decreases-loop
 loop-less c = omega arith
 
-loop-again : tie.Need-loop-preserved invariant-loop decreases-loop
+loop-again : tie.Need-loop-i-preserved invariant-loop decreases-loop
 loop-again c =
-    let at = c.before.loop in
-    let a = c.before.before.args in
+    let at = c.loop-i in
+    let a = c.args in
     valued-turn (λ (x : Float). one) a.part.now at.part at.i (omega arith) at.invariant one refl
 
-same_length : tie.Need-same-length invariant-loop decreases-loop
-same_length c = c.before.loop.invariant.same
+same_length : tie.Need-shape_of-part invariant-loop decreases-loop
+same_length c = c.loop-i.invariant.same
 
 returns : tie.Need-returns invariant-loop decreases-loop
 returns c =
-    let at = c.before.loop in
-    let a = c.before.before.args in
+    let at = c.loop-i in
+    let a = c.args in
     valued-all (λ (x : Float). one) a.part.now at.part at.i (omega arith) at.invariant ∙ constant one a.part.now
 
-pub hold-spec : {M : Type 1} → statement M
-hold-spec =
+pub hold_spec : {M : Type 1} → statement M
+hold_spec =
     tie.close
     (tie.spec
     invariant-loop

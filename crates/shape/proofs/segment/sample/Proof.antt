@@ -6,56 +6,56 @@ use Rattle.shape.proofs.Shapes.{plain-values, hann-values, spline-values}
 use Rattle.shape.proofs.segment.sample.Statement.{statement}
 use Rattle.shape.proofs.segment.sample.Tie as tie
 
-enum_told : tie.Need-enum-told
+enum_told : tie.Need-enum_told-1
 enum_told c = search rules
 
 hold-requires : tie.Need-hold-requires
 hold-requires c κs = search rules
 
-enum-told-2 : tie.Need-enum-told-2
+enum-told-2 : tie.Need-enum_told-in-Hann
 enum-told-2 c = search rules
 
-sample-hann-requires : tie.Need-sample-hann-requires
+sample-hann-requires : tie.Need-sample_hann-requires
 sample-hann-requires c κs = search rules
 
-enum-told-3 : tie.Need-enum-told-3
+enum-told-3 : tie.Need-enum_told-in-Spline
 enum-told-3 c = search rules
 
-sample-spline-requires : tie.Need-sample-spline-requires
+sample-spline-requires : tie.Need-sample_spline-requires
 sample-spline-requires c κs = search rules
 
-same_length : tie.Need-same-length
+same_length : tie.Need-shape_of-part-in-Plain
 same_length c = search rules
 
-returns : tie.Need-returns
+returns : tie.Need-returns-in-Plain
 returns c =
-    let a = c.before.before.before.before.before.before.before.before.args in
-    c.before.before.hold.ensures
+    let a = c.args in
+    c.hold.ensures
     ∙ plain-values a.numbers.now (length a.part.now) a.x a.dx
-    ∙ ap (λ (s : Shape). values s a.numbers.now (length a.part.now) 0 a.x a.dx) (sym c.before.before.before.before.enum_told.given.1)
+    ∙ ap (λ (s : Shape). values s a.numbers.now (length a.part.now) 0 a.x a.dx) (sym c.in-Plain.is)
 
-same-length-2 : tie.Need-same-length-2
+same-length-2 : tie.Need-shape_of-part-in-Hann
 same-length-2 c = search rules
 
-returns-2 : tie.Need-returns-2
+returns-2 : tie.Need-returns-in-Hann
 returns-2 c =
-    let a = c.before.before.before.before.before.before.before.before.args in
-    c.before.before.sample-hann.ensures
+    let a = c.args in
+    c.sample_hann.ensures
     ∙ hann-values a.numbers.now (length a.part.now) a.x a.dx
-    ∙ ap (λ (s : Shape). values s a.numbers.now (length a.part.now) 0 a.x a.dx) (sym c.before.before.before.before.enum-told2.given.1)
+    ∙ ap (λ (s : Shape). values s a.numbers.now (length a.part.now) 0 a.x a.dx) (sym c.in-Hann.is)
 
-same-length-3 : tie.Need-same-length-3
+same-length-3 : tie.Need-shape_of-part-in-Spline
 same-length-3 c = search rules
 
-returns-3 : tie.Need-returns-3
+returns-3 : tie.Need-returns-in-Spline
 returns-3 c =
-    let a = c.before.before.before.before.before.before.before.before.args in
-    c.before.before.sample-spline.ensures
+    let a = c.args in
+    c.sample_spline.ensures
     ∙ spline-values a.numbers.now (length a.part.now) a.x a.dx
-    ∙ ap (λ (s : Shape). values s a.numbers.now (length a.part.now) 0 a.x a.dx) (sym c.before.before.before.before.enum-told3.given.1)
+    ∙ ap (λ (s : Shape). values s a.numbers.now (length a.part.now) 0 a.x a.dx) (sym c.in-Spline.is)
 
-pub sample-spec : {M : Type 1} → statement M
-sample-spec =
+pub sample_spec : {M : Type 1} → statement M
+sample_spec =
     tie.close
     (tie.spec
     enum_told

@@ -10,14 +10,18 @@ lay-requires c κs = search rules
 over-requires : tie.Need-over-requires
 over-requires c κs = search rules
 
-same_length : tie.Need-same-length
+same_length : tie.Need-shape_of-part
 same_length c = search rules
 
 returns : tie.Need-returns
 returns c =
-    let b = c.before.before in
-    let laid = b.before.before.before.before in
-    b.over.ensures ∙ ap (map (value_in laid.before.before.before.before.args.numbers.now)) laid.lay.ensures
+    c.over.ensures ∙ ap (map (value_in c.args.numbers.now)) c.lay.ensures
 
-pub sample-spline-spec : {M : Type 1} → statement M
-sample-spline-spec = tie.close (tie.spec lay-requires over-requires same_length returns)
+pub sample_spline_spec : {M : Type 1} → statement M
+sample_spline_spec =
+    tie.close
+    (tie.spec
+    lay-requires
+    over-requires
+    same_length
+    returns)

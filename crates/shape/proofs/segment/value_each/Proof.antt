@@ -6,54 +6,54 @@ use Rattle.shape.specs.Hann.{hann_of}
 use Rattle.shape.proofs.segment.value_each.Statement.{statement}
 use Rattle.shape.proofs.segment.value_each.Tie as tie
 
-abbrev invariant-loop : tie.invariant-loop
+abbrev invariant-loop : tie.invariant-loop-i
 invariant-loop part₀ i₀ part i = Valued hann_of part₀ part i
 
-abbrev decreases-loop : tie.decreases-loop
+abbrev decreases-loop : tie.decreases-loop-i
 decreases-loop part₀ i₀ part i = length part₀ - i
 
-loop-holds : tie.Need-loop-init invariant-loop decreases-loop
+loop-holds : tie.Need-loop-i-init invariant-loop decreases-loop
 unfolding upto
 loop-holds c = record { within = search rules; same = refl; done = refl }
 
-mul-hann : tie.Need-overflow-mul-hann invariant-loop decreases-loop
+mul-hann : tie.Need-offset_bounds-part-i invariant-loop decreases-loop
 mul-hann c = omega arith
 
-slice-read-hann : tie.Need-slice-read-hann invariant-loop decreases-loop
+slice-read-hann : tie.Need-bounds-part-i invariant-loop decreases-loop
 slice-read-hann c = omega arith
 
 hann-requires : tie.Need-hann-requires invariant-loop decreases-loop
 hann-requires c κs = search rules
 
-mul-part : tie.Need-overflow-mul-part invariant-loop decreases-loop
+mul-part : tie.Need-offset_bounds-part-i-in-loop-i invariant-loop decreases-loop
 mul-part c = omega arith
 
-slice-write-part : tie.Need-slice-write-part invariant-loop decreases-loop
+slice-write-part : tie.Need-bounds-part-i-in-loop-i invariant-loop decreases-loop
 slice-write-part c = omega arith
 
-add-i : tie.Need-overflow-add-i invariant-loop decreases-loop
+add-i : tie.Need-overflow_add-i invariant-loop decreases-loop
 add-i c = omega arith
 
-loop-less : tie.Need-loop-smaller invariant-loop decreases-loop
+loop-less : tie.Need-loop-i-smaller invariant-loop decreases-loop
 loop-less c = omega arith
 
-loop-again : tie.Need-loop-preserved invariant-loop decreases-loop
+loop-again : tie.Need-loop-i-preserved invariant-loop decreases-loop
 loop-again c =
-    let at = c.before.before.before.loop in
-    let a = c.before.before.before.before.before.args in
+    let at = c.loop-i in
+    let a = c.args in
     valued-turn hann_of a.part.now at.part at.i (omega arith) at.invariant c.hann.result c.hann.ensures
 
-same_length : tie.Need-same-length invariant-loop decreases-loop
-same_length c = c.before.loop.invariant.same
+same_length : tie.Need-shape_of-part invariant-loop decreases-loop
+same_length c = c.loop-i.invariant.same
 
 returns : tie.Need-returns invariant-loop decreases-loop
 returns c =
-    let at = c.before.loop in
-    let a = c.before.before.before.args in
+    let at = c.loop-i in
+    let a = c.args in
     valued-all hann_of a.part.now at.part at.i (omega arith) at.invariant
 
-pub value-each-spec : {M : Type 1} → statement M
-value-each-spec =
+pub value_each_spec : {M : Type 1} → statement M
+value_each_spec =
     tie.close
     (tie.spec
     invariant-loop

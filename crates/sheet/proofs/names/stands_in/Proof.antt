@@ -10,8 +10,12 @@ place-requires c κs = search rules
 
 returns : tie.Need-returns
 returns c =
-    let p = c.before.args in
+    let p = c.args in
     rw c.place.ensures (in_from p.n p.names p.from p.many (omega arith) (omega arith))
 
-pub stands-in-spec : {M : Type 1} → statement M
-stands-in-spec = tie.close (tie.spec place-requires returns)
+pub stands_in_spec : {M : Type 1} → statement M
+stands_in_spec =
+    tie.close
+    (tie.spec
+    place-requires
+    returns)

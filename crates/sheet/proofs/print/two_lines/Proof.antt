@@ -7,19 +7,25 @@ use Rattle.sheet.proofs.Printing.{bytes_cut}
 use Rattle.sheet.proofs.print.two_lines.Statement.{statement}
 use Rattle.sheet.proofs.print.two_lines.Tie as tie
 
-returns : tie.Need-returns
+returns : tie.Need-returns-then-n-gt16
 unfolding two_lines
-returns c = omega (arith, bytes_cut c.before.before.args.n (omega arith))
+returns c = omega (arith, bytes_cut c.args.n (omega arith))
 
-mul-result : tie.Need-overflow-mul-result
+mul-result : tie.Need-overflow_mul-result
 mul-result c = search rules
 
-add-result : tie.Need-overflow-add-result
+add-result : tie.Need-overflow_add-result
 add-result c = search rules
 
-returns-2 : tie.Need-returns-2
+returns-2 : tie.Need-returns
 unfolding two_lines
-returns-2 c = omega (arith, length-bytes c.before.before.before.args.n (omega arith))
+returns-2 c = omega (arith, length-bytes c.args.n (omega arith))
 
-pub two-lines-spec : {M : Type 1} → statement M
-two-lines-spec = tie.close (tie.spec returns mul-result add-result returns-2)
+pub two_lines_spec : {M : Type 1} → statement M
+two_lines_spec =
+    tie.close
+    (tie.spec
+    returns
+    mul-result
+    add-result
+    returns-2)

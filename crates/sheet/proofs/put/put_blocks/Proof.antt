@@ -24,111 +24,106 @@ use Rattle.sheet.proofs.put.put_blocks.Tie as tie
 abbrev left : ℕ → ℕ → List Name → List Float → List ℕ
 left i count names matrix = blocks_text (blocks_of count (drop i (take count names)) (drop (i * count) matrix))
 
-abbrev invariant-loop : tie.invariant-loop
+abbrev invariant-loop : tie.invariant-loop-i
 invariant-loop count matrix out₀ from names at₀ i₀ out at i =
     (i ≤ count)
     × (good_names (drop i (take count names)) ≡ true)
     × Left (left i count names matrix) (blocks_text (blocks_of count (take count names) matrix)) out₀ from at out
 
-abbrev decreases-loop : tie.decreases-loop
+abbrev decreases-loop : tie.decreases-loop-i
 decreases-loop count matrix out₀ from names at₀ i₀ out at i = count - i
 
-loop-holds : tie.Need-loop-init invariant-loop decreases-loop
-loop-holds c = (omega arith, c.before.before.requires.0.good, rw zero-mul (left-all _ _ _ c.before.before.requires.1))
+loop-holds : tie.Need-loop-i-init invariant-loop decreases-loop
+loop-holds c = (omega arith, c.requires.0.good, rw zero-mul (left-all _ _ _ c.requires.1))
 
 -- a row's numbers are few, and within the matrix
-row_fits : (c : tie.In-loop invariant-loop decreases-loop)
-    → c.before.loop.i * c.before.before.before.before.args.count + c.before.before.before.before.args.count ≤ 64
+row_fits : (c : tie.In-loop-i invariant-loop decreases-loop)
+    → c.loop-i.i * c.args.count + c.args.count ≤ 64
 row_fits c =
-    let start = c.before.before.before.before in
-    let count = start.args.count in
-    let square = few start.requires.0.most start.requires.0.most in
-    omega (arith, row_within count c.before.loop.i (omega arith))
+    let count = c.args.count in
+    let square = few c.requires.0.most c.requires.0.most in
+    omega (arith, row_within count c.loop-i.i (omega arith))
 
-row_in : (c : tie.In-loop invariant-loop decreases-loop)
-    → c.before.loop.i * c.before.before.before.before.args.count + c.before.before.before.before.args.count ≤ length c.before.before.before.before.args.matrix.now
+row_in : (c : tie.In-loop-i invariant-loop decreases-loop)
+    → c.loop-i.i * c.args.count + c.args.count ≤ length c.args.matrix.now
 row_in c =
-    let start = c.before.before.before.before in
-    omega (arith, row_within start.args.count c.before.loop.i (omega arith), start.requires.0.numbers)
+    omega (arith, row_within c.args.count c.loop-i.i (omega arith), c.requires.0.numbers)
 
-mul-row : tie.Need-overflow-mul-row invariant-loop decreases-loop
+mul-row : tie.Need-overflow_mul-row invariant-loop decreases-loop
 mul-row c = omega (arith, row_fits c)
 
-mul-put-block : tie.Need-overflow-mul-put-block invariant-loop decreases-loop
+mul-put-block : tie.Need-offset_bounds-names-i invariant-loop decreases-loop
 mul-put-block c = omega arith
 
-array-copy-out-put-block : tie.Need-array-copy-out-put-block invariant-loop decreases-loop
+array-copy-out-put-block : tie.Need-bounds-names-i invariant-loop decreases-loop
 array-copy-out-put-block c = search rules
 
-add-put-block : tie.Need-overflow-add-put-block invariant-loop decreases-loop
+add-put-block : tie.Need-overflow_add-row invariant-loop decreases-loop
 add-put-block c = omega (arith, row_fits c.before)
 
-mul-put-block-2 : tie.Need-overflow-mul-put-block-2 invariant-loop decreases-loop
+mul-put-block-2 : tie.Need-offset_bounds-matrix-row invariant-loop decreases-loop
 mul-put-block-2 c = omega (arith, row_fits c.before)
 
-sub-put-block : tie.Need-overflow-sub-put-block invariant-loop decreases-loop
+sub-put-block : tie.Need-slice_bounds-put_block-count invariant-loop decreases-loop
 sub-put-block c = omega arith
 
-part-put-block-start : tie.Need-slice-bounds-put-block-start invariant-loop decreases-loop
+part-put-block-start : tie.Need-slice_bounds-put_block-start invariant-loop decreases-loop
 part-put-block-start c = omega arith
 
-part-put-block-end : tie.Need-slice-bounds-put-block-end invariant-loop decreases-loop
+part-put-block-end : tie.Need-slice_bounds-put_block-end invariant-loop decreases-loop
 part-put-block-end c = omega (arith, row_in c.before)
 
-put-block-requires : tie.Need-put-block-requires invariant-loop decreases-loop
+put-block-requires : tie.Need-put_block-at-requires invariant-loop decreases-loop
 unfolding blank
 put-block-requires c κs =
-    let at-loop = c.before.before.before.before in
-    let start = at-loop.before.before.before in
-    let p = start.args in
-    let at = at-loop.loop in
+    let p = c.args in
+    let at = c.loop-i in
     let matrix = p.matrix.now in
     let row = at.i * p.count in
-    let n = get_or p.t1 at.i blank in
+    let n = get_or p.names at.i blank in
     let size : row + p.count - row ≡ p.count = omega arith in
     let all = p.count * p.count in
     let part = part_of matrix row p.count all (row_within p.count at.i (omega arith)) in
-    let fine = finite-take p.count (drop row (take all matrix)) (finite-drop row (take all matrix) start.requires.0.fine) in (
-      (both (is_name n) _ (sym (good-next p.t1 p.count (omega arith) at.i blank (omega arith)) ∙ at.invariant.1)).0,
+    let fine = finite-take p.count (drop row (take all matrix)) (finite-drop row (take all matrix) c.requires.0.fine) in (
+      (both (is_name n) _ (sym (good-next p.names p.count (omega arith) at.i blank (omega arith)) ∙ at.invariant.1)).0,
       rw size (ap all_finite (sym part) ∙ fine),
       rw size
-          (left-room (block_text n (take p.count (drop row matrix))) _ (blocks-line p.t1 p.count (omega arith) at.i blank (omega arith) matrix) at.invariant.2),
+          (left-room (block_text n (take p.count (drop row matrix))) _ (blocks-line p.names p.count (omega arith) at.i blank (omega arith) matrix) at.invariant.2),
     )
 
-add-i : tie.Need-overflow-add-i invariant-loop decreases-loop
+add-i : tie.Need-overflow_add-i invariant-loop decreases-loop
 add-i c = search rules
 
-loop-less : tie.Need-loop-smaller invariant-loop decreases-loop
+loop-less : tie.Need-loop-i-smaller invariant-loop decreases-loop
 loop-less c = search rules
 
-loop-again : tie.Need-loop-preserved invariant-loop decreases-loop
+loop-again : tie.Need-loop-i-preserved invariant-loop decreases-loop
 unfolding blank
 loop-again c =
-    let p = c.before.before.before.before.before.before.before.before.before.before.args in
-    let at = c.before.before.before.before.before.before.before.loop in
+    let p = c.args in
+    let at = c.loop-i in
     let matrix = p.matrix.now in
     let row = at.i * p.count in
-    let n = get_or p.t1 at.i blank in
+    let n = get_or p.names at.i blank in
     let size : row + p.count - row ≡ p.count = omega arith in
-    let line = blocks-line p.t1 p.count (omega arith) at.i blank (omega arith) matrix in (
+    let line = blocks-line p.names p.count (omega arith) at.i blank (omega arith) matrix in (
       omega arith,
-      rw add-one (both (is_name n) _ (sym (good-next p.t1 p.count (omega arith) at.i blank (omega arith)) ∙ at.invariant.1)).1,
-      rw add-one (left-more line at.invariant.2 (rw size at c.before.before.put-block.ensures) c.before.before.put-block.auto.1.1.0),
+      rw add-one (both (is_name n) _ (sym (good-next p.names p.count (omega arith) at.i blank (omega arith)) ∙ at.invariant.1)).1,
+      rw add-one (left-more line at.invariant.2 (rw size at c.put_block-at.ensures) c.put_block-at.auto.out),
     )
 
-same_length : tie.Need-same-length invariant-loop decreases-loop
-same_length c = c.before.loop.invariant.2.long
+same_length : tie.Need-shape_of-out invariant-loop decreases-loop
+same_length c = c.loop-i.invariant.2.long
 
 returns : tie.Need-returns invariant-loop decreases-loop
 unfolding blocks_text blocks_of
 returns c =
-    let start = c.before.before.before.before in
-    let p = start.args in
-    let at = c.before.loop in
-    left-none (ap (λ (l : List Name). blocks_text (blocks_of p.count l (drop (at.i * p.count) p.matrix.now))) (part_end p.t1 p.count (omega arith) at.i (omega arith))) at.invariant.2
+    let p = c.args in
+    let at = c.loop-i in
+    left-none (ap (λ (l : List Name). blocks_text (blocks_of p.count l (drop (at.i * p.count) p.matrix.now))) (part_end p.names p.count (omega arith) at.i (omega arith))) at.invariant.2
 
-pub put-blocks-spec : {M : Type 1} → statement M
-put-blocks-spec =
+pub put_blocks_spec : {M : Type 1} → statement M
+put_blocks_spec =
     tie.close
     (tie.spec
     invariant-loop

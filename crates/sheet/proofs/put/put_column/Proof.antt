@@ -4,20 +4,21 @@ use Rattle.sheet.specs.Sheet.{column_key}
 use Rattle.sheet.proofs.put.put_column.Statement.{statement}
 use Rattle.sheet.proofs.put.put_column.Tie as tie
 
-slice-aggregate-put-name : tie.Need-slice-aggregate-put-name
-slice-aggregate-put-name c = search rules
-
-put-name-requires : tie.Need-put-name-requires
+put-name-requires : tie.Need-put_name-requires
 unfolding column_key
-put-name-requires c κs = c.before.before.before.requires
+put-name-requires c κs = c.requires
 
-same_length : tie.Need-same-length
+same_length : tie.Need-shape_of-out
 same_length c = search rules
 
 returns : tie.Need-returns
 unfolding column_key
-returns c = c.before.before.put-name.ensures
+returns c = c.put_name.ensures
 
-pub put-column-spec : {M : Type 1} → statement M
-put-column-spec =
-    tie.close (tie.spec slice-aggregate-put-name put-name-requires same_length returns)
+pub put_column_spec : {M : Type 1} → statement M
+put_column_spec =
+    tie.close
+    (tie.spec
+    put-name-requires
+    same_length
+    returns)

@@ -17,64 +17,61 @@ use Rattle.sheet.proofs.Printing.{factors-line, finite-next, factor-line-long}
 use Rattle.sheet.proofs.put.put_factors.Statement.{statement}
 use Rattle.sheet.proofs.put.put_factors.Tie as tie
 
-abbrev invariant-loop : tie.invariant-loop
+abbrev invariant-loop : tie.invariant-loop-i
 invariant-loop numbers out₀ from at₀ i₀ out at i =
     (i ≤ length numbers)
     × (all_finite (drop i numbers) ≡ true)
     × Left (factors_text (patterns (drop i numbers))) (factors_text (patterns numbers)) out₀ from at out
 
-abbrev decreases-loop : tie.decreases-loop
+abbrev decreases-loop : tie.decreases-loop-i
 decreases-loop numbers out₀ from at₀ i₀ out at i = length numbers - i
 
-loop-holds : tie.Need-loop-init invariant-loop decreases-loop
-loop-holds c = (omega arith, c.before.before.requires.0, left-all _ _ _ c.before.before.requires.1)
+loop-holds : tie.Need-loop-i-init invariant-loop decreases-loop
+loop-holds c = (omega arith, c.requires.0, left-all _ _ _ c.requires.1)
 
-mul-put-factor : tie.Need-overflow-mul-put-factor invariant-loop decreases-loop
+mul-put-factor : tie.Need-offset_bounds-numbers-i invariant-loop decreases-loop
 mul-put-factor c = search rules
 
-shared-slice-read-put-factor : tie.Need-shared-slice-read-put-factor invariant-loop decreases-loop
+shared-slice-read-put-factor : tie.Need-bounds-numbers-i invariant-loop decreases-loop
 shared-slice-read-put-factor c = search rules
 
-put-factor-requires : tie.Need-put-factor-requires invariant-loop decreases-loop
+put-factor-requires : tie.Need-put_factor-at-requires invariant-loop decreases-loop
 put-factor-requires c κs =
-    let numbers = c.before.before.before.before.before.before.args.numbers.now in
-    let at = c.before.before.before.loop in
+    let numbers = c.args.numbers.now in
+    let at = c.loop-i in
     let x = get_or numbers at.i nan in
     let room = left-room (factor_line x) _ (factors-line numbers at.i (omega arith)) at.invariant.2 in (
       (both (finite x) _ (sym (finite-next numbers at.i (omega arith)) ∙ at.invariant.1)).0,
       omega (arith, room, factor-line-long x),
     )
 
-add-i : tie.Need-overflow-add-i invariant-loop decreases-loop
+add-i : tie.Need-overflow_add-i invariant-loop decreases-loop
 add-i c = search rules
 
-loop-less : tie.Need-loop-smaller invariant-loop decreases-loop
+loop-less : tie.Need-loop-i-smaller invariant-loop decreases-loop
 loop-less c = search rules
 
-loop-again : tie.Need-loop-preserved invariant-loop decreases-loop
+loop-again : tie.Need-loop-i-preserved invariant-loop decreases-loop
 loop-again c =
-    let at-put-factor = c.before.before in
-    let at-loop = at-put-factor.before.before.before.before in
-    let start = at-loop.before.before.before in
-    let numbers = start.args.numbers.now in
-    let at = at-loop.loop in (
+    let numbers = c.args.numbers.now in
+    let at = c.loop-i in (
       omega arith,
       rw add-one (both (finite (get_or numbers at.i nan)) _ (sym (finite-next numbers at.i (omega arith)) ∙ at.invariant.1)).1,
-      rw add-one (left-more (factors-line numbers at.i (omega arith)) at.invariant.2 at-put-factor.put-factor.ensures at-put-factor.put-factor.auto.1.0),
+      rw add-one (left-more (factors-line numbers at.i (omega arith)) at.invariant.2 c.put_factor-at.ensures c.put_factor-at.auto.out),
     )
 
-same_length : tie.Need-same-length invariant-loop decreases-loop
-same_length c = c.before.loop.invariant.2.long
+same_length : tie.Need-shape_of-out invariant-loop decreases-loop
+same_length c = c.loop-i.invariant.2.long
 
 returns : tie.Need-returns invariant-loop decreases-loop
 unfolding factors_text patterns
 returns c =
-    let numbers = c.before.before.before.before.args.numbers.now in
-    let at = c.before.loop in
+    let numbers = c.args.numbers.now in
+    let at = c.loop-i in
     left-none (ap (λ (l : List Float). factors_text (patterns l)) (drop_of_length-le numbers {i = at.i} (omega arith))) at.invariant.2
 
-pub put-factors-spec : {M : Type 1} → statement M
-put-factors-spec =
+pub put_factors_spec : {M : Type 1} → statement M
+put_factors_spec =
     tie.close
     (tie.spec
     invariant-loop

@@ -7,58 +7,43 @@ use Rattle.sheet.proofs.Pasting.{then}
 use Rattle.sheet.proofs.put.put_head.Statement.{statement}
 use Rattle.sheet.proofs.put.put_head.Tie as tie
 
-slice-aggregate-put : tie.Need-slice-aggregate-put
-slice-aggregate-put c = search rules
+put-requires : tie.Need-put-digit-requires
+put-requires c κs = omega (arith, c.requires.1)
 
-put-requires : tie.Need-put-requires
-put-requires c κs = omega (arith, c.before.before.before.requires.1)
-
-cast-put-byte : tie.Need-overflow-cast-put-byte
+cast-put-byte : tie.Need-overflow_cast-count
 cast-put-byte c = search rules
 
-add-put-byte : tie.Need-overflow-add-put-byte
+add-put-byte : tie.Need-overflow_add-count
 add-put-byte c = search rules
 
-put-byte-requires : tie.Need-put-byte-requires
+put-byte-requires : tie.Need-put_byte-feed-requires
 put-byte-requires c κs =
-    let at-put = c.before.before.before in
-    let start = at-put.before.before.before.before in
-    omega (arith, start.requires.1, at-put.put.ensures.next, at-put.put.auto.1.0)
+    omega (arith, c.requires.1, c.put-digit.ensures.next, c.put-digit.auto.out)
 
-put-byte-requires-2 : tie.Need-put-byte-requires-2
+put-byte-requires-2 : tie.Need-put_byte-requires
 put-byte-requires-2 c κs =
-    let at-put-byte = c.before.before.before in
-    let at-put = at-put-byte.before.before.before.before in
-    let start = at-put.before.before.before.before in
     omega (
       arith,
-      start.requires.1,
-      at-put.put.ensures.next,
-      at-put-byte.put_byte.ensures.next,
-      at-put.put.auto.1.0,
-      at-put-byte.put_byte.auto.1.0,
+      c.requires.1,
+      c.put-digit.ensures.next,
+      c.put_byte-feed.ensures.next,
+      c.put-digit.auto.out,
+      c.put_byte-feed.auto.out,
     )
 
-same_length : tie.Need-same-length
+same_length : tie.Need-shape_of-out
 same_length c =
-    let at-put-byte2 = c.before.before in
-    let at-put-byte = at-put-byte2.before.before.before.before in
-    let at-put = at-put-byte.before.before.before.before in
-    at-put-byte2.put-byte2.auto.1.0 ∙ at-put-byte.put_byte.auto.1.0 ∙ at-put.put.auto.1.0
+    c.put_byte.auto.out ∙ c.put_byte-feed.auto.out ∙ c.put-digit.auto.out
 
 returns : tie.Need-returns
 unfolding count_text channels_key
 returns c =
-    let at-put-byte2 = c.before.before in
-    let at-put-byte = at-put-byte2.before.before.before.before in
-    let at-put = at-put-byte.before.before.before.before in
-    then (omega arith) (then (omega arith) at-put.put.ensures at-put-byte.put_byte.ensures) at-put-byte2.put-byte2.ensures
+    then (omega arith) (then (omega arith) c.put-digit.ensures c.put_byte-feed.ensures) c.put_byte.ensures
 
-pub put-head-spec : {M : Type 1} → statement M
-put-head-spec =
+pub put_head_spec : {M : Type 1} → statement M
+put_head_spec =
     tie.close
     (tie.spec
-    slice-aggregate-put
     put-requires
     cast-put-byte
     add-put-byte

@@ -7,61 +7,54 @@ use Rattle.sheet.proofs.Printing.{name-long, name-put, name-line-long}
 use Rattle.sheet.proofs.put.put_name.Statement.{statement}
 use Rattle.sheet.proofs.put.put_name.Tie as tie
 
-put-requires : tie.Need-put-requires
+put-requires : tie.Need-put-at-requires
 put-requires c κs =
-    let start = c.before.before.before in
-    omega (arith, start.requires.1, name-line-long start.args.key.now start.args.n)
+    omega (arith, c.requires.1, name-line-long c.args.key.now c.args.n)
 
 write-requires : tie.Need-write-requires
 write-requires c κs = search rules
 
-add-put-byte : tie.Need-overflow-add-put-byte
+add-put-byte : tie.Need-overflow_add-at
 add-put-byte c =
-    let at-put = c.before.before.before.before.before.before.before.before in
-    let start = at-put.before.before.before.before in
     omega (
       arith,
-      start.requires.1,
-      name-line-long start.args.key.now start.args.n,
-      name-long start.args.n start.requires.0,
-      at-put.put.ensures.next,
+      c.requires.1,
+      name-line-long c.args.key.now c.args.n,
+      name-long c.args.n c.requires.0,
+      c.put-at.ensures.next,
     )
 
-put-byte-requires : tie.Need-put-byte-requires
+put-byte-requires : tie.Need-put_byte-requires
 put-byte-requires c κs =
-    let at-write = c.before.before.before.before in
-    let at-put = at-write.before.before.before.before in
-    let start = at-put.before.before.before.before in
     omega (
       arith,
-      start.requires.1,
-      name-line-long start.args.key.now start.args.n,
-      name-long start.args.n start.requires.0,
-      at-put.put.ensures.next,
-      at-put.put.auto.1.0,
-      at-write.write.auto.1.0,
+      c.requires.1,
+      name-line-long c.args.key.now c.args.n,
+      name-long c.args.n c.requires.0,
+      c.put-at.ensures.next,
+      c.put-at.auto.out,
+      c.write.auto.out,
     )
 
-same_length : tie.Need-same-length
+same_length : tie.Need-shape_of-out
 same_length c =
-    let at-put-byte = c.before.before in
-    let at-write = at-put-byte.before.before.before.before.before in
-    let at-put = at-write.before.before.before.before in
-    at-put-byte.put_byte.auto.1.0 ∙ at-write.write.auto.1.0 ∙ at-put.put.auto.1.0
+    c.put_byte.auto.out ∙ c.write.auto.out ∙ c.put-at.auto.out
 
 returns : tie.Need-returns
 returns c =
-    let at-put-byte = c.before.before in
-    let at-write = at-put-byte.before.before.before.before.before in
-    let at-put = at-write.before.before.before.before in
-    let start = at-put.before.before.before.before in
-    let p = start.args in
+    let p = c.args in
     let room = name-line-long p.key.now p.n in
-    let size = name-long p.n start.requires.0 in
-    let named = name-put start.requires.0 (omega (arith, at-put.put.ensures.next, at-put.put.auto.1.0)) at-write.write.ensures in
-    then (omega arith) (then (omega arith) at-put.put.ensures named) at-put-byte.put_byte.ensures
+    let size = name-long p.n c.requires.0 in
+    let named = name-put c.requires.0 (omega (arith, c.put-at.ensures.next, c.put-at.auto.out)) c.write.ensures in
+    then (omega arith) (then (omega arith) c.put-at.ensures named) c.put_byte.ensures
 
-pub put-name-spec : {M : Type 1} → statement M
-put-name-spec =
+pub put_name_spec : {M : Type 1} → statement M
+put_name_spec =
     tie.close
-    (tie.spec put-requires write-requires add-put-byte put-byte-requires same_length returns)
+    (tie.spec
+    put-requires
+    write-requires
+    add-put-byte
+    put-byte-requires
+    same_length
+    returns)

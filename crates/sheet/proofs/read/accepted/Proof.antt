@@ -7,7 +7,10 @@ use Rattle.sheet.proofs.read.accepted.Tie as tie
 
 returns : tie.Need-returns
 unfolding answer_of names_of
-returns c = record { answered = refl; named = names-eight c.before.args.s c.before.requires }
+returns c = record { answered = refl; named = names-eight c.args.s c.requires }
 
-pub accepted-spec : {M : Type 1} → statement M
-accepted-spec = tie.close (tie.spec returns)
+pub accepted_spec : {M : Type 1} → statement M
+accepted_spec =
+    tie.close
+    (tie.spec
+    returns)

@@ -10,20 +10,26 @@ use Rattle.sheet.proofs.read.ended.Tie as tie
 complete-requires : tie.Need-complete-requires
 complete-requires c κs = search rules
 
-returns : tie.Need-returns
+returns : tie.Need-returns-then-complete
 unfolding read_from
 returns c =
-    let e : complete (so_far c.before.before.args.s) ≡ true = sym c.before.complete.ensures ∙ c.if1.true in
-    record { is = rw e; fits = c.before.before.requires; whole = λ k. e }
+    let e : complete (so_far c.args.s) ≡ true = sym c.complete.ensures ∙ c.if-complete.true in
+    record { is = rw e; fits = c.requires; whole = λ k. e }
 
-stopped-at-requires : tie.Need-stopped-at-requires
+stopped-at-requires : tie.Need-stopped_at-requires
 stopped-at-requires c κs = search rules
 
-returns-2 : tie.Need-returns-2
+returns-2 : tie.Need-returns
 unfolding read_from
 returns-2 c =
-    let e : complete (so_far c.before.before.before.args.s) ≡ false = sym c.before.before.complete.ensures ∙ c.before.if1.false in
-    rw e c.stopped-at.ensures
+    let e : complete (so_far c.args.s) ≡ false = sym c.complete.ensures ∙ c.if-complete.false in
+    rw e c.stopped_at.ensures
 
-pub ended-spec : {M : Type 1} → statement M
-ended-spec = tie.close (tie.spec complete-requires returns stopped-at-requires returns-2)
+pub ended_spec : {M : Type 1} → statement M
+ended_spec =
+    tie.close
+    (tie.spec
+    complete-requires
+    returns
+    stopped-at-requires
+    returns-2)

@@ -37,64 +37,53 @@ module _ (text : List ℕ) (before : List Float) where
 refused-requires : tie.Need-refused-requires
 refused-requires c κs = search rules
 
-returns : tie.Need-returns
+returns : tie.Need-returns-then-text-gt4096
 unfolding matrix_of
 returns c =
-    let start = c.before.before.before.before in
-    of-outcome (long start.args.text.now start.args.matrix.now c.before.if1.true) c.refused.ensures refl
+    of-outcome (long c.args.text.now c.args.matrix.now c.if-text-gt4096.true) c.refused.ensures refl
 
-refused-requires-2 : tie.Need-refused-requires-2
+refused-requires-2 : tie.Need-refused-requires-then-matrix-lt64
 refused-requires-2 c κs = search rules
 
-returns-2 : tie.Need-returns-2
+returns-2 : tie.Need-returns-then-matrix-lt64
 unfolding matrix_of
 returns-2 c =
-    let start = c.before.before.before.before.before in
-    of-outcome (short start.args.text.now start.args.matrix.now c.before.if2.true) c.refused2.ensures refl
+    of-outcome (short c.args.text.now c.args.matrix.now c.if-matrix-lt64.true) c.refused-then-matrix-lt64.ensures refl
 
-lines-of-requires : tie.Need-lines-of-requires
+lines-of-requires : tie.Need-lines_of-parsed-requires
 lines-of-requires c κs = search rules
 
-enum_told : tie.Need-enum-told
+enum_told : tie.Need-enum_told-1
 enum_told c = search rules
 
 fill-requires : tie.Need-fill-requires
 fill-requires c κs =
-    let at-enum-told = c.before.before in
-    let at-lines-of = at-enum-told.before.before in
-    (at-lines-of.lines_of.ensures.fits, at-lines-of.lines_of.ensures.whole at-enum-told.enum_told.given.1, omega arith)
+    (c.lines_of-parsed.ensures.fits, c.lines_of-parsed.ensures.whole c.in-Good.is, omega arith)
 
 accepted-requires : tie.Need-accepted-requires
-accepted-requires c κs = c.before.before.before.before.before.before.before.lines_of.ensures.fits
+accepted-requires c κs = c.lines_of-parsed.ensures.fits
 
-enum-known-verdict : tie.Need-enum-known-verdict
+enum-known-verdict : tie.Need-enum_known-verdict
 enum-known-verdict c = search rules
 
-refused-requires-3 : tie.Need-refused-requires-3
+refused-requires-3 : tie.Need-refused-requires-in-Bad
 refused-requires-3 c κs = search rules
 
-same_length : tie.Need-same-length
-same_length c = c.before.before.before.fill.auto.1.0
+same_length : tie.Need-shape_of-matrix
+same_length c = c.fill.auto.matrix
 
-returns-3 : tie.Need-returns-3
+returns-3 : tie.Need-returns-in-Good
 returns-3 c =
-    let at_fill_lem = c.before.before.before in
-    let at-enum-told = at_fill_lem.before.before.before in
-    let at-lines-of = at-enum-told.before.before in
-    let start = at-lines-of.before.before.before.before.before in
-    let p = start.args in
-    let made = ap (λ (v : Verdict). ends v at-lines-of.lines_of.result.line at-lines-of.lines_of.result.state) (sym at-enum-told.enum_told.given.1) in
-    of-outcome (fits p.text.now p.matrix.now (omega arith) (omega arith) ∙ sym (made ∙ at-lines-of.lines_of.ensures.is)) c.accepted.ensures at_fill_lem.fill.ensures
+    let p = c.args in
+    let made = ap (λ (v : Verdict). ends v c.lines_of-parsed.result.line c.lines_of-parsed.result.state) (sym c.in-Good.is) in
+    of-outcome (fits p.text.now p.matrix.now (omega arith) (omega arith) ∙ sym (made ∙ c.lines_of-parsed.ensures.is)) c.accepted.ensures c.fill.ensures
 
-returns-4 : tie.Need-returns-4
+returns-4 : tie.Need-returns-in-Bad
 unfolding matrix_of
 returns-4 c =
-    let at-verdict = c.before.before in
-    let at-lines-of = at-verdict.before.before in
-    let start = at-lines-of.before.before.before.before.before in
-    let p = start.args in
-    let made = ap (λ (v : Verdict). ends v at-lines-of.lines_of.result.line at-lines-of.lines_of.result.state) (sym at-verdict.verdict.given.1) in
-    of-outcome (fits p.text.now p.matrix.now (omega arith) (omega arith) ∙ sym (made ∙ at-lines-of.lines_of.ensures.is)) c.refused3.ensures refl
+    let p = c.args in
+    let made = ap (λ (v : Verdict). ends v c.lines_of-parsed.result.line c.lines_of-parsed.result.state) (sym c.in-Bad.is) in
+    of-outcome (fits p.text.now p.matrix.now (omega arith) (omega arith) ∙ sym (made ∙ c.lines_of-parsed.ensures.is)) c.refused-in-Bad.ensures refl
 
 pub read_spec : {M : Type 1} → statement M
 read_spec =

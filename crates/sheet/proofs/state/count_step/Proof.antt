@@ -1,6 +1,7 @@
 -- `sheet::state::count_step` meets its contract: its tests are those of one digit 1..8 behind the key. Assumes nothing.
+use mathlib.Core.Bool.{not}
 use Prim.Native.Nat.{◌-◌}
-use mathlib.Core.Path.{◌≡◌, subst}
+use mathlib.Core.Path.{◌≡◌, subst, ap}
 use native.Mathlib.Omega.{arith}
 use borrow.Author.Rules.{rules}
 use lib.ListN.{drop}
@@ -11,70 +12,55 @@ use Rattle.sheet.proofs.Steps.{count_long, count_low, count-high, count-digit}
 use Rattle.sheet.proofs.state.count_step.Statement.{statement}
 use Rattle.sheet.proofs.state.count_step.Tie as tie
 
-slice-aggregate-starts : tie.Need-slice-aggregate-starts
-slice-aggregate-starts c = search rules
-
 starts-requires : tie.Need-starts-requires
 starts-requires c κs = search rules
 
 stopped-requires : tie.Need-stopped-requires
 stopped-requires c κs = search rules
 
-returns : tie.Need-returns
+returns : tie.Need-returns-then-not-starts
 unfolding channels_key count_step
 returns c =
-    let at-starts = c.before.before in
-    let start = at-starts.before.before.before in
-    rw (missing channels_key start.args.line.now _ at-starts.starts.ensures c.before.if1.true) c.stopped.ensures
+    rw (missing channels_key c.args.line.now _ c.starts.ensures (ap not c.if-not-starts.true)) c.stopped.ensures
 
-stopped-requires-2 : tie.Need-stopped-requires-2
+stopped-requires-2 : tie.Need-stopped-requires-then-line-ne10
 stopped-requires-2 c κs = search rules
 
-returns-2 : tie.Need-returns-2
+returns-2 : tie.Need-returns-then-line-ne10
 unfolding channels_key
 returns-2 c =
-    let at-if1 = c.before.before in
-    let at-starts = at-if1.before in
-    let start = at-starts.before.before.before in
-    let line = start.args.line.now in
-    let e : behind channels_key line ≡ value (drop 9 line) = there channels_key line _ at-starts.starts.ensures at-if1.if1.false in
-    let long = reaches channels_key line _ at-starts.starts.ensures at-if1.if1.false in
-    rw (e, count_long line c.before.if2.true long) c.stopped2.ensures
+    let line = c.args.line.now in
+    let e : behind channels_key line ≡ value (drop 9 line) = there channels_key line _ c.starts.ensures (ap not c.if-not-starts.false) in
+    let long = reaches channels_key line _ c.starts.ensures (ap not c.if-not-starts.false) in
+    rw (e, count_long line c.if-line-ne10.true long) c.stopped-then-line-ne10.ensures
 
-shared-slice-read-digit : tie.Need-shared-slice-read-digit
+shared-slice-read-digit : tie.Need-bounds-line-9
 shared-slice-read-digit c = search rules
 
-stopped-requires-3 : tie.Need-stopped-requires-3
+stopped-requires-3 : tie.Need-stopped-requires-then-digit-lt49
 stopped-requires-3 c κs = search rules
 
-returns-3 : tie.Need-returns-3
+returns-3 : tie.Need-returns-then-digit-lt49
 unfolding channels_key
 returns-3 c =
-    let at-if1 = c.before.before.before.before in
-    let at-starts = at-if1.before in
-    let start = at-starts.before.before.before in
-    let line = start.args.line.now in
-    let e : behind channels_key line ≡ value (drop 9 line) = there channels_key line _ at-starts.starts.ensures at-if1.if1.false in
-    rw (e, count_low line (omega arith) c.before.if3.true) c.stopped3.ensures
+    let line = c.args.line.now in
+    let e : behind channels_key line ≡ value (drop 9 line) = there channels_key line _ c.starts.ensures (ap not c.if-not-starts.false) in
+    rw (e, count_low line (omega arith) c.if-digit-lt49.true) c.stopped-then-digit-lt49.ensures
 
-stopped-requires-4 : tie.Need-stopped-requires-4
+stopped-requires-4 : tie.Need-stopped-requires-then-digit-gt56
 stopped-requires-4 c κs = search rules
 
-returns-4 : tie.Need-returns-4
+returns-4 : tie.Need-returns-then-digit-gt56
 unfolding channels_key
 returns-4 c =
-    let at-if3 = c.before.before in
-    let at-if1 = at-if3.before.before.before in
-    let at-starts = at-if1.before in
-    let start = at-starts.before.before.before in
-    let line = start.args.line.now in
-    let e : behind channels_key line ≡ value (drop 9 line) = there channels_key line _ at-starts.starts.ensures at-if1.if1.false in
-    rw (e, count-high line (omega arith) at-if3.if3.false c.before.if4.true) c.stopped4.ensures
+    let line = c.args.line.now in
+    let e : behind channels_key line ≡ value (drop 9 line) = there channels_key line _ c.starts.ensures (ap not c.if-not-starts.false) in
+    rw (e, count-high line (omega arith) c.if-digit-lt49.false c.if-digit-gt56.true) c.stopped-then-digit-gt56.ensures
 
-sub-count : tie.Need-overflow-sub-count
+sub-count : tie.Need-overflow_sub-count
 sub-count c = search rules
 
-cast-count : tie.Need-overflow-cast-count
+cast-count : tie.Need-overflow_cast-count
 cast-count c = search rules
 
 fresh-requires : tie.Need-fresh-requires
@@ -83,24 +69,18 @@ fresh-requires c κs = search rules
 went-requires : tie.Need-went-requires
 went-requires c κs = search rules
 
-returns-5 : tie.Need-returns-5
+returns-5 : tie.Need-returns
 unfolding channels_key
 returns-5 c =
-    let at-if4 = c.before.before in
-    let at-if3 = at-if4.before in
-    let at-if1 = at-if3.before.before.before in
-    let at-starts = at-if1.before in
-    let start = at-starts.before.before.before in
-    let line = start.args.line.now in
-    let e : behind channels_key line ≡ value (drop 9 line) = there channels_key line _ at-starts.starts.ensures at-if1.if1.false in
-    rw (e, count-digit line (omega arith) at-if3.if3.false at-if4.if4.false)
-    (subst (λ (s : SoFar). Steps c.went.result (goes s)) c.before.fresh.ensures.is c.went.ensures)
+    let line = c.args.line.now in
+    let e : behind channels_key line ≡ value (drop 9 line) = there channels_key line _ c.starts.ensures (ap not c.if-not-starts.false) in
+    rw (e, count-digit line (omega arith) c.if-digit-lt49.false c.if-digit-gt56.false)
+    (subst (λ (s : SoFar). Steps c.went.result (goes s)) c.fresh.ensures.is c.went.ensures)
 
-pub count-step-spec : {M : Type 1} → statement M
-count-step-spec =
+pub count_step_spec : {M : Type 1} → statement M
+count_step_spec =
     tie.close
     (tie.spec
-    slice-aggregate-starts
     starts-requires
     stopped-requires
     returns

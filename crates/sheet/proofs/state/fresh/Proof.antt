@@ -6,7 +6,7 @@ use Rattle.sheet.specs.Sheet.{blank, single, among}
 use Rattle.sheet.proofs.state.fresh.Statement.{statement}
 use Rattle.sheet.proofs.state.fresh.Tie as tie
 
-blank-requires : tie.Need-blank-requires
+blank-requires : tie.Need-blank-names-requires
 blank-requires c κs = search rules
 
 returns : tie.Need-returns
@@ -16,18 +16,22 @@ returns c =
       is = refl;
       fits =
           record {
-            most = c.before.requires;
+            most = c.requires;
             columns-most = omega arith;
             rows-most = omega arith;
             factors-most = omega arith;
             columns-long = refl;
             rows_long = refl;
             factors-long = refl;
-            blanks = rw c.blank.ensures;
+            blanks = rw c.blank-names.ensures;
             single-rows = refl;
             rows-columns = refl;
           };
     }
 
-pub fresh-spec : {M : Type 1} → statement M
-fresh-spec = tie.close (tie.spec blank-requires returns)
+pub fresh_spec : {M : Type 1} → statement M
+fresh_spec =
+    tie.close
+    (tie.spec
+    blank-requires
+    returns)

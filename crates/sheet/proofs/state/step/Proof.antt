@@ -5,59 +5,44 @@ use Rattle.sheet.proofs.Steps.{rows_few, step_count, step-column, step-factor, s
 use Rattle.sheet.proofs.state.step.Statement.{statement}
 use Rattle.sheet.proofs.state.step.Tie as tie
 
-count-step-requires : tie.Need-count-step-requires
+count-step-requires : tie.Need-count_step-requires
 count-step-requires c κs = search rules
 
-returns : tie.Need-returns
+returns : tie.Need-returns-then-s-eq0
 returns c =
-    let start = c.before.before.before.before in
-    rw (step_count start.args.s start.requires start.args.line.now c.before.if1.true) c.count-step.ensures
+    rw (step_count c.args.s c.requires c.args.line.now c.if-s-eq0.true) c.count_step.ensures
 
-column-step-requires : tie.Need-column-step-requires
-column-step-requires c κs = (c.before.before.before.before.before.requires, c.if2.true)
+column-step-requires : tie.Need-column_step-requires
+column-step-requires c κs = (c.requires, c.if-s.true)
 
-returns-2 : tie.Need-returns-2
+returns-2 : tie.Need-returns-then-s
 returns-2 c =
-    let at-if1 = c.before.before.before in
-    let start = at-if1.before.before.before in
-    rw (step-column start.args.s start.requires start.args.line.now at-if1.if1.false c.before.if2.true) c.column-step.ensures
+    rw (step-column c.args.s c.requires c.args.line.now c.if-s-eq0.false c.if-s.true) c.column_step.ensures
 
-mul-if3 : tie.Need-overflow-mul-if3
+mul-if3 : tie.Need-overflow_mul-s
 mul-if3 c =
-    let start = c.before.before.before.before.before.before in
-    omega (arith, rows_few start.args.s start.requires)
+    omega (arith, rows_few c.args.s c.requires)
 
-factor-step-requires : tie.Need-factor-step-requires
-factor-step-requires c κs = (c.before.before.before.before.before.before.before.before.requires, c.if3.true)
+factor-step-requires : tie.Need-factor_step-requires
+factor-step-requires c κs = (c.requires, c.if-s-2.true)
 
-returns-3 : tie.Need-returns-3
+returns-3 : tie.Need-returns-then-s-2
 returns-3 c =
-    let at-if2 = c.before.before.before.before in
-    let at-if1 = at-if2.before.before in
-    let start = at-if1.before.before.before in
-    rw (step-factor start.args.s start.requires start.args.line.now at-if1.if1.false at-if2.if2.false c.before.if3.true) c.factor-step.ensures
+    rw (step-factor c.args.s c.requires c.args.line.now c.if-s-eq0.false c.if-s.false c.if-s-2.true) c.factor_step.ensures
 
-row-step-requires : tie.Need-row-step-requires
-row-step-requires c κs = (c.before.before.before.before.before.before.before.before.before.before.requires, c.if4.true)
+row-step-requires : tie.Need-row_step-requires
+row-step-requires c κs = (c.requires, c.if-s-3.true)
 
-returns-4 : tie.Need-returns-4
+returns-4 : tie.Need-returns-then-s-3
 returns-4 c =
-    let at-if3 = c.before.before.before in
-    let at-if2 = at-if3.before.before.before in
-    let at-if1 = at-if2.before.before in
-    let start = at-if1.before.before.before in
-    rw (step_row start.args.s start.requires start.args.line.now at-if1.if1.false at-if2.if2.false at-if3.if3.false c.before.if4.true) c.row_step.ensures
+    rw (step_row c.args.s c.requires c.args.line.now c.if-s-eq0.false c.if-s.false c.if-s-2.false c.if-s-3.true) c.row_step.ensures
 
 stopped-requires : tie.Need-stopped-requires
 stopped-requires c κs = search rules
 
-returns-5 : tie.Need-returns-5
+returns-5 : tie.Need-returns
 returns-5 c =
-    let at-if3 = c.before.before.before in
-    let at-if2 = at-if3.before.before.before in
-    let at-if1 = at-if2.before.before in
-    let start = at-if1.before.before.before in
-    rw (step-none start.args.s start.requires start.args.line.now at-if1.if1.false at-if2.if2.false at-if3.if3.false c.before.if4.false) c.stopped.ensures
+    rw (step-none c.args.s c.requires c.args.line.now c.if-s-eq0.false c.if-s.false c.if-s-2.false c.if-s-3.false) c.stopped.ensures
 
 pub step_spec : {M : Type 1} → statement M
 step_spec =

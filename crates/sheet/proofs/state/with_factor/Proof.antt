@@ -1,6 +1,6 @@
 -- `sheet::state::with_factor` meets its contract. Assumes nothing.
-use mathlib.Core.Bool.{true, false}
-use mathlib.Core.Path.{◌≡◌, ◌∙◌}
+use mathlib.Core.Bool.{true, false, not}
+use mathlib.Core.Path.{◌≡◌, ◌∙◌, ap}
 use native.Mathlib.Omega.{arith}
 use borrow.Author.Rules.{rules}
 use lib.Ieee.{binary64, of_bits}
@@ -11,50 +11,42 @@ use Rattle.sheet.proofs.Steps.{rows_few, factor-goes, factor-fits}
 use Rattle.sheet.proofs.state.with_factor.Statement.{statement}
 use Rattle.sheet.proofs.state.with_factor.Tie as tie
 
-float-of-requires : tie.Need-float-of-requires
+float-of-requires : tie.Need-float_of-requires
 float-of-requires c κs = search rules
 
-is-finite-requires : tie.Need-is-finite-requires
+is-finite-requires : tie.Need-is_finite-requires
 is-finite-requires c κs = search rules
 
 stopped-requires : tie.Need-stopped-requires
 stopped-requires c κs = search rules
 
-returns : tie.Need-returns
+returns : tie.Need-returns-then-not-is_finite
 unfolding factor_bits
 returns c =
-    let at-is-finite = c.before.before in
-    let at-float-of = at-is-finite.before in
-    let start = at-float-of.before in
-    let e : finite (of_bits binary64 start.args.bits) ≡ false = taken _ _ (at-is-finite.is_finite.ensures ∙ rw at-float-of.float_of.ensures) c.before.if1.true in
+    let e : finite (of_bits binary64 c.args.bits) ≡ false = taken _ _ (c.is_finite.ensures ∙ rw c.float_of.ensures) (ap not c.if-not-is_finite.true) in
     rw e c.stopped.ensures
 
-mul-t : tie.Need-overflow-mul-t
-mul-t c = omega (arith, rows_few c.before.before.before.args.s c.before.before.before.requires.0)
+mul-t : tie.Need-offset_bounds-t-at
+mul-t c = omega (arith, rows_few c.args.s c.requires.0)
 
-element-write-t : tie.Need-element-write-t
+element-write-t : tie.Need-bounds-t-at
 element-write-t c =
-    let start = c.before.before.before in
-    omega (arith, rows_few start.args.s start.requires.0)
+    omega (arith, rows_few c.args.s c.requires.0)
 
-add-t : tie.Need-overflow-add-t
-add-t c = omega (arith, rows_few c.before.before.before.args.s c.before.before.before.requires.0)
+add-t : tie.Need-overflow_add-t
+add-t c = omega (arith, rows_few c.args.s c.requires.0)
 
 went-requires : tie.Need-went-requires
 went-requires c κs =
-    let start = c.before.before.before in
-    factor-fits start.args.s start.requires.0 start.requires.1 start.args.bits
+    factor-fits c.args.s c.requires.0 c.requires.1 c.args.bits
 
-returns-2 : tie.Need-returns-2
+returns-2 : tie.Need-returns
 returns-2 c =
-    let at-is-finite = c.before.before in
-    let at-float-of = at-is-finite.before in
-    let start = at-float-of.before in
-    let e : finite (of_bits binary64 start.args.bits) ≡ true = passed _ _ (at-is-finite.is_finite.ensures ∙ rw at-float-of.float_of.ensures) c.before.if1.false in
-    rw (factor-goes start.args.s start.requires.0 start.requires.1 start.args.bits e) c.went.ensures
+    let e : finite (of_bits binary64 c.args.bits) ≡ true = passed _ _ (c.is_finite.ensures ∙ rw c.float_of.ensures) (ap not c.if-not-is_finite.false) in
+    rw (factor-goes c.args.s c.requires.0 c.requires.1 c.args.bits e) c.went.ensures
 
-pub with-factor-spec : {M : Type 1} → statement M
-with-factor-spec =
+pub with_factor_spec : {M : Type 1} → statement M
+with_factor_spec =
     tie.close
     (tie.spec
     float-of-requires

@@ -11,17 +11,23 @@ either [] i h = absurd (not-suc-le-zero h)
 either (x ∷ l) zero h = refl
 either (x ∷ l) (suc i) h = either l i (le_of_suc-le-suc h)
 
-mul-result : tie.Need-overflow-mul-result
+mul-result : tie.Need-offset_bounds-numbers-i
 mul-result c = search rules
 
-shared-slice-read-result : tie.Need-shared-slice-read-result
+shared-slice-read-result : tie.Need-bounds-numbers-i
 shared-slice-read-result c = search rules
 
-returns : tie.Need-returns
-returns c = either c.before.before.args.numbers.now c.before.before.args.i c.before.if1.true
+returns : tie.Need-returns-then-i-numbers
+returns c = either c.args.numbers.now c.args.i c.if-i-numbers.true
 
-returns-2 : tie.Need-returns-2
-returns-2 c = sym (get_or-eq_default c.before.args.numbers.now nought c.if1.false)
+returns-2 : tie.Need-returns
+returns-2 c = sym (get_or-eq_default c.args.numbers.now nought c.if-i-numbers.false)
 
-pub number-at-spec : {M : Type 1} → statement M
-number-at-spec = tie.close (tie.spec mul-result shared-slice-read-result returns returns-2)
+pub number_at_spec : {M : Type 1} → statement M
+number_at_spec =
+    tie.close
+    (tie.spec
+    mul-result
+    shared-slice-read-result
+    returns
+    returns-2)

@@ -8,92 +8,92 @@ use Rattle.spline.proofs.Tested.{Tested, tested-first, tested-more}
 use Rattle.spline.proofs.tame.is_tame.Statement.{statement}
 use Rattle.spline.proofs.tame.is_tame.Tie as tie
 
-abbrev invariant-loop : tie.invariant-loop
+abbrev invariant-loop : tie.invariant-loop-i
 invariant-loop row p n i₀ i = (i ≤ n) × ((m : ℕ) → m < i → Tamed (control_at row m))
 
-abbrev decreases-loop : tie.decreases-loop
+abbrev decreases-loop : tie.decreases-loop-i
 decreases-loop row p n i₀ i = n - i
 
-abbrev invariant-loop2 : tie.invariant-loop2
+abbrev invariant-loop2 : tie.invariant-loop-j
 invariant-loop2 row p n i last₀ j₀ last j = (j ≤ n + p + 1) × Tested row j last
 
-abbrev decreases-loop2 : tie.decreases-loop2
+abbrev decreases-loop2 : tie.decreases-loop-j
 decreases-loop2 row p n i last₀ j₀ last j = n + p + 1 - j
 
-loop-holds : tie.Need-loop-init invariant-loop decreases-loop invariant-loop2 decreases-loop2
+loop-holds : tie.Need-loop-i-init invariant-loop decreases-loop invariant-loop2 decreases-loop2
 loop-holds c = (search rules, λ m l. absurd (omega arith))
 
 control-requires : tie.Need-control-requires invariant-loop decreases-loop invariant-loop2 decreases-loop2
 control-requires c κs = search rules
 
-is-tamed-requires : tie.Need-is-tamed-requires invariant-loop decreases-loop invariant-loop2 decreases-loop2
+is-tamed-requires : tie.Need-is_tamed-requires invariant-loop decreases-loop invariant-loop2 decreases-loop2
 is-tamed-requires c κs = search rules
 
-returns : tie.Need-returns invariant-loop decreases-loop invariant-loop2 decreases-loop2
+returns : tie.Need-returns-then-not-is_tamed invariant-loop decreases-loop invariant-loop2 decreases-loop2
 returns c = λ e. absurd (false≢true e)
 
-add-i : tie.Need-overflow-add-i invariant-loop decreases-loop invariant-loop2 decreases-loop2
+add-i : tie.Need-overflow_add-i invariant-loop decreases-loop invariant-loop2 decreases-loop2
 add-i c = search rules
 
-loop-less : tie.Need-loop-smaller invariant-loop decreases-loop invariant-loop2 decreases-loop2
+loop-less : tie.Need-loop-i-smaller invariant-loop decreases-loop invariant-loop2 decreases-loop2
 loop-less c = search rules
 
-loop-again : tie.Need-loop-preserved invariant-loop decreases-loop invariant-loop2 decreases-loop2
+loop-again : tie.Need-loop-i-preserved invariant-loop decreases-loop invariant-loop2 decreases-loop2
 loop-again c =
-    let at = c.before.before.before.before.loop in
-    let now = c.before.is-tamed.ensures (not-false _ c.if1.false) in
-    (omega arith, below_more _ at.i at.invariant.1 (subst Tamed c.before.before.control.ensures now))
+    let at = c.loop-i in
+    let now = c.is_tamed.ensures c.if-not-is_tamed.false in
+    (omega arith, below_more _ at.i at.invariant.1 (subst Tamed c.control.ensures now))
 
-knot-requires : tie.Need-knot-requires invariant-loop decreases-loop invariant-loop2 decreases-loop2
+knot-requires : tie.Need-knot-last-requires invariant-loop decreases-loop invariant-loop2 decreases-loop2
 knot-requires c κs = search rules
 
-is-tamed-requires-2 : tie.Need-is-tamed-requires-2 invariant-loop decreases-loop invariant-loop2 decreases-loop2
+is-tamed-requires-2 : tie.Need-is_tamed-requires-2 invariant-loop decreases-loop invariant-loop2 decreases-loop2
 is-tamed-requires-2 c κs = search rules
 
-returns-2 : tie.Need-returns-2 invariant-loop decreases-loop invariant-loop2 decreases-loop2
+returns-2 : tie.Need-returns-then-not-is_tamed-2 invariant-loop decreases-loop invariant-loop2 decreases-loop2
 returns-2 c = λ e. absurd (false≢true e)
 
-loop2-holds : tie.Need-loop2-init invariant-loop decreases-loop invariant-loop2 decreases-loop2
-loop2-holds c = (search rules, tested-first _ _ c.before.before.knot.ensures (c.before.is-tamed2.ensures (not-false _ c.if2.false)))
+loop2-holds : tie.Need-loop-j-init invariant-loop decreases-loop invariant-loop2 decreases-loop2
+loop2-holds c = (search rules, tested-first _ _ c.knot-last.ensures (c.is_tamed-2.ensures c.if-not-is_tamed-2.false))
 
-add-loop2 : tie.Need-overflow-add-loop2 invariant-loop decreases-loop invariant-loop2 decreases-loop2
+add-loop2 : tie.Need-overflow_add-n invariant-loop decreases-loop invariant-loop2 decreases-loop2
 add-loop2 c = search rules
 
-knot-requires-2 : tie.Need-knot-requires-2 invariant-loop decreases-loop invariant-loop2 decreases-loop2
+knot-requires-2 : tie.Need-knot-next-requires invariant-loop decreases-loop invariant-loop2 decreases-loop2
 knot-requires-2 c κs = search rules
 
-is-tamed-requires-3 : tie.Need-is-tamed-requires-3 invariant-loop decreases-loop invariant-loop2 decreases-loop2
+is-tamed-requires-3 : tie.Need-is_tamed-requires-in-loop-j invariant-loop decreases-loop invariant-loop2 decreases-loop2
 is-tamed-requires-3 c κs = search rules
 
-returns-3 : tie.Need-returns-3 invariant-loop decreases-loop invariant-loop2 decreases-loop2
+returns-3 : tie.Need-returns-then-not-is_tamed-3 invariant-loop decreases-loop invariant-loop2 decreases-loop2
 returns-3 c = λ e. absurd (false≢true e)
 
-returns-4 : tie.Need-returns-4 invariant-loop decreases-loop invariant-loop2 decreases-loop2
+returns-4 : tie.Need-returns-then-next-last invariant-loop decreases-loop invariant-loop2 decreases-loop2
 returns-4 c = λ e. absurd (false≢true e)
 
-add-j : tie.Need-overflow-add-j invariant-loop decreases-loop invariant-loop2 decreases-loop2
+add-j : tie.Need-overflow_add-j invariant-loop decreases-loop invariant-loop2 decreases-loop2
 add-j c = search rules
 
-loop2-less : tie.Need-loop2-smaller invariant-loop decreases-loop invariant-loop2 decreases-loop2
+loop2-less : tie.Need-loop-j-smaller invariant-loop decreases-loop invariant-loop2 decreases-loop2
 loop2-less c = search rules
 
-loop2-again : tie.Need-loop2-preserved invariant-loop decreases-loop invariant-loop2 decreases-loop2
+loop2-again : tie.Need-loop-j-preserved invariant-loop decreases-loop invariant-loop2 decreases-loop2
 loop2-again c =
-    let at = c.before.before.before.before.before.loop2 in
-    let now = c.before.before.is-tamed3.ensures (not-false _ c.before.if3.false) in
-    (omega arith, tested-more _ at.j at.last _ c.before.before.before.knot2.ensures now c.if4.false at.invariant.1)
+    let at = c.loop-j in
+    let now = c.is_tamed-in-loop-j.ensures c.if-not-is_tamed-3.false in
+    (omega arith, tested-more _ at.j at.last _ c.knot-next.ensures now c.if-next-last.false at.invariant.1)
 
-returns-5 : tie.Need-returns-5 invariant-loop decreases-loop invariant-loop2 decreases-loop2
+returns-5 : tie.Need-returns invariant-loop decreases-loop invariant-loop2 decreases-loop2
 returns-5 c = λ _.
-    let h = c.before.loop2.invariant.1 in
+    let h = c.loop-j.invariant.1 in
     record {
-      control = λ i l. c.before.before.before.before.before.before.loop.invariant.1 i (omega arith);
+      control = λ i l. c.loop-i.invariant.1 i (omega arith);
       knot = λ i l. h.knot i (omega arith);
       rises = λ i l. h.rises i (omega arith);
     }
 
-pub is-tame-spec : {M : Type 1} → statement M
-is-tame-spec =
+pub is_tame_spec : {M : Type 1} → statement M
+is_tame_spec =
     tie.close
     (tie.spec
     invariant-loop

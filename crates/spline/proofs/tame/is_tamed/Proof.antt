@@ -15,11 +15,15 @@ largest-value : Units LARGEST false (2 ^ 2074)
 unfolding of_bits
 largest-value = (refl, refl)
 
-returns : tie.Need-returns
-returns c = at_most LARGEST c.before.args.z (2 ^ 2074) largest-value (subst T (sym c.before.well-formed.0.1) tt) c.if1.true
+returns : tie.Need-returns-then-z
+returns c = at_most LARGEST c.args.z (2 ^ 2074) largest-value (subst T (sym c.well_formed.0.1) tt) c.if-z.true
 
-returns-2 : tie.Need-returns-2
+returns-2 : tie.Need-returns
 returns-2 c = λ e. absurd (false≢true e)
 
-pub is-tamed-spec : {M : Type 1} → statement M
-is-tamed-spec = tie.close (tie.spec returns returns-2)
+pub is_tamed_spec : {M : Type 1} → statement M
+is_tamed_spec =
+    tie.close
+    (tie.spec
+    returns
+    returns-2)

@@ -7,29 +7,36 @@ use Rattle.spline.proofs.value.is_fine.Tie as tie
 read-requires : tie.Need-read-requires
 read-requires c κs = search rules
 
-enum-known-p : tie.Need-enum-known-p
+enum-known-p : tie.Need-enum_known-p
 enum-known-p c = search rules
 
-fine-of-requires : tie.Need-fine-of-requires
+fine-of-requires : tie.Need-fine_of-requires
 fine-of-requires c κs =
-    let row = c.before.before.before.before.before.args.row.now in
-    let h = told row _ _ (sym c.before.before.before.read.ensures ∙ c.before.p.given.1) in
+    let row = c.args.row.now in
+    let h = told row _ _ (sym c.read.ensures ∙ c.in-Spline.is) in
     (h.sizes, h.seventy-two)
 
-enum_told : tie.Need-enum-told
+enum_told : tie.Need-enum_told-1
 enum_told c = search rules
 
-returns : tie.Need-returns
+returns : tie.Need-returns-in-Spline
 returns c =
-    let a = c.before.before.before.before.before.before.args in
-    c.Fine-of.ensures
-    ∙ sym ((told a.row.now _ _ (sym c.before.before.before.before.read.ensures ∙ c.before.before.p.given.1)).fine a.x)
+    let a = c.args in
+    c.fine_of.ensures
+    ∙ sym ((told a.row.now _ _ (sym c.read.ensures ∙ c.in-Spline.is)).fine a.x)
 
-returns-2 : tie.Need-returns-2
+returns-2 : tie.Need-returns-in-Nothing
 returns-2 c =
-    let a = c.before.before.before.before.args in
-    sym ((untold a.row.now (sym c.before.before.read.ensures ∙ c.enum_told.given.1)).fine a.x)
+    let a = c.args in
+    sym ((untold a.row.now (sym c.read.ensures ∙ c.in-Nothing.is)).fine a.x)
 
-pub is-fine-spec : {M : Type 1} → statement M
-is-fine-spec =
-    tie.close (tie.spec read-requires enum-known-p fine-of-requires enum_told returns returns-2)
+pub is_fine_spec : {M : Type 1} → statement M
+is_fine_spec =
+    tie.close
+    (tie.spec
+    read-requires
+    enum-known-p
+    fine-of-requires
+    enum_told
+    returns
+    returns-2)

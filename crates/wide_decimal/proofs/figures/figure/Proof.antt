@@ -10,41 +10,36 @@ use Rattle.wide_decimal.proofs.Texts.{at_most, before-point, behind-within, behi
 use Rattle.wide_decimal.proofs.figures.figure.Statement.{statement}
 use Rattle.wide_decimal.proofs.figures.figure.Tie as tie
 
-shared-slice-read-worth-of : tie.Need-shared-slice-read-worth-of
+shared-slice-read-worth-of : tie.Need-bounds-text-k
 shared-slice-read-worth-of c =
-    let s = c.before.before.before in
-    omega (arith, s.requires, at_most s.args.point s.args.text.now)
+    omega (arith, c.requires, at_most c.args.point c.args.text.now)
 
-worth-of-requires : tie.Need-worth-of-requires
+worth-of-requires : tie.Need-worth_of-requires
 worth-of-requires c κs = search rules
 
-returns : tie.Need-returns
+returns : tie.Need-returns-then-k-point
 returns c =
-    let s = c.before.before.before.before in
-    c.worth-of.ensures ∙ ap figure_of (sym (before-point s.args.point s.args.text.now s.args.k s.requires c.before.before.if1.true))
+    c.worth_of.ensures ∙ ap figure_of (sym (before-point c.args.point c.args.text.now c.args.k c.requires c.if-k-point.true))
 
-add-worth-of : tie.Need-overflow-add-worth-of
+add-worth-of : tie.Need-overflow_add-k
 add-worth-of c =
-    let s = c.before.before in
-    omega (arith, behind-within s.args.point s.args.text.now s.args.k s.requires (omega (arith, c.if1.false)))
+    omega (arith, behind-within c.args.point c.args.text.now c.args.k c.requires (omega (arith, c.if-k-point.false)))
 
-shared-slice-read-worth-of-2 : tie.Need-shared-slice-read-worth-of-2
+shared-slice-read-worth-of-2 : tie.Need-bounds-text-k-2
 shared-slice-read-worth-of-2 c =
-    let s = c.before.before.before in
-    omega (arith, behind-within s.args.point s.args.text.now s.args.k s.requires (omega (arith, c.before.if1.false)))
+    omega (arith, behind-within c.args.point c.args.text.now c.args.k c.requires (omega (arith, c.if-k-point.false)))
 
-worth-of-requires-2 : tie.Need-worth-of-requires-2
+worth-of-requires-2 : tie.Need-worth_of-requires-2
 worth-of-requires-2 c κs = search rules
 
-returns-2 : tie.Need-returns-2
+returns-2 : tie.Need-returns
 returns-2 c =
-    let s = c.before.before.before.before in
-    c.worth-of2.ensures
-    ∙ ap (λ (x : ℕ). figure_of (get_or s.args.text.now x 0)) (add-one s.args.k)
-    ∙ ap figure_of (sym (behind-point s.args.point s.args.text.now s.args.k s.requires (omega (arith, c.before.before.if1.false))))
+    c.worth_of-2.ensures
+    ∙ ap (λ (x : ℕ). figure_of (get_or c.args.text.now x 0)) (add-one c.args.k)
+    ∙ ap figure_of (sym (behind-point c.args.point c.args.text.now c.args.k c.requires (omega (arith, c.if-k-point.false))))
 
-pub figure-spec : {M : Type 1} → statement M
-figure-spec =
+pub figure_spec : {M : Type 1} → statement M
+figure_spec =
     tie.close
     (tie.spec
     shared-slice-read-worth-of

@@ -15,13 +15,13 @@ use Rattle.wide_decimal.proofs.Worth.{figure_most, worth-next, group-most}
 use Rattle.wide_decimal.proofs.figures.group.Statement.{statement}
 use Rattle.wide_decimal.proofs.figures.group.Tie as tie
 
-abbrev invariant-loop : tie.invariant-loop
+abbrev invariant-loop : tie.invariant-loop-i
 invariant-loop text point k n all₀ i₀ all i = (i ≤ n) × (all ≡ worth (take i (drop k (without point text))))
 
-abbrev decreases-loop : tie.decreases-loop
+abbrev decreases-loop : tie.decreases-loop-i
 decreases-loop text point k n all₀ i₀ all i = n - i
 
-loop-holds : tie.Need-loop-init invariant-loop decreases-loop
+loop-holds : tie.Need-loop-i-init invariant-loop decreases-loop
 unfolding worth_from
 loop-holds c = (omega arith, refl)
 
@@ -31,55 +31,51 @@ small a k i n all h f l e =
     let most : 10 ^ i ≤ 10 ^ 9 = pow-le-pow_right (lit< tt) {j = 9} (omega arith) in
     omega (arith, group-most a k i (omega arith), most)
 
-module _ (c : tie.In-loop invariant-loop decreases-loop) where
-  few : c.before.loop.all < 10 ^ 9
+module _ (c : tie.In-loop-i invariant-loop decreases-loop) where
+  few : c.loop-i.all < 10 ^ 9
   few =
-      let l = c.before.loop in
-      let s = c.before.before.before in
-      small (without s.args.point s.args.text.now) s.args.k l.i s.args.n l.all s.requires.0 s.requires.1 l.invariant.0 l.invariant.1
+      let l = c.loop-i in
+      small (without c.args.point c.args.text.now) c.args.k l.i c.args.n l.all c.requires.0 c.requires.1 l.invariant.0 l.invariant.1
 
-mul-all : tie.Need-overflow-mul-all invariant-loop decreases-loop
+mul-all : tie.Need-overflow_mul-all invariant-loop decreases-loop
 mul-all c = omega (arith, few c)
 
-add-figure : tie.Need-overflow-add-figure invariant-loop decreases-loop
+add-figure : tie.Need-overflow_add-k invariant-loop decreases-loop
 add-figure c =
-    let s = c.before.before.before in
-    omega (arith, s.requires.1, at_most s.args.point s.args.text.now, s.well-formed.0.0)
+    omega (arith, c.requires.1, at_most c.args.point c.args.text.now, c.well_formed.0.0)
 
 figure-requires : tie.Need-figure-requires invariant-loop decreases-loop
-figure-requires c κs = omega (arith, c.before.before.before.requires.1)
+figure-requires c κs = omega (arith, c.requires.1)
 
-add-all : tie.Need-overflow-add-all invariant-loop decreases-loop
+add-all : tie.Need-overflow_add-all invariant-loop decreases-loop
 add-all c =
-    let l = c.before.before.loop in
-    let s = c.before.before.before.before in
-    omega (arith, few c.before, c.figure.ensures, figure_most (get_or (without s.args.point s.args.text.now) (s.args.k + l.i) 0))
+    let l = c.loop-i in
+    omega (arith, few c.before, c.figure.ensures, figure_most (get_or (without c.args.point c.args.text.now) (c.args.k + l.i) 0))
 
-add-i : tie.Need-overflow-add-i invariant-loop decreases-loop
+add-i : tie.Need-overflow_add-i invariant-loop decreases-loop
 add-i c = search rules
 
-loop-less : tie.Need-loop-smaller invariant-loop decreases-loop
+loop-less : tie.Need-loop-i-smaller invariant-loop decreases-loop
 loop-less c = search rules
 
-loop-again : tie.Need-loop-preserved invariant-loop decreases-loop
+loop-again : tie.Need-loop-i-preserved invariant-loop decreases-loop
 loop-again c =
-    let l = c.before.before.loop in
-    let s = c.before.before.before.before in
-    let a = without s.args.point s.args.text.now in
-    let rest : l.i < length (drop s.args.k a) = rw (length-drop s.args.k a) (omega (arith, s.requires.1)) in (
+    let l = c.loop-i in
+    let a = without c.args.point c.args.text.now in
+    let rest : l.i < length (drop c.args.k a) = rw (length-drop c.args.k a) (omega (arith, c.requires.1)) in (
       omega arith,
-      rw (add-one l.i, c.figure.ensures, worth-next (drop s.args.k a) l.i rest, get_or-drop s.args.k a l.i 0)
-          (ap (λ (x : ℕ). x * 10 + figure_of (get_or a (s.args.k + l.i) 0)) l.invariant.1),
+      rw (add-one l.i, c.figure.ensures, worth-next (drop c.args.k a) l.i rest, get_or-drop c.args.k a l.i 0)
+          (ap (λ (x : ℕ). x * 10 + figure_of (get_or a (c.args.k + l.i) 0)) l.invariant.1),
     )
 
 returns : tie.Need-returns invariant-loop decreases-loop
 returns c =
-    let l = c.before.loop in
-    let e : l.i ≡ c.before.before.before.args.n = omega arith in
+    let l = c.loop-i in
+    let e : l.i ≡ c.args.n = omega arith in
     rw e at l.invariant.1
 
-pub group-spec : {M : Type 1} → statement M
-group-spec =
+pub group_spec : {M : Type 1} → statement M
+group_spec =
     tie.close
     (tie.spec
     invariant-loop

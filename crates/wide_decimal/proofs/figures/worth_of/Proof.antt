@@ -7,25 +7,31 @@ use Rattle.wide_decimal.specs.Figures.{figure_of}
 use Rattle.wide_decimal.proofs.figures.worth_of.Statement.{statement}
 use Rattle.wide_decimal.proofs.figures.worth_of.Tie as tie
 
-returns : tie.Need-returns
+returns : tie.Need-returns-then-b-lt48
 unfolding figure_of
-returns c = simp (lt-leb _ _ c.if1.true)
+returns c = simp (lt-leb _ _ c.if-b-lt48.true)
 
-returns-2 : tie.Need-returns-2
+returns-2 : tie.Need-returns-then-b-gt57
 unfolding figure_of
 returns-2 c =
-    let low : 48 ≤ c.before.before.args.b = omega arith in
-    simp (le-leb _ _ low, lt-leb _ _ c.if2.true)
+    let low : 48 ≤ c.args.b = omega arith in
+    simp (le-leb _ _ low, lt-leb _ _ c.if-b-gt57.true)
 
-cast-result : tie.Need-overflow-cast-result
+cast-result : tie.Need-overflow_cast-result
 cast-result c = search rules
 
-returns-3 : tie.Need-returns-3
+returns-3 : tie.Need-returns
 unfolding figure_of
 returns-3 c =
-    let low : 48 ≤ c.before.before.args.b = omega arith in
-    let high : c.before.before.args.b ≤ 57 = omega arith in
+    let low : 48 ≤ c.args.b = omega arith in
+    let high : c.args.b ≤ 57 = omega arith in
     simp (le-leb _ _ low, le-leb _ _ high)
 
-pub worth-of-spec : {M : Type 1} → statement M
-worth-of-spec = tie.close (tie.spec returns returns-2 cast-result returns-3)
+pub worth_of_spec : {M : Type 1} → statement M
+worth_of_spec =
+    tie.close
+    (tie.spec
+    returns
+    returns-2
+    cast-result
+    returns-3)

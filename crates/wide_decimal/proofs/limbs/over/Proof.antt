@@ -9,77 +9,74 @@ use Rattle.wide_decimal.proofs.Steps.{Over, over_none, over-next, over_done, ove
 use Rattle.wide_decimal.proofs.limbs.over.Statement.{statement}
 use Rattle.wide_decimal.proofs.limbs.over.Tie as tie
 
-abbrev invariant-loop : tie.invariant-loop
+abbrev invariant-loop : tie.invariant-loop-i
 invariant-loop a₀ m c rest₀ i₀ a rest i = Over a₀ m c a rest i
 
-abbrev decreases-loop : tie.decreases-loop
+abbrev decreases-loop : tie.decreases-loop-i
 decreases-loop a₀ m c rest₀ i₀ a rest i = i
 
 digit : (c : tie.After-long invariant-loop decreases-loop) → c.long.result < 2 ^ 32
-digit c = omega (arith, c.long.ensures, c.before.slice-known2.given (c.before.before.before.loop.i - 1))
+digit c = omega (arith, c.long.ensures, c.slice_known-in-loop-i-1.given (c.loop-i.i - 1))
 
-loop-holds : tie.Need-loop-init invariant-loop decreases-loop
-loop-holds c = over_none _ _ _ c.before.requires.0
+loop-holds : tie.Need-loop-i-init invariant-loop decreases-loop
+loop-holds c = over_none _ _ _ c.requires.0
 
-sub-i : tie.Need-overflow-sub-i invariant-loop decreases-loop
+sub-i : tie.Need-overflow_sub-i invariant-loop decreases-loop
 sub-i c = search rules
 
-mul-t : tie.Need-overflow-mul-t invariant-loop decreases-loop
+mul-t : tie.Need-overflow_mul-t invariant-loop decreases-loop
 mul-t c = omega arith
 
-mul-long : tie.Need-overflow-mul-long invariant-loop decreases-loop
+mul-long : tie.Need-offset_bounds-a-i invariant-loop decreases-loop
 mul-long c = search rules
 
-slice-read-long : tie.Need-slice-read-long invariant-loop decreases-loop
+slice-read-long : tie.Need-bounds-a-i invariant-loop decreases-loop
 slice-read-long c = search rules
 
 long-requires : tie.Need-long-requires invariant-loop decreases-loop
 long-requires c κs = search rules
 
-add-t : tie.Need-overflow-add-t invariant-loop decreases-loop
+add-t : tie.Need-overflow_add-t invariant-loop decreases-loop
 add-t c = omega (arith, digit c)
 
-div-a : tie.Need-nonzero-div-a invariant-loop decreases-loop
+div-a : tie.Need-nonzero_div-a invariant-loop decreases-loop
 div-a c = search rules
 
-cast-a : tie.Need-overflow-cast-a invariant-loop decreases-loop
+cast-a : tie.Need-overflow_cast-a invariant-loop decreases-loop
 cast-a c =
-    let l = c.before.before.before.loop in
-    let s = c.before.before.before.before.before in
-    let pos : 0 < s.args.m = omega (arith, s.requires.0) in
-    Fits-of_lt ((div-lt_iff_lt-mul pos).1 (over-lt l.rest s.args.m c.long.result l.invariant.small (digit c)))
+    let l = c.loop-i in
+    let pos : 0 < c.args.m = omega (arith, c.requires.0) in
+    Fits-of_lt ((div-lt_iff_lt-mul pos).1 (over-lt l.rest c.args.m c.long.result l.invariant.small (digit c)))
 
-mul-a : tie.Need-overflow-mul-a invariant-loop decreases-loop
+mul-a : tie.Need-offset_bounds-a-i-in-loop-i invariant-loop decreases-loop
 mul-a c = search rules
 
-slice-write-a : tie.Need-slice-write-a invariant-loop decreases-loop
+slice-write-a : tie.Need-bounds-a-i-in-loop-i invariant-loop decreases-loop
 slice-write-a c = search rules
 
-rem-rest : tie.Need-nonzero-rem-rest invariant-loop decreases-loop
+rem-rest : tie.Need-nonzero_rem-rest invariant-loop decreases-loop
 rem-rest c = search rules
 
-loop-less : tie.Need-loop-smaller invariant-loop decreases-loop
+loop-less : tie.Need-loop-i-smaller invariant-loop decreases-loop
 loop-less c = search rules
 
-loop-again : tie.Need-loop-preserved invariant-loop decreases-loop
+loop-again : tie.Need-loop-i-preserved invariant-loop decreases-loop
 loop-again c =
-    let l = c.before.before.before.loop in
-    let s = c.before.before.before.before.before in
+    let l = c.loop-i in
     rw c.long.ensures
-    (over-next s.args.a.now s.args.m s.args.c l.a l.rest l.i (l.i - 1) (omega arith) l.invariant)
+    (over-next c.args.a.now c.args.m c.args.c l.a l.rest l.i (l.i - 1) (omega arith) l.invariant)
 
-same_length : tie.Need-same-length invariant-loop decreases-loop
-same_length c = c.before.loop.invariant.long
+same_length : tie.Need-shape_of-a invariant-loop decreases-loop
+same_length c = c.loop-i.invariant.long
 
 returns : tie.Need-returns invariant-loop decreases-loop
 returns c =
-    let l = c.before.loop in
-    let s = c.before.before.before in
+    let l = c.loop-i in
     let z : l.i ≡ 0 = omega arith in
-    (over_done s.args.a.now s.args.m s.args.c l.a l.rest (rw z at l.invariant), l.invariant.small)
+    (over_done c.args.a.now c.args.m c.args.c l.a l.rest (rw z at l.invariant), l.invariant.small)
 
-pub over-spec : {M : Type 1} → statement M
-over-spec =
+pub over_spec : {M : Type 1} → statement M
+over_spec =
     tie.close
     (tie.spec
     invariant-loop

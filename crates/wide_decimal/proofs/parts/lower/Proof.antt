@@ -13,71 +13,66 @@ use Rattle.wide_decimal.proofs.Zeros.{lower-next, lower-all}
 use Rattle.wide_decimal.proofs.parts.lower.Statement.{statement}
 use Rattle.wide_decimal.proofs.parts.lower.Tie as tie
 
-abbrev invariant-loop : tie.invariant-loop
+abbrev invariant-loop : tie.invariant-loop-i
 invariant-loop low₀ zeros most i₀ low i = (i ≤ most) × (length low ≡ length low₀) × Near (value low) (10 ^ i) (value low₀)
 
-abbrev decreases-loop : tie.decreases-loop
+abbrev decreases-loop : tie.decreases-loop-i
 decreases-loop low₀ zeros most i₀ low i = most - i
 
-least-requires : tie.Need-least-requires invariant-loop decreases-loop
+least-requires : tie.Need-least-most-requires invariant-loop decreases-loop
 least-requires c κs = search rules
 
-loop-holds : tie.Need-loop-init invariant-loop decreases-loop
-loop-holds c = (omega arith, refl, inl (one (value c.before.before.args.low.now)))
+loop-holds : tie.Need-loop-i-init invariant-loop decreases-loop
+loop-holds c = (omega arith, refl, inl (one (value c.args.low.now)))
   where
     one : (v : ℕ) → v * 10 ^ 0 ≡ v
     one v = omega arith
 
-sub-least : tie.Need-overflow-sub-least invariant-loop decreases-loop
+sub-least : tie.Need-overflow_sub-most invariant-loop decreases-loop
 sub-least c = search rules
 
-least-requires-2 : tie.Need-least-requires-2 invariant-loop decreases-loop
+least-requires-2 : tie.Need-least-n-requires invariant-loop decreases-loop
 least-requires-2 c κs = search rules
 
-ten-to-requires : tie.Need-ten-to-requires invariant-loop decreases-loop
-ten-to-requires c κs = omega (arith, c.before.least2.ensures)
+ten-to-requires : tie.Need-ten_to-requires invariant-loop decreases-loop
+ten-to-requires c κs = omega (arith, c.least-n.ensures)
 
 cut-requires : tie.Need-cut-requires invariant-loop decreases-loop
 cut-requires c κs =
-    let n = c.before.before.least2.result in
-    let few : n ≤ 9 = omega (arith, c.before.before.least2.ensures) in
-    let l = c.before.before.before.before.loop in
-    let s = c.before.before.before.before.before.before.before in
-    (omega (arith, c.ten-to.ensures, ten_pos n), omega (arith, c.ten-to.ensures, ten_small n few), omega (arith, s.requires.0, l.invariant.1))
+    let n = c.least-n.result in
+    let few : n ≤ 9 = omega (arith, c.least-n.ensures) in
+    let l = c.loop-i in
+    (omega (arith, c.ten_to.ensures, ten_pos n), omega (arith, c.ten_to.ensures, ten_small n few), omega (arith, c.requires.0, l.invariant.1))
 
-add-i : tie.Need-overflow-add-i invariant-loop decreases-loop
-add-i c = omega (arith, c.before.before.before.before.before.least2.ensures)
+add-i : tie.Need-overflow_add-i invariant-loop decreases-loop
+add-i c = omega (arith, c.least-n.ensures)
 
-loop-less : tie.Need-loop-smaller invariant-loop decreases-loop
-loop-less c = omega (arith, c.before.before.before.before.before.least2.ensures)
+loop-less : tie.Need-loop-i-smaller invariant-loop decreases-loop
+loop-less c = omega (arith, c.least-n.ensures)
 
 named : (v m w v' p : ℕ) → m ≡ p → Near v' m (0 * w + v) → Near v' p (0 * w + v)
 named v m w v' p e t = rw (← e) t
 
-loop-again : tie.Need-loop-preserved invariant-loop decreases-loop
+loop-again : tie.Need-loop-i-preserved invariant-loop decreases-loop
 loop-again c =
-    let t = c.before.before in
-    let l = t.before.before.before.before.before.loop in
-    let s = t.before.before.before.before.before.before.before.before in
-    let n = t.before.before.before.least2.result in (
-      omega (arith, t.before.before.before.least2.ensures),
-      c.before.low.given ∙ l.invariant.1,
-      lower-next (value t.cut.new.0) (value l.low) (value s.args.low.now) l.i n (weight (length l.low)) (omega (arith, t.before.before.before.least2.ensures))
-          (named (value l.low) _ (weight (length l.low)) (value t.cut.new.0) _ t.before.ten-to.ensures t.cut.ensures)
+    let l = c.loop-i in
+    let n = c.least-n.result in (
+      omega (arith, c.least-n.ensures),
+      c.low-1.given ∙ l.invariant.1,
+      lower-next (value c.cut.new.a) (value l.low) (value c.args.low.now) l.i n (weight (length l.low)) (omega (arith, c.least-n.ensures))
+          (named (value l.low) _ (weight (length l.low)) (value c.cut.new.a) _ c.ten_to.ensures c.cut.ensures)
           l.invariant.2,
     )
 
-same_length : tie.Need-same-length invariant-loop decreases-loop
-same_length c = c.before.loop.invariant.1
+same_length : tie.Need-shape_of-low invariant-loop decreases-loop
+same_length c = c.loop-i.invariant.1
 
 returns : tie.Need-returns invariant-loop decreases-loop
 returns c =
-    let l = c.before.loop in
-    let k = c.before.before.before in
-    let s = k.before in
-    let a = s.args.low.now in
-    let small : value a < weight (length a) = value-below a (λ i. omega (arith, k.slice-known.given i)) in
-    lower-all (value l.low) (value a) l.i s.args.zeros (length a) s.requires.1 small (omega (arith, c.before.before.least.ensures)) l.invariant.2
+    let l = c.loop-i in
+    let a = c.args.low.now in
+    let small : value a < weight (length a) = value-below a (λ i. omega (arith, c.slice_known-1.given i)) in
+    lower-all (value l.low) (value a) l.i c.args.zeros (length a) c.requires.1 small (omega (arith, c.least-most.ensures)) l.invariant.2
 
 pub lower_spec : {M : Type 1} → statement M
 lower_spec =

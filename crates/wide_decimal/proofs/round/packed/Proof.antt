@@ -12,20 +12,20 @@ use Rattle.wide_decimal.specs.Near.{Top}
 use Rattle.wide_decimal.proofs.Enough.{told}
 use Rattle.wide_decimal.proofs.Leading.{whole, two-words}
 use Rattle.wide_decimal.proofs.round.packed.Statement.{statement}
+use Rattle.wide_decimal.proofs.round.packed.Lts.{then-u-eq0+else-low-lt34, else-u-eq0}
 use Rattle.wide_decimal.proofs.round.packed.Tie as tie
 
-top-requires : tie.Need-top-requires
-top-requires c κs = let s = c.before.before in (omega arith, omega arith, omega (arith, s.requires.0))
+top-requires : tie.Need-top-t-requires
+top-requires c κs = (omega arith, omega arith, omega (arith, c.requires.0))
 
-top-requires-2 : tie.Need-top-requires-2
+top-requires-2 : tie.Need-top-u-requires
 top-requires-2 c κs =
-    let s = c.before.before.before in
-    (c.top.ensures.1, omega (arith, c.top.ensures.2, s.requires.0), omega (arith, s.requires.1))
+    (c.top-t.ensures.1, omega (arith, c.top-t.ensures.2, c.requires.0), omega (arith, c.requires.1))
 
-returns : tie.Need-returns
-returns c = c.if2.true
+returns : tie.Need-returns-then-low-lt34
+returns c = c.if-low-lt34.true
 
-module _ (c : tie.After-top2) where
+module _ (c : tie.After-top-u) where
   abbrev start : tie.Start
   start = c.before.before.before.before
 
@@ -35,52 +35,60 @@ module _ (c : tie.After-top2) where
   abbrev number : ℕ
   number = value start.args.high.now * weight digits + value start.args.low.now
 
-  lost : c.top2.result.lost ≤ 2144
-  lost = omega (arith, c.top2.ensures.2, c.before.top.ensures.2, start.pre.0, start.pre.1)
+  lost : c.top-u.result.lost ≤ 2144
+  lost = omega (arith, c.top-u.ensures.2, c.top-t.ensures.2, start.requires.0, start.requires.1)
 
-  stands : Top c.top2.result.hi c.top2.result.lo c.top2.result.lost number
+  stands : Top c.top-u.result.hi c.top-u.result.lo c.top-u.result.lost number
   stands =
       let v = value start.args.high.now in
-      let first = c.before.top.ensures.0 0 (record { stands = inl (refl, refl) }) in
-      subst (λ (x : ℕ). Top c.top2.result.hi c.top2.result.lo c.top2.result.lost (x * weight digits + value start.args.low.now)) (none (weight (length start.args.high.now)) v) (c.top2.ensures.0 _ first)
+      let first = c.top-t.ensures.0 0 (record { stands = inl (refl, refl) }) in
+      subst (λ (x : ℕ). Top c.top-u.result.hi c.top-u.result.lo c.top-u.result.lost (x * weight digits + value start.args.low.now)) (none (weight (length start.args.high.now)) v) (c.top-u.ensures.0 _ first)
     where
       none : (w v : ℕ) → 0 * w + v ≡ v
       none w v = omega arith
 
 -- all digits, or two words
-enough : (c : tie.Joined1) → (digits c.before.before ≡ 34) ⊎ (2 ^ 64 ≤ number c.before.before)
+enough : (c : tie.Joined-u-eq0) → (digits c.before.before ≡ 34) ⊎ (2 ^ 64 ≤ number c.before.before)
 enough c =
-    let t = c.before.before in
-    elim c.if1.branch [
-      | inl k ↦ inl (omega (arith, k.1.left, (start t).requires.1))
-      | inr k ↦ inr (two-words t.top2.result.hi t.top2.result.lo t.top2.result.lost (number t) (omega (arith, k.left)) (stands t))
+    elim c.if-u-eq0.branch [
+      then-u-eq0+else-low-lt34 k ↦ inl (omega (arith, k.if-low-lt34.false, (start c.before.before).requires.1))
+      | else-u-eq0 k ↦ inr (two-words c.top-u.result.hi c.top-u.result.lo c.top-u.result.lost (number c.before.before) (omega (arith, k.if-u-eq0.false)) (stands c.before.before))
     ]
 
-add-x : tie.Need-overflow-add-x
+add-x : tie.Need-overflow_add-x
 add-x c = omega (arith, lost c.before.before.before)
 
-mul-x : tie.Need-overflow-mul-x
-mul-x c = omega (arith, (start c.before.before.before).pre.1)
+mul-x : tie.Need-overflow_mul-x
+mul-x c = omega (arith, (start c.before.before.before).requires.1)
 
-sub-x : tie.Need-overflow-sub-x
-sub-x c = omega (arith, (start c.before.before.before).pre.1)
+sub-x : tie.Need-overflow_sub-x
+sub-x c = omega (arith, (start c.before.before.before).requires.1)
 
-cast-nearest-double : tie.Need-overflow-cast-nearest-double
+cast-nearest-double : tie.Need-overflow_cast-x
 cast-nearest-double c = omega (arith, lost c.before.before.before)
 
-nearest-double-requires : tie.Need-nearest-double-requires
+nearest-double-requires : tie.Need-nearest_double-requires
 nearest-double-requires c κs = search rules
 
-returns-2 : tie.Need-returns-2
+returns-2 : tie.Need-returns
 returns-2 c =
-    let j = c.before.before in
-    let t = j.before.before in
-    let p = 2208 - 32 * digits t in
-    let at : t.top2.result.lost + p ≡ t.top2.result.lost + 2208 - 32 * digits t = omega (arith, (start t).requires.1) in
-    let w = whole t.top2.result.hi t.top2.result.lo t.top2.result.lost (number t) p (stands t) in
+    let p = 2208 - 32 * digits c.before.before.before.before in
+    let at : c.top-u.result.lost + p ≡ c.top-u.result.lost + 2208 - 32 * digits c.before.before.before.before = omega (arith, (start c.before.before.before.before).requires.1) in
+    let w = whole c.top-u.result.hi c.top-u.result.lo c.top-u.result.lost (number c.before.before.before.before) p (stands c.before.before.before.before) in
     λ x m M e.
-    c.nearest-double.ensures (number t * 2 ^ p) (subst (λ (z : ℕ). Whole (words t.top2.result.hi t.top2.result.lo) z (number t * 2 ^ p)) at w)
-    ∙ told (start t).args.minus (number t) x m (digits t) M (start t).requires.1 (enough j) e
+    c.nearest_double.ensures (number c.before.before.before.before * 2 ^ p) (subst (λ (z : ℕ). Whole (words c.top-u.result.hi c.top-u.result.lo) z (number c.before.before.before.before * 2 ^ p)) at w)
+    ∙ told (start c.before.before.before.before).args.minus (number c.before.before.before.before) x m (digits c.before.before.before.before) M (start c.before.before.before.before).requires.1 (enough c.before.before) e
 
-pub packed-spec : {M : Type 1} → statement M
-packed-spec = tie.close (tie.spec top-requires top-requires-2 returns add-x mul-x sub-x cast-nearest-double nearest-double-requires returns-2)
+pub packed_spec : {M : Type 1} → statement M
+packed_spec =
+    tie.close
+    (tie.spec
+    top-requires
+    top-requires-2
+    returns
+    add-x
+    mul-x
+    sub-x
+    cast-nearest-double
+    nearest-double-requires
+    returns-2)

@@ -5,11 +5,15 @@ use Rattle.executor.specs.Osc.{moved}
 use Rattle.executor.proofs.osc.OscState.moved_to.Statement.{statement}
 use Rattle.executor.proofs.osc.OscState.moved_to.Tie as tie
 
-returns : tie.Need-returns
-returns c = ap (λ (b : Bool). moved c.before.args.self b c.before.args.after) (sym c.if1.true)
+returns : tie.Need-returns-then-fine
+returns c = ap (λ (b : Bool). moved c.args.self b c.args.after) (sym c.if-fine.true)
 
-returns-2 : tie.Need-returns-2
-returns-2 c = ap (λ (b : Bool). moved c.before.args.self b c.before.args.after) (sym c.if1.false)
+returns-2 : tie.Need-returns
+returns-2 c = ap (λ (b : Bool). moved c.args.self b c.args.after) (sym c.if-fine.false)
 
-pub moved-to-spec : {M : Type 1} → statement M
-moved-to-spec = tie.close (tie.spec returns returns-2)
+pub moved_to_spec : {M : Type 1} → statement M
+moved_to_spec =
+    tie.close
+    (tie.spec
+    returns
+    returns-2)

@@ -3,17 +3,23 @@ use borrow.Author.Rules.{rules}
 use Rattle.executor.proofs.osc.OscState.phase_at.Statement.{statement}
 use Rattle.executor.proofs.osc.OscState.phase_at.Tie as tie
 
-total-freq-requires : tie.Need-total-freq-requires
+total-freq-requires : tie.Need-total_freq-requires
 total-freq-requires c κs = search rules
 
-mul-time-requires : tie.Need-mul-time-requires
+mul-time-requires : tie.Need-mul_time-turned-requires
 mul-time-requires c κs = search rules
 
 add-requires : tie.Need-add-requires
 add-requires c κs = search rules
 
 returns : tie.Need-returns
-returns c = rw (c.add.ensures, c.before.mul-time.ensures, c.before.before.total-freq.ensures)
+returns c = rw (c.add.ensures, c.mul_time-turned.ensures, c.total_freq.ensures)
 
-pub phase-at-spec : {M : Type 1} → statement M
-phase-at-spec = tie.close (tie.spec total-freq-requires mul-time-requires add-requires returns)
+pub phase_at_spec : {M : Type 1} → statement M
+phase_at_spec =
+    tie.close
+    (tie.spec
+    total-freq-requires
+    mul-time-requires
+    add-requires
+    returns)

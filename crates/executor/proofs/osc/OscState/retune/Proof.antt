@@ -3,35 +3,35 @@ use borrow.Author.Rules.{rules}
 use Rattle.executor.proofs.osc.OscState.retune.Statement.{statement}
 use Rattle.executor.proofs.osc.OscState.retune.Tie as tie
 
-add-requires : tie.Need-add-requires
+add-requires : tie.Need-add-phase-requires
 add-requires c κs = search rules
 
-is-finite-requires : tie.Need-is-finite-requires
+is-finite-requires : tie.Need-is_finite-requires
 is-finite-requires c κs = search rules
 
-is-finite-requires-2 : tie.Need-is-finite-requires-2
+is-finite-requires-2 : tie.Need-is_finite-requires-2
 is-finite-requires-2 c κs = search rules
 
 both-requires : tie.Need-both-requires
 both-requires c κs = search rules
 
-is-finite-requires-3 : tie.Need-is-finite-requires-3
+is-finite-requires-3 : tie.Need-is_finite-requires-3
 is-finite-requires-3 c κs = search rules
 
-both-requires-2 : tie.Need-both-requires-2
+both-requires-2 : tie.Need-both-fine-requires
 both-requires-2 c κs = search rules
 
-with-both-requires : tie.Need-with-both-requires
+with-both-requires : tie.Need-with_both-requires
 with-both-requires c κs = search rules
 
-moved-to-requires : tie.Need-moved-to-requires
+moved-to-requires : tie.Need-moved_to-requires
 moved-to-requires c κs = search rules
 
 returns : tie.Need-returns
-returns c = rw (c.moved_to.ensures, c.before.with-both.ensures, c.before.before.both2.ensures, c.before.before.before.is-finite3.ensures, c.before.before.before.before.both.ensures, c.before.before.before.before.before.is-finite2.ensures, c.before.before.before.before.before.before.is_finite.ensures, c.before.before.before.before.before.before.before.add.ensures)
+returns c = rw (c.moved_to.ensures, c.with_both.ensures, c.both-fine.ensures, c.is_finite-3.ensures, c.both.ensures, c.is_finite-2.ensures, c.is_finite.ensures, c.add-phase.ensures)
 
-pub retune-spec : {M : Type 1} → statement M
-retune-spec =
+pub retune_spec : {M : Type 1} → statement M
+retune_spec =
     tie.close
     (tie.spec
     add-requires

@@ -10,4 +10,7 @@ unfolding add sub ran
 returns c = search rules
 
 pub run_spec : {M : Type 1} → statement M
-run_spec = tie.close (tie.spec returns)
+run_spec =
+    tie.close
+    (tie.spec
+    returns)

@@ -10,7 +10,12 @@ run-requires-2 : tie.Need-run-requires-2
 run-requires-2 c κs = search rules
 
 returns : tie.Need-returns
-returns c = rw (c.before.run.ensures, c.run2.ensures)
+returns c = rw (c.run.ensures, c.run-2.ensures)
 
 pub run_spec : {M : Type 1} → statement M
-run_spec = tie.close (tie.spec run-requires run-requires-2 returns)
+run_spec =
+    tie.close
+    (tie.spec
+    run-requires
+    run-requires-2
+    returns)

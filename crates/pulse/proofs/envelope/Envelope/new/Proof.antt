@@ -5,29 +5,33 @@ use borrow.Author.Rules.{rules}
 use Rattle.pulse.proofs.envelope.Envelope.new.Statement.{statement}
 use Rattle.pulse.proofs.envelope.Envelope.new.Tie as tie
 
-is-shaped-requires : tie.Need-is-shaped-requires
+is-shaped-requires : tie.Need-is_shaped-requires
 is-shaped-requires c κs = search rules
 
-returns : tie.Need-returns
+returns : tie.Need-returns-then-width
 returns c =
-    let d = c.before.before.before in
-    let a = d.before.args in
-    rw (of-shape a.shape a.width.0 a.plateau.0 (sym d.is-shaped.ensures ∙ c.before.before.if1.true), c.if2.true)
+    let a = c.args in
+    rw (of-shape a.shape a.width.0 a.plateau.0 (sym c.is_shaped.ensures ∙ c.if-is_shaped.true), c.if-width.true)
 
-returns-2 : tie.Need-returns-2
+returns-2 : tie.Need-returns-then-is_shaped
 returns-2 c =
-    let d = c.before.before.before in
-    let a = d.before.args in
-    rw (of-shape a.shape a.width.0 a.plateau.0 (sym d.is-shaped.ensures ∙ c.before.before.if1.true), c.if2.false)
+    let a = c.args in
+    rw (of-shape a.shape a.width.0 a.plateau.0 (sym c.is_shaped.ensures ∙ c.if-is_shaped.true), c.if-width.false)
 
 add-requires : tie.Need-add-requires
 add-requires c κs = search rules
 
-returns-3 : tie.Need-returns-3
+returns-3 : tie.Need-returns
 returns-3 c =
-    let d = c.before.before in
-    let a = d.before.args in
-    rw (of_none a.shape a.width.0 a.plateau.0 (sym d.is-shaped.ensures ∙ c.before.if1.false), c.add.ensures)
+    let a = c.args in
+    rw (of_none a.shape a.width.0 a.plateau.0 (sym c.is_shaped.ensures ∙ c.if-is_shaped.false), c.add.ensures)
 
 pub new_spec : {M : Type 1} → statement M
-new_spec = tie.close (tie.spec is-shaped-requires returns returns-2 add-requires returns-3)
+new_spec =
+    tie.close
+    (tie.spec
+    is-shaped-requires
+    returns
+    returns-2
+    add-requires
+    returns-3)
