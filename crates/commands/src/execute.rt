@@ -1,5 +1,4 @@
 // The command call: a list of commands, carried out in turn up to the first that is refused. The Rust's `Executor::execute`.
-// `execute` takes slices of structs and is proved by hand; all else is covered.
 ghost use Rattle.std.specs.Prelude.{◌≡◌};
 ghost use Rattle.quant.specs.declared.refusal.Refusal.TheVariants.{WrongSize};
 ghost use Rattle.commands.specs.Run.{ran_to, executed, sizes_fit, done_at, refused_at};
