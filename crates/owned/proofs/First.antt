@@ -1,11 +1,9 @@
--- The commands handed on lie within the 1,024, and what they do is what the call does: all of it where the count is at most 1,024, and else
--- none, so that all stays as it came. Assumes nothing.
-use Prim.Native.Nat.{ℕ, ◌≤◌}
-use native.Mathlib.Omega.{arith}
+-- What the commands handed on do is what the call does: all of it where the count is at most 1,024, and else none, so that all stays as it
+-- came. Assumes nothing.
+use Prim.Native.Nat.{ℕ}
 use mathlib.Core.Path.{◌≡◌, refl, ap, ◌∙◌}
 use mathlib.Core.Bool.{Bool, true, false, cond}
 use mathlib.Core.List.{List, []}
-use borrow.Author.Tests.{leb-true}
 use lib.Dec.{leb}
 use lib.Ieee.{Float}
 use lib.ListN.{length, take}
@@ -16,13 +14,6 @@ use Rattle.tables.specs.declared.Tabled.{Tabled}
 use Rattle.commands.specs.declared.command.Arranged.{Arranged}
 use Rattle.commands.specs.Run.{Ran, ran_to, refused_at, ran, sizes_fit, executed}
 use Rattle.owned.specs.Owned.{to_run, told_of, executed_owned}
-
-pub within : (count : ℕ) → to_run count ≤ 1024
-within count = go (leb count 1024) refl
-  where
-    go : (b : Bool) → leb count 1024 ≡ b → cond b count 0 ≤ 1024
-    go true e = leb-true count 1024 e
-    go false e = omega arith
 
 abbrev Bins : Type 0
 Bins = List (List Float)

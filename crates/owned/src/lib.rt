@@ -1,5 +1,4 @@
 // The command call for a caller that owns its arrays: they come and go by value, so that such a caller is covered.
-// `execute_owned` lends arrays of structs and is proved by hand; all else is covered.
 ghost use Rattle.std.specs.Prelude.{◌≡◌};
 ghost use Rattle.commands.specs.Run.{ran_to};
 ghost use Rattle.owned.specs.Owned.{executed_owned, to_run, told_of, executed_with};

@@ -10,20 +10,19 @@ use Rattle.mixdown.proofs.mix_lists.Statement.{statement}
 use Rattle.mixdown.proofs.mix_lists.Tie as tie
 
 -- the test is the definition's
-module _ (d : tie.After-both6) where
+module _ (d : tie.After-both-3) where
   abbrev s₀ : tie.Start
   s₀ = d.before.before.before.before.before.before.before.before.before.before.before.before.before
 
   abbrev asked : Bool
   asked = mix_fits s₀.args.taking s₀.args.ends (length s₀.args.bins.now) (length s₀.args.work.now) (length s₀.args.marks.now) s₀.args.rows (length s₀.args.i.now) (length s₀.args.q.now) (length s₀.args.scratch.now)
 
-  flag : d.both6.result ≡ asked
+  flag : d.both-3.result ≡ asked
   flag =
-      let rest = d.before.before.before.before.before in
-      let sizes = rest.before.before.both2.ensures ∙ ap (λ (b : Bool). b && eqb (length s₀.args.marks.now) 8192) rest.before.before.before.both.ensures in
-      let lists = d.before.before.before.before.both3.ensures ∙ ap (λ (b : Bool). leb s₀.args.taking.count 8 && b) rest.ends-fit.ensures in
-      let room = d.before.before.both4.ensures ∙ ap (λ (b : Bool). b && leb (length s₀.args.i.now) (length s₀.args.scratch.now)) d.before.before.before.rows_fit.ensures in
-      d.both6.ensures ∙ ap₂ ◌&&◌ (d.before.both5.ensures ∙ ap₂ ◌&&◌ sizes lists) room
+      let sizes = d.both-sizes.ensures ∙ ap (λ (b : Bool). b && eqb (length s₀.args.marks.now) 8192) d.both.ensures in
+      let lists = d.both-lists.ensures ∙ ap (λ (b : Bool). leb s₀.args.taking.count 8 && b) d.ends_fit.ensures in
+      let room = d.both-room.ensures ∙ ap (λ (b : Bool). b && leb (length s₀.args.i.now) (length s₀.args.scratch.now)) d.rows_fit.ensures in
+      d.both-3.ensures ∙ ap₂ ◌&&◌ (d.both-2.ensures ∙ ap₂ ◌&&◌ sizes lists) room
 
   fitting : asked ≡ true → Fits s₀.args.taking s₀.args.ends (length s₀.args.bins.now) (length s₀.args.work.now) (length s₀.args.marks.now) s₀.args.rows (length s₀.args.i.now) (length s₀.args.q.now) (length s₀.args.scratch.now)
   fitting e = fits _ _ _ _ _ _ _ _ _ e
@@ -31,57 +30,57 @@ module _ (d : tie.After-both6) where
 both-requires : tie.Need-both-requires
 both-requires c κs = search rules
 
-both-requires-2 : tie.Need-both-requires-2
+both-requires-2 : tie.Need-both-sizes-requires
 both-requires-2 c κs = search rules
 
-ends-fit-requires : tie.Need-ends-fit-requires
+ends-fit-requires : tie.Need-ends_fit-requires
 ends-fit-requires c κs = search rules
 
-both-requires-3 : tie.Need-both-requires-3
+both-requires-3 : tie.Need-both-lists-requires
 both-requires-3 c κs = search rules
 
-rows-fit-requires : tie.Need-rows-fit-requires
+rows-fit-requires : tie.Need-rows_fit-requires
 rows-fit-requires c κs = search rules
 
-both-requires-4 : tie.Need-both-requires-4
+both-requires-4 : tie.Need-both-room-requires
 both-requires-4 c κs = search rules
 
-both-requires-5 : tie.Need-both-requires-5
+both-requires-5 : tie.Need-both-requires-2
 both-requires-5 c κs = search rules
 
-both-requires-6 : tie.Need-both-requires-6
+both-requires-6 : tie.Need-both-requires-3
 both-requires-6 c κs = search rules
 
-sample-lists-requires : tie.Need-sample-lists-requires
+sample-lists-requires : tie.Need-sample_lists-requires
 sample-lists-requires c κs =
-    let f = fitting c.before.before.before.before.before.before (sym (flag c.before.before.before.before.before.before) ∙ c.before.before.before.before.before.if1.true) in
+    let f = fitting c.before.before.before.before (sym (flag c.before.before.before.before) ∙ c.if-both.true) in
     ((f.its-bins, f.its-work, f.its-marks, f.few-lists, f.its-ends), (f.its-rows, f.long))
 
-same_length : tie.Need-same-length
+same_length : tie.Need-shape_of-work-then-both
 same_length c = search rules
 
-same-length-2 : tie.Need-same-length-2
+same-length-2 : tie.Need-shape_of-marks-then-both
 same-length-2 c = search rules
 
-same-length-3 : tie.Need-same-length-3
+same-length-3 : tie.Need-shape_of-i-then-both
 same-length-3 c = search rules
 
-same-length-4 : tie.Need-same-length-4
+same-length-4 : tie.Need-shape_of-q-then-both
 same-length-4 c = search rules
 
-same-length-5 : tie.Need-same-length-5
+same-length-5 : tie.Need-shape_of-scratch-then-both
 same-length-5 c = search rules
 
-returns : tie.Need-returns
+returns : tie.Need-returns-then-both
 unfolding mixed_down
-returns c = (rw (sym (flag c.before.before.before.before.before.before.before.before.before.before.before.before.before) ∙ c.before.before.before.before.before.before.before.before.before.before.before.before.if1.true) c.before.before.before.before.before.before.sample-lists.ensures, (refl, refl))
+returns c = (rw (sym (flag c.before.before.before.before.before.before.before.before.before.before.before) ∙ c.if-both.true) c.sample_lists.ensures, (refl, refl))
 
-returns-2 : tie.Need-returns-2
+returns-2 : tie.Need-returns
 unfolding mixed_down
-returns-2 c = (rw (sym (flag c.before) ∙ c.if1.false) refl, (refl, refl))
+returns-2 c = (rw (sym (flag c.before) ∙ c.if-both.false) refl, (refl, refl))
 
-pub mix-lists-spec : {M : Type 1} → statement M
-mix-lists-spec =
+pub mix_lists_spec : {M : Type 1} → statement M
+mix_lists_spec =
     tie.close
     (tie.spec
     both-requires

@@ -3,11 +3,15 @@ use borrow.Author.Tests.{le-leb, lt-leb}
 use Rattle.owned.proofs.told.Statement.{statement}
 use Rattle.owned.proofs.told.Tie as tie
 
-returns : tie.Need-returns
-returns c = rw (lt-leb _ _ c.before.if1.true)
+returns : tie.Need-returns-then-count-gt1024
+returns c = rw (lt-leb _ _ c.if-count-gt1024.true)
 
-returns-2 : tie.Need-returns-2
-returns-2 c = rw (le-leb _ _ c.if1.false)
+returns-2 : tie.Need-returns
+returns-2 c = rw (le-leb _ _ c.if-count-gt1024.false)
 
-pub told-spec : {M : Type 1} → statement M
-told-spec = tie.close (tie.spec returns returns-2)
+pub told_spec : {M : Type 1} → statement M
+told_spec =
+    tie.close
+    (tie.spec
+    returns
+    returns-2)

@@ -17,6 +17,7 @@ use Rattle.tables.specs.Tables.{no_name}
 use Rattle.crosstalk.proofs.Sizes.{eight-names}
 use Rattle.crosstalk.proofs.Pushing.{Turn, turn-count, turn_end, turn-skip, turn-with}
 use Rattle.crosstalk.proofs.parts.row_parts.Statement.{statement}
+use Rattle.crosstalk.proofs.parts.row_parts.Lts.{then-row-k, else-row-k}
 use Rattle.crosstalk.proofs.parts.row_parts.Tie as tie
 
 abbrev invariant-loop : tie.invariant-loop-k
@@ -75,12 +76,12 @@ loop-again c =
     let named = next-left a.names a.count at.k no_name (omega (arith, c.requires.1)) (omega (arith, whole, c.requires.0, c.requires.1)) in
     let on : drop at.k row ≡ get_or row at.k nan ∷ drop (at.k + 1) row = rw (add-one at.k) (drop-cons row at.k nan there) in (
       omega arith,
-      ⊎_elim
-          (λ w.
-          rw (w.5, w.4.ensures, w.2.ensures)
-          (turn-with c.args.t _ row at.k at.taking _ _ named on (omega (arith, c.requires.0, c.requires.1)) (not-true _ w.0.taken) at.invariant.1))
-          (λ w. rw w.1 (turn-skip c.args.t _ row at.k at.taking _ _ named on (not-false _ w.0.left) at.invariant.1))
-          c.if-row-k.branch,
+      elim c.if-row-k.branch [
+        then-row-k w ↦
+          rw (w.taking-is, w.with_part-taking.ensures, w.find.ensures)
+          (turn-with c.args.t _ row at.k at.taking _ _ named on (omega (arith, c.requires.0, c.requires.1)) (not-true _ w.if-row-k.true) at.invariant.1)
+        | else-row-k w ↦ rw w.taking-is (turn-skip c.args.t _ row at.k at.taking _ _ named on (not-false _ w.if-row-k.false) at.invariant.1)
+      ],
     )
 
 returns : tie.Need-returns invariant-loop decreases-loop

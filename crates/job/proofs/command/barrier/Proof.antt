@@ -9,50 +9,42 @@ use Rattle.job.proofs.command.barrier.Tie as tie
 count-requires : tie.Need-count-requires
 count-requires c κs = search rules
 
-returns : tie.Need-returns
+returns : tie.Need-returns-then-count-ne3
 unfolding barrier_of
 returns c =
-    rw (differs c.before.count.ensures c.if1.true)
+    rw (differs c.count.ensures c.if-count-ne3.true)
 
-slice-aggregate-pair-in : tie.Need-slice-aggregate-pair-in
-slice-aggregate-pair-in c = search rules
-
-slice-aggregate-pair-in-2 : tie.Need-slice-aggregate-pair-in-2
-slice-aggregate-pair-in-2 c = search rules
-
-pair-in-requires : tie.Need-pair-in-requires
+pair-in-requires : tie.Need-pair_in-times-requires
 pair-in-requires c κs = search rules
 
-enum-known-times : tie.Need-enum-known-times
+enum-known-times : tie.Need-enum_known-times
 enum-known-times c = search rules
 
-enum_told : tie.Need-enum-told
+enum_told : tie.Need-enum_told-1
 enum_told c = search rules
 
-returns-2 : tie.Need-returns-2
+returns-2 : tie.Need-returns-in-Both
 unfolding barrier_of
 returns-2 c =
     rw (
-      equals c.before.before.before.before.before.before.before.count.ensures c.before.before.before.before.before.before.if1.false,
-      sym c.before.before.before.pair_in.ensures ∙ c.before.times.given.1,
+      equals c.count.ensures c.if-count-ne3.false,
+      sym c.pair_in-times.ensures ∙ c.in-Both.is,
     )
 
-returns-3 : tie.Need-returns-3
+returns-3 : tie.Need-returns-in-Bad
 unfolding barrier_of
 returns-3 c =
     rw (
-      equals c.before.before.before.before.before.before.count.ensures c.before.before.before.before.before.if1.false,
-      sym c.before.before.pair_in.ensures ∙ c.enum_told.given.1,
+      equals c.count.ensures c.if-count-ne3.false,
+      sym c.pair_in-times.ensures ∙ c.in-Bad.is,
     )
 
-pub barrier-spec : {M : Type 1} → statement M
-barrier-spec =
+pub barrier_spec : {M : Type 1} → statement M
+barrier_spec =
     tie.close
     (tie.spec
     count-requires
     returns
-    slice-aggregate-pair-in
-    slice-aggregate-pair-in-2
     pair-in-requires
     enum-known-times
     enum_told

@@ -3,18 +3,24 @@ use borrow.Author.Rules.{rules}
 use Rattle.job.proofs.command.set_freq.Statement.{statement}
 use Rattle.job.proofs.command.set_freq.Tie as tie
 
-enum-known-t : tie.Need-enum-known-t
+enum-known-t : tie.Need-enum_known-t
 enum-known-t c = search rules
 
-enum_told : tie.Need-enum-told
+enum_told : tie.Need-enum_told-1
 enum_told c = search rules
 
-returns : tie.Need-returns
+returns : tie.Need-returns-in-By
 returns c =
-    rw c.before.t.given.1
+    rw c.in-By.is
 
-returns-2 : tie.Need-returns-2
+returns-2 : tie.Need-returns-in-Bad
 returns-2 c = search rules
 
-pub set-freq-spec : {M : Type 1} → statement M
-set-freq-spec = tie.close (tie.spec enum-known-t enum_told returns returns-2)
+pub set_freq_spec : {M : Type 1} → statement M
+set_freq_spec =
+    tie.close
+    (tie.spec
+    enum-known-t
+    enum_told
+    returns
+    returns-2)

@@ -9,124 +9,89 @@ use Rattle.job.proofs.line.channel.Tie as tie
 count-requires : tie.Need-count-requires
 count-requires c κs = search rules
 
-returns : tie.Need-returns
+returns : tie.Need-returns-then-count-ne5
 unfolding channel_of
 returns c =
-    rw (differs c.before.count.ensures c.if1.true)
+    rw (differs c.count.ensures c.if-count-ne5.true)
 
-slice-aggregate-name-in : tie.Need-slice-aggregate-name-in
-slice-aggregate-name-in c = search rules
-
-name-in-requires : tie.Need-name-in-requires
+name-in-requires : tie.Need-name_in-named-requires
 name-in-requires c κs = search rules
 
-enum-known-named : tie.Need-enum-known-named
+enum-known-named : tie.Need-enum_known-named
 enum-known-named c = search rules
 
-enum_told : tie.Need-enum-told
+enum_told : tie.Need-enum_told-1
 enum_told c = search rules
 
-returns-2 : tie.Need-returns-2
+returns-2 : tie.Need-returns-in_default
 unfolding channel_of
 returns-2 c =
     rw (
-      equals c.before.before.before.before.before.count.ensures c.before.before.before.before.if1.false,
-      sym c.before.before.name_in.ensures ∙ c.enum_told.given.1,
+      equals c.count.ensures c.if-count-ne5.false,
+      sym c.name_in-named.ensures ∙ c.in_default.is,
     )
 
-slice-aggregate-pair-in : tie.Need-slice-aggregate-pair-in
-slice-aggregate-pair-in c = search rules
-
-slice-aggregate-pair-in-2 : tie.Need-slice-aggregate-pair-in-2
-slice-aggregate-pair-in-2 c = search rules
-
-pair-in-requires : tie.Need-pair-in-requires
+pair-in-requires : tie.Need-pair_in-frequencies-requires
 pair-in-requires c κs = search rules
 
-enum-known-frequencies : tie.Need-enum-known-frequencies
+enum-known-frequencies : tie.Need-enum_known-frequencies
 enum-known-frequencies c = search rules
 
-enum-told-2 : tie.Need-enum-told-2
+enum-told-2 : tie.Need-enum_told-in_default-frequencies
 enum-told-2 c = search rules
 
-returns-3 : tie.Need-returns-3
+returns-3 : tie.Need-returns-in_default-frequencies
 unfolding channel_of
 returns-3 c =
-    let c2 = c.before.before in
-    let c6 = c2.before.before.before.before in
-    let c8 = c6.before.before in
-    let c10 = c8.before.before in
-    let c11 = c10.before in
     rw (
-      equals c11.count.ensures c10.if1.false,
-      sym c8.name_in.ensures ∙ c6.named.given.1,
-      sym c2.pair_in.ensures ∙ c.enum-told2.given.1,
+      equals c.count.ensures c.if-count-ne5.false,
+      sym c.name_in-named.ensures ∙ c.in-Name.is,
+      sym c.pair_in-frequencies.ensures ∙ c.in_default-frequencies.is,
     )
 
-slice-aggregate-number-in : tie.Need-slice-aggregate-number-in
-slice-aggregate-number-in c = search rules
-
-number-in-requires : tie.Need-number-in-requires
+number-in-requires : tie.Need-number_in-turns-requires
 number-in-requires c κs = search rules
 
-enum-known-turns : tie.Need-enum-known-turns
+enum-known-turns : tie.Need-enum_known-turns
 enum-known-turns c = search rules
 
-enum-told-3 : tie.Need-enum-told-3
+enum-told-3 : tie.Need-enum_told-in_default-turns
 enum-told-3 c = search rules
 
-returns-4 : tie.Need-returns-4
+returns-4 : tie.Need-returns-in_default-turns
 unfolding channel_of
 returns-4 c =
-    let c2 = c.before.before in
-    let c5 = c2.before.before.before in
-    let c7 = c5.before.before in
-    let c11 = c7.before.before.before.before in
-    let c13 = c11.before.before in
-    let c15 = c13.before.before in
-    let c16 = c15.before in
     rw (
-      equals c16.count.ensures c15.if1.false,
-      sym c13.name_in.ensures ∙ c11.named.given.1,
-      sym c7.pair_in.ensures ∙ c5.frequencies.given.1,
-      sym c2.number_in.ensures ∙ c.enum-told3.given.1,
+      equals c.count.ensures c.if-count-ne5.false,
+      sym c.name_in-named.ensures ∙ c.in-Name.is,
+      sym c.pair_in-frequencies.ensures ∙ c.in-Both.is,
+      sym c.number_in-turns.ensures ∙ c.in_default-turns.is,
     )
 
-returns-5 : tie.Need-returns-5
+returns-5 : tie.Need-returns
 unfolding channel_of
 returns-5 c =
-    let c3 = c.before.before.before in
-    let c6 = c3.before.before.before in
-    let c8 = c6.before.before in
-    let c12 = c8.before.before.before.before in
-    let c14 = c12.before.before in
-    let c16 = c14.before.before in
-    let c17 = c16.before in
     rw (
-      equals c17.count.ensures c16.if1.false,
-      sym c14.name_in.ensures ∙ c12.named.given.1,
-      sym c8.pair_in.ensures ∙ c6.frequencies.given.1,
-      sym c3.number_in.ensures ∙ c.before.turns.given.1,
+      equals c.count.ensures c.if-count-ne5.false,
+      sym c.name_in-named.ensures ∙ c.in-Name.is,
+      sym c.pair_in-frequencies.ensures ∙ c.in-Both.is,
+      sym c.number_in-turns.ensures ∙ c.in-Double.is,
     )
 
-pub channel-spec : {M : Type 1} → statement M
-channel-spec =
+pub channel_spec : {M : Type 1} → statement M
+channel_spec =
     tie.close
     (tie.spec
     count-requires
     returns
-    slice-aggregate-name-in
     name-in-requires
     enum-known-named
     enum_told
     returns-2
-    slice-aggregate-pair-in
-    slice-aggregate-pair-in-2
     pair-in-requires
     enum-known-frequencies
     enum-told-2
     returns-3
-    slice-aggregate-number-in
     number-in-requires
     enum-known-turns
     enum-told-3

@@ -6,20 +6,27 @@ use borrow.Author.Rules.{rules}
 use Rattle.job.proofs.line.read.Statement.{statement}
 use Rattle.job.proofs.line.read.Tie as tie
 
-returns : tie.Need-returns
+returns : tie.Need-returns-then-line-lt1
 returns c = sym (nothing_in _ (omega arith))
 
-shared-slice-read-if2 : tie.Need-shared-slice-read-if2
+shared-slice-read-if2 : tie.Need-bounds-line-0
 shared-slice-read-if2 c = search rules
 
-returns-2 : tie.Need-returns-2
-returns-2 c = sym (remark _ (omega arith) c.if2.true)
+returns-2 : tie.Need-returns-then-line-eq35
+returns-2 c = sym (remark _ (omega arith) c.if-line-eq35.true)
 
 setting-requires : tie.Need-setting-requires
 setting-requires c κs = search rules
 
-returns-3 : tie.Need-returns-3
-returns-3 c = rw (says c.before.before.before.before.before.args.line.now (omega arith) c.before.if2.false) c.setting.ensures
+returns-3 : tie.Need-returns
+returns-3 c = rw (says c.args.line.now (omega arith) c.if-line-eq35.false) c.setting.ensures
 
 pub read_spec : {M : Type 1} → statement M
-read_spec = tie.close (tie.spec returns shared-slice-read-if2 returns-2 setting-requires returns-3)
+read_spec =
+    tie.close
+    (tie.spec
+    returns
+    shared-slice-read-if2
+    returns-2
+    setting-requires
+    returns-3)

@@ -10,113 +10,104 @@ use Rattle.job.proofs.Listing.{numbers-stop, numbers-last, numbers_on, end-withi
 use Rattle.job.proofs.list.all_numbers.Statement.{statement}
 use Rattle.job.proofs.list.all_numbers.Tie as tie
 
-abbrev invariant-loop : tie.invariant-loop
+abbrev invariant-loop : tie.invariant-loop-at
 invariant-loop line k at₀ left₀ at left = (at ≤ length line) × (all_numbers (drop left (words_of (drop at line))) ≡ numbers_from k (words_of line))
 
-abbrev decreases-loop : tie.decreases-loop
+abbrev decreases-loop : tie.decreases-loop-at
 decreases-loop line k at₀ left₀ at left = length line + 1 - at
 
 never : (a n : ℕ) → a ≤ n → n < a → ⊥
 never a n h k = omega arith
 
-loop-holds : tie.Need-loop-init invariant-loop decreases-loop
+loop-holds : tie.Need-loop-at-init invariant-loop decreases-loop
 unfolding numbers_from
 loop-holds c = (omega arith, refl)
 
-sub-place : tie.Need-overflow-sub-place invariant-loop decreases-loop
+sub-place : tie.Need-slice_bounds-place-count invariant-loop decreases-loop
 sub-place c = search rules
 
-part-place-start : tie.Need-slice-bounds-place-start invariant-loop decreases-loop
+part-place-start : tie.Need-slice_bounds-place-start invariant-loop decreases-loop
 part-place-start c = search rules
 
-part-place-end : tie.Need-slice-bounds-place-end invariant-loop decreases-loop
+part-place-end : tie.Need-slice_bounds-place-end invariant-loop decreases-loop
 part-place-end c = search rules
 
 place-requires : tie.Need-place-requires invariant-loop decreases-loop
 place-requires c κs = search rules
 
-add-end : tie.Need-overflow-add-end invariant-loop decreases-loop
+add-end : tie.Need-overflow_add-end invariant-loop decreases-loop
 add-end c =
-    let line = c.before.before.before.before.before.args.line.now in
-    let at = c.before.before.before.loop in
+    let line = c.args.line.now in
+    let at = c.loop-at in
     let p = c.place.result in
     omega (arith, end-within line at.at at.left p at.invariant.0 c.place.ensures)
 
-sub-stops : tie.Need-overflow-sub-stops invariant-loop decreases-loop
+sub-stops : tie.Need-slice_bounds-stops-count invariant-loop decreases-loop
 sub-stops c = omega arith
 
-part-stops-start : tie.Need-slice-bounds-stops-start invariant-loop decreases-loop
+part-stops-start : tie.Need-slice_bounds-stops-start invariant-loop decreases-loop
 part-stops-start c =
-    let line = c.before.before.before.before.before.args.line.now in
-    let at = c.before.before.before.loop in
+    let line = c.args.line.now in
+    let at = c.loop-at in
     let p = c.place.result in
     omega (arith, end-within line at.at at.left p at.invariant.0 c.place.ensures)
 
-part-stops-end : tie.Need-slice-bounds-stops-end invariant-loop decreases-loop
+part-stops-end : tie.Need-slice_bounds-stops-end invariant-loop decreases-loop
 part-stops-end c =
-    let line = c.before.before.before.before.before.args.line.now in
-    let at = c.before.before.before.loop in
+    let line = c.args.line.now in
+    let at = c.loop-at in
     let p = c.place.result in
     omega (arith, end-within line at.at at.left p at.invariant.0 c.place.ensures)
 
 stops-requires : tie.Need-stops-requires invariant-loop decreases-loop
 stops-requires c κs = search rules
 
-returns : tie.Need-returns invariant-loop decreases-loop
+returns : tie.Need-returns-then-stops invariant-loop decreases-loop
 returns c =
-    let line = c.before.before.before.before.before.before.before.before.args.line.now in
-    let at = c.before.before.before.before.before.before.loop in
-    let p = c.before.before.before.place.result in
-    sym (numbers-stop line at.at at.left p at.invariant.0 c.before.before.before.place.ensures (sym c.before.stops.ensures ∙ c.if1.true)) ∙ at.invariant.1
+    let line = c.args.line.now in
+    let at = c.loop-at in
+    let p = c.place.result in
+    sym (numbers-stop line at.at at.left p at.invariant.0 c.place.ensures (sym c.stops.ensures ∙ c.if-stops.true)) ∙ at.invariant.1
 
-returns-2 : tie.Need-returns-2 invariant-loop decreases-loop
+returns-2 : tie.Need-returns-then-end-line invariant-loop decreases-loop
 returns-2 c =
-    let c2 = c.before.before in
-    let c4 = c2.before.before in
-    let c7 = c4.before.before.before in
-    let c9 = c7.before.before in
-    let line = c9.args.line.now in
-    let at = c7.loop in
-    let p = c4.place.result in
-    sym (numbers-last line at.at at.left p at.invariant.0 c4.place.ensures (sym c2.stops.ensures ∙ c.before.if1.false) c.if2.true) ∙ at.invariant.1
+    let line = c.args.line.now in
+    let at = c.loop-at in
+    let p = c.place.result in
+    sym (numbers-last line at.at at.left p at.invariant.0 c.place.ensures (sym c.stops.ensures ∙ c.if-stops.false) c.if-end-line.true) ∙ at.invariant.1
 
-add_at : tie.Need-overflow-add-at invariant-loop decreases-loop
+add_at : tie.Need-overflow_add-at invariant-loop decreases-loop
 add_at c =
-    let line = c.before.before.before.before.before.before.before.before.before.args.line.now in
-    let at = c.before.before.before.before.before.before.before.loop in
-    let p = c.before.before.before.before.place.result in
-    omega (arith, end-within line at.at at.left p at.invariant.0 c.before.before.before.before.place.ensures)
+    let line = c.args.line.now in
+    let at = c.loop-at in
+    let p = c.place.result in
+    omega (arith, end-within line at.at at.left p at.invariant.0 c.place.ensures)
 
-less-requires : tie.Need-less-requires invariant-loop decreases-loop
+less-requires : tie.Need-less-left-requires invariant-loop decreases-loop
 less-requires c κs = search rules
 
-loop-less : tie.Need-loop-smaller invariant-loop decreases-loop
+loop-less : tie.Need-loop-at-smaller invariant-loop decreases-loop
 loop-less c =
-    let line = c.before.before.before.before.before.before.before.before.before.before.args.line.now in
-    let at = c.before.before.before.before.before.before.before.before.loop in
-    let p = c.before.before.before.before.before.place.result in
-    omega (arith, end-within line at.at at.left p at.invariant.0 c.before.before.before.before.before.place.ensures)
+    let line = c.args.line.now in
+    let at = c.loop-at in
+    let p = c.place.result in
+    omega (arith, end-within line at.at at.left p at.invariant.0 c.place.ensures)
 
-loop-again : tie.Need-loop-preserved invariant-loop decreases-loop
+loop-again : tie.Need-loop-at-preserved invariant-loop decreases-loop
 loop-again c =
-    let c2 = c.before.before in
-    let c3 = c2.before in
-    let c5 = c3.before.before in
-    let c8 = c5.before.before.before in
-    let c10 = c8.before.before in
-    let line = c10.args.line.now in
-    let at = c8.loop in
-    let p = c5.place.result in
-    let on = numbers_on line at.at at.left p at.invariant.0 c5.place.ensures (sym c3.stops.ensures ∙ c2.if1.false) c.before.if2.false in
-    (omega (arith, end-within line at.at at.left p at.invariant.0 c5.place.ensures), rw c.less.ensures (on ∙ at.invariant.1))
+    let line = c.args.line.now in
+    let at = c.loop-at in
+    let p = c.place.result in
+    let on = numbers_on line at.at at.left p at.invariant.0 c.place.ensures (sym c.stops.ensures ∙ c.if-stops.false) c.if-end-line.false in
+    (omega (arith, end-within line at.at at.left p at.invariant.0 c.place.ensures), rw c.less-left.ensures (on ∙ at.invariant.1))
 
-returns-3 : tie.Need-returns-3 invariant-loop decreases-loop
+returns-3 : tie.Need-returns invariant-loop decreases-loop
 returns-3 c =
-    let at = c.before.loop in
-    absurd (never at.at (length c.before.before.before.args.line.now) at.invariant.0 (omega arith))
+    let at = c.loop-at in
+    absurd (never at.at (length c.args.line.now) at.invariant.0 (omega arith))
 
-pub all-numbers-spec : {M : Type 1} → statement M
-all-numbers-spec =
+pub all_numbers_spec : {M : Type 1} → statement M
+all_numbers_spec =
     tie.close
     (tie.spec
     invariant-loop

@@ -1,5 +1,6 @@
 -- `job::list::counted` meets its contract. Field by field: each answer of a call picks the case of the definition. Assumes nothing.
-use mathlib.Core.Path.{sym, ◌∙◌}
+use mathlib.Core.Bool.{not}
+use mathlib.Core.Path.{sym, ◌∙◌, ap}
 use Rattle.job.specs.List.{counted_of}
 use Rattle.job.proofs.Counting.{enough, fewer, rest-differs, rest-equals}
 use Rattle.quant.proofs.Judging.{passed, taken}
@@ -10,79 +11,64 @@ use Rattle.job.proofs.list.counted.Tie as tie
 count-requires : tie.Need-count-requires
 count-requires c κs = search rules
 
-returns : tie.Need-returns
+returns : tie.Need-returns-then-count-lt2
 unfolding counted_of
 returns c =
-    rw (fewer c.before.count.ensures c.if1.true)
+    rw (fewer c.count.ensures c.if-count-lt2.true)
 
-slice-aggregate-whole-in : tie.Need-slice-aggregate-whole-in
-slice-aggregate-whole-in c = search rules
-
-whole-in-requires : tie.Need-whole-in-requires
+whole-in-requires : tie.Need-whole_in-said-requires
 whole-in-requires c κs = search rules
 
-enum-known-said : tie.Need-enum-known-said
+enum-known-said : tie.Need-enum_known-said
 enum-known-said c = search rules
 
-enum_told : tie.Need-enum-told
+enum_told : tie.Need-enum_told-1
 enum_told c = search rules
 
-returns-2 : tie.Need-returns-2
+returns-2 : tie.Need-returns-in_default
 unfolding counted_of
 returns-2 c =
     rw (
-      enough c.before.before.before.before.before.count.ensures c.before.before.before.before.if1.false,
-      sym c.before.before.whole_in.ensures ∙ c.enum_told.given.1,
+      enough c.count.ensures c.if-count-lt2.false,
+      sym c.whole_in-said.ensures ∙ c.in_default.is,
     )
 
 count-requires-2 : tie.Need-count-requires-2
 count-requires-2 c κs = search rules
 
-sub-if2 : tie.Need-overflow-sub-if2
+sub-if2 : tie.Need-overflow_sub-count
 sub-if2 c = search rules
 
-returns-3 : tie.Need-returns-3
+returns-3 : tie.Need-returns-then-count-n
 unfolding counted_of
 returns-3 c =
     rw (
-      enough c.before.before.before.before.before.before.before.before.count.ensures c.before.before.before.before.before.before.before.if1.false,
-      sym c.before.before.before.before.before.whole_in.ensures ∙ c.before.before.before.said.given.1,
-      rest-differs c.before.count2.ensures c.if2.true,
+      enough c.count.ensures c.if-count-lt2.false,
+      sym c.whole_in-said.ensures ∙ c.in-Value.is,
+      rest-differs c.count-2.ensures c.if-count-n.true,
     )
 
-all-numbers-requires : tie.Need-all-numbers-requires
+all-numbers-requires : tie.Need-all_numbers-requires
 all-numbers-requires c κs = search rules
 
-returns-4 : tie.Need-returns-4
+returns-4 : tie.Need-returns-then-not-all_numbers
 unfolding counted_of
 returns-4 c =
-    let c2 = c.before.before in
-    let c3 = c2.before in
-    let c5 = c3.before.before in
-    let c7 = c5.before.before in
-    let c9 = c7.before.before in
-    let c10 = c9.before in
     rw (
-      enough c10.count.ensures c9.if1.false,
-      sym c7.whole_in.ensures ∙ c5.said.given.1,
-      rest-equals c3.count2.ensures c2.if2.false,
-      taken _ _ c.before.all-numbers.ensures c.if3.true,
+      enough c.count.ensures c.if-count-lt2.false,
+      sym c.whole_in-said.ensures ∙ c.in-Value.is,
+      rest-equals c.count-2.ensures c.if-count-n.false,
+      taken _ _ c.all_numbers.ensures (ap not c.if-not-all_numbers.true),
     )
 
-returns-5 : tie.Need-returns-5
+returns-5 : tie.Need-returns
 unfolding counted_of
 returns-5 c =
-    let c2 = c.before.before in
-    let c3 = c2.before in
-    let c5 = c3.before.before in
-    let c7 = c5.before.before in
-    let c9 = c7.before.before in
-    let c10 = c9.before in
     rw (
-      enough c10.count.ensures c9.if1.false,
-      sym c7.whole_in.ensures ∙ c5.said.given.1,
-      rest-equals c3.count2.ensures c2.if2.false,
-      passed _ _ c.before.all-numbers.ensures c.if3.false,
+      enough c.count.ensures c.if-count-lt2.false,
+      sym c.whole_in-said.ensures ∙ c.in-Value.is,
+      rest-equals c.count-2.ensures c.if-count-n.false,
+      passed _ _ c.all_numbers.ensures (ap not c.if-not-all_numbers.false),
     )
 
 pub counted_spec : {M : Type 1} → statement M
@@ -91,7 +77,6 @@ counted_spec =
     (tie.spec
     count-requires
     returns
-    slice-aggregate-whole-in
     whole-in-requires
     enum-known-said
     enum_told

@@ -9,46 +9,42 @@ use Rattle.job.proofs.list.sheet.Tie as tie
 count-requires : tie.Need-count-requires
 count-requires c κs = search rules
 
-returns : tie.Need-returns
+returns : tie.Need-returns-then-count-ne2
 unfolding sheet_of
 returns c =
-    rw (differs c.before.count.ensures c.if1.true)
+    rw (differs c.count.ensures c.if-count-ne2.true)
 
-slice-aggregate-whole-in : tie.Need-slice-aggregate-whole-in
-slice-aggregate-whole-in c = search rules
-
-whole-in-requires : tie.Need-whole-in-requires
+whole-in-requires : tie.Need-whole_in-said-requires
 whole-in-requires c κs = search rules
 
-enum-known-said : tie.Need-enum-known-said
+enum-known-said : tie.Need-enum_known-said
 enum-known-said c = search rules
 
-enum_told : tie.Need-enum-told
+enum_told : tie.Need-enum_told-1
 enum_told c = search rules
 
-returns-2 : tie.Need-returns-2
+returns-2 : tie.Need-returns-in-Value
 unfolding sheet_of
 returns-2 c =
     rw (
-      equals c.before.before.before.before.before.before.count.ensures c.before.before.before.before.before.if1.false,
-      sym c.before.before.before.whole_in.ensures ∙ c.before.said.given.1,
+      equals c.count.ensures c.if-count-ne2.false,
+      sym c.whole_in-said.ensures ∙ c.in-Value.is,
     )
 
-returns-3 : tie.Need-returns-3
+returns-3 : tie.Need-returns-in-Bad
 unfolding sheet_of
 returns-3 c =
     rw (
-      equals c.before.before.before.before.before.count.ensures c.before.before.before.before.if1.false,
-      sym c.before.before.whole_in.ensures ∙ c.enum_told.given.1,
+      equals c.count.ensures c.if-count-ne2.false,
+      sym c.whole_in-said.ensures ∙ c.in-Bad.is,
     )
 
-pub sheet-spec : {M : Type 1} → statement M
-sheet-spec =
+pub sheet_spec : {M : Type 1} → statement M
+sheet_spec =
     tie.close
     (tie.spec
     count-requires
     returns
-    slice-aggregate-whole-in
     whole-in-requires
     enum-known-said
     enum_told

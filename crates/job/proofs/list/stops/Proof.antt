@@ -6,26 +6,34 @@ use borrow.Author.Rules.{rules}
 use Rattle.job.proofs.list.stops.Statement.{statement}
 use Rattle.job.proofs.list.stops.Tie as tie
 
-returns : tie.Need-returns
+returns : tie.Need-returns-then-left-gt0
 unfolding stops_at
-returns c = rw (lt-ltb _ _ c.if1.true)
+returns c = rw (lt-ltb _ _ c.if-left-gt0.true)
 
-read-requires : tie.Need-read-requires
+read-requires : tie.Need-read-number-requires
 read-requires c κs = search rules
 
-enum_told : tie.Need-enum-told
+enum_told : tie.Need-enum_told-1
 enum_told c = search rules
 
-enum-told-2 : tie.Need-enum-told-2
+enum-told-2 : tie.Need-enum_told-in-Bad
 enum-told-2 c = search rules
 
-returns-2 : tie.Need-returns-2
+returns-2 : tie.Need-returns-in-Double
 unfolding stops_at
-returns-2 c = rw (le-ltb _ _ c.before.before.before.if1.false, sym c.before.before.read.ensures ∙ c.enum_told.given.1)
+returns-2 c = rw (le-ltb _ _ c.if-left-gt0.false, sym c.read-number.ensures ∙ c.in-Double.is)
 
-returns-3 : tie.Need-returns-3
+returns-3 : tie.Need-returns-in-Bad
 unfolding stops_at
-returns-3 c = rw (le-ltb _ _ c.before.before.before.if1.false, sym c.before.before.read.ensures ∙ c.enum-told2.given.1)
+returns-3 c = rw (le-ltb _ _ c.if-left-gt0.false, sym c.read-number.ensures ∙ c.in-Bad.is)
 
-pub stops-spec : {M : Type 1} → statement M
-stops-spec = tie.close (tie.spec returns read-requires enum_told enum-told-2 returns-2 returns-3)
+pub stops_spec : {M : Type 1} → statement M
+stops_spec =
+    tie.close
+    (tie.spec
+    returns
+    read-requires
+    enum_told
+    enum-told-2
+    returns-2
+    returns-3)

@@ -6,35 +6,35 @@ use Rattle.job_sheet.proofs.Firsts.{Going, starts, goes_on, ran_out, gone-over}
 use Rattle.job_sheet.proofs.first.first_lines.Statement.{statement}
 use Rattle.job_sheet.proofs.first.first_lines.Tie as tie
 
-abbrev invariant-loop : tie.invariant-loop
+abbrev invariant-loop : tie.invariant-loop-left
 invariant-loop text count at₀ left₀ at left = Going text count at left
 
-abbrev decreases-loop : tie.decreases-loop
+abbrev decreases-loop : tie.decreases-loop-left
 decreases-loop text count at₀ left₀ at left = left
 
-loop-holds : tie.Need-loop-init invariant-loop decreases-loop
+loop-holds : tie.Need-loop-left-init invariant-loop decreases-loop
 loop-holds c = starts _ _
 
-returns : tie.Need-returns invariant-loop decreases-loop
-returns c = sym (ran_out _ _ _ _ c.before.before.loop.invariant (omega arith) (omega arith))
+returns : tie.Need-returns-then-text-at invariant-loop decreases-loop
+returns c = sym (ran_out _ _ _ _ c.loop-left.invariant (omega arith) (omega arith))
 
-behind-line-requires : tie.Need-behind-line-requires invariant-loop decreases-loop
+behind-line-requires : tie.Need-behind_line-at-requires invariant-loop decreases-loop
 behind-line-requires c κs = search rules
 
-sub-left : tie.Need-overflow-sub-left invariant-loop decreases-loop
+sub-left : tie.Need-overflow_sub-left invariant-loop decreases-loop
 sub-left c = search rules
 
-loop-less : tie.Need-loop-smaller invariant-loop decreases-loop
+loop-less : tie.Need-loop-left-smaller invariant-loop decreases-loop
 loop-less c = search rules
 
-loop-again : tie.Need-loop-preserved invariant-loop decreases-loop
-loop-again c = goes_on _ _ _ _ _ c.before.before.before.loop.invariant (omega arith) (omega arith) c.behind-line.ensures
+loop-again : tie.Need-loop-left-preserved invariant-loop decreases-loop
+loop-again c = goes_on _ _ _ _ _ c.loop-left.invariant (omega arith) (omega arith) c.behind_line-at.ensures
 
-returns-2 : tie.Need-returns-2 invariant-loop decreases-loop
-returns-2 c = sym (gone-over _ _ _ _ c.before.loop.invariant (omega arith))
+returns-2 : tie.Need-returns invariant-loop decreases-loop
+returns-2 c = sym (gone-over _ _ _ _ c.loop-left.invariant (omega arith))
 
-pub first-lines-spec : {M : Type 1} → statement M
-first-lines-spec =
+pub first_lines_spec : {M : Type 1} → statement M
+first_lines_spec =
     tie.close
     (tie.spec
     invariant-loop

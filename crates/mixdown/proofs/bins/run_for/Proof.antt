@@ -6,11 +6,16 @@ use Rattle.mixdown.proofs.bins.run_for.Tie as tie
 advance-requires : tie.Need-advance-requires
 advance-requires c κs = search rules
 
-returns : tie.Need-returns
-returns c = rw (c.before.if1.true, c.advance.ensures)
+returns : tie.Need-returns-then-found
+returns c = rw (c.if-found.true, c.advance.ensures)
 
-returns-2 : tie.Need-returns-2
-returns-2 c = rw c.if1.false
+returns-2 : tie.Need-returns
+returns-2 c = rw c.if-found.false
 
-pub run-for-spec : {M : Type 1} → statement M
-run-for-spec = tie.close (tie.spec advance-requires returns returns-2)
+pub run_for_spec : {M : Type 1} → statement M
+run_for_spec =
+    tie.close
+    (tie.spec
+    advance-requires
+    returns
+    returns-2)

@@ -30,67 +30,65 @@ module _ (s : tie.Start) where
   its = rows_of s.args.t s.args.bins.now s.args.at
 
   most : s.args.p ≤ 64
-  most = let h = held-most s.args.t s.args.bins.now s.args.at in omega (arith, h, s.pre.4)
+  most = let h = held-most s.args.t s.args.bins.now s.args.at in omega (arith, h, s.requires.4)
 
   many : length (take s.args.p its) ≡ s.args.p
-  many = length-take-le s.args.p its (let h = rows-many s.args.t s.args.bins.now s.args.at (eight_channels s.args.t _ s.good.0) s.pre.0 in omega (arith, h, s.pre.4))
+  many = length-take-le s.args.p its (let h = rows-many s.args.t s.args.bins.now s.args.at (eight_channels s.args.t _ s.well_formed.0) s.requires.0 in omega (arith, h, s.requires.4))
 
-returns : tie.Need-returns
-returns c = sym (among-append c.before.before.args.t7 (earlier c.before.before) (take c.before.before.args.p (its c.before.before)) ∙ rw (sym c.before.appeared.ensures ∙ c.if1.true) refl)
+returns : tie.Need-returns-then-appeared
+returns c = sym (among-append c.args.row (earlier c.before.before) (take c.args.p (its c.before.before)) ∙ rw (sym c.appeared.ensures ∙ c.if-appeared.true) refl)
 
-mul-first : tie.Need-overflow-mul-first
+mul-first : tie.Need-overflow_mul-first
 mul-first c = search rules
 
-head-in-requires : tie.Need-head-in-requires
+head-in-requires : tie.Need-head_in-requires
 head-in-requires c κs = search rules
 
-sub-place : tie.Need-overflow-sub-place
+sub-place : tie.Need-slice_bounds-place-count
 sub-place c = search rules
 
-part-place-start : tie.Need-slice-bounds-place-start
+part-place-start : tie.Need-slice_bounds-place-start
 part-place-start c = search rules
 
-part-place-end : tie.Need-slice-bounds-place-end
+part-place-end : tie.Need-slice_bounds-place-end
 part-place-end c = search rules
 
-add-place : tie.Need-overflow-add-place
-add-place c = let s = c.before.before.before.before.before in omega (arith, most s, s.requires.3)
+add-place : tie.Need-overflow_add-first
+add-place c = omega (arith, most c.before.before.before.before, c.requires.3)
 
-mul-place : tie.Need-overflow-mul-place
+mul-place : tie.Need-offset_bounds-bins-first
 mul-place c = search rules
 
-sub-place-2 : tie.Need-overflow-sub-place-2
+sub-place-2 : tie.Need-slice_bounds-place-count-2
 sub-place-2 c = search rules
 
-part-place-start-2 : tie.Need-slice-bounds-place-start-2
+part-place-start-2 : tie.Need-slice_bounds-place-start-2
 part-place-start-2 c = search rules
 
-part-place-end-2 : tie.Need-slice-bounds-place-end-2
+part-place-end-2 : tie.Need-slice_bounds-place-end-2
 part-place-end-2 c =
-    let s = c.before.before.before.before.before in
-    let end : 64 * s.args.at + s.args.p ≤ length s.args.bins.now = omega (arith, most s, s.requires.3, s.requires.0) in
+    let end : 64 * c.args.at + c.args.p ≤ length c.args.bins.now = omega (arith, most c.before.before.before.before, c.requires.3, c.requires.0) in
     end
 
 place-requires : tie.Need-place-requires
 place-requires c κs = search rules
 
-returns-2 : tie.Need-returns-2
+returns-2 : tie.Need-returns
 returns-2 c =
-    let s = c.before.before.before.before.before.before.before in
-    let a = s.args in
+    let a = c.args in
     let size : 64 * a.at + a.p - 64 * a.at ≡ a.p = omega arith in
-    let row = row-whole a.t7 s.well-formed.1.1.1.1.1.1.0.1.0.1 _ c.before.before.before.before.head_in.ensures in
-    let found : c.place.result ≡ place_of a.t7 (take a.p (its s)) =
+    let row = row-whole a.row c.well_formed.1.1.1.1.1.1.0.1.0.1 _ c.head_in.ensures in
+    let found : c.place.result ≡ place_of a.row (take a.p (its c.before.before.before.before.before.before)) =
     c.place.ensures
     ∙ ap (λ (l : List Float). place_of l (take (64 * a.at + a.p - 64 * a.at) (drop (64 * a.at) a.bins.now))) row
-    ∙ ap (λ (n : ℕ). place_of a.t7 (take n (drop (64 * a.at) a.bins.now))) size
-    ∙ ap (place_of a.t7) (rows-first a.t a.bins.now a.at a.p s.requires.4) in
+    ∙ ap (λ (n : ℕ). place_of a.row (take n (drop (64 * a.at) a.bins.now))) size
+    ∙ ap (place_of a.row) (rows-first a.t a.bins.now a.at a.p c.requires.4) in
     ap (λ (n : ℕ). ltb n a.p) found
-    ∙ ap (ltb (place_of a.t7 (take a.p (its s)))) (sym (many s))
-    ∙ sym (among-append a.t7 (earlier s) (take a.p (its s)) ∙ rw (sym c.before.before.before.before.before.before.appeared.ensures ∙ c.before.before.before.before.before.if1.false) refl)
+    ∙ ap (ltb (place_of a.row (take a.p (its c.before.before.before.before.before.before)))) (sym (many c.before.before.before.before.before.before))
+    ∙ sym (among-append a.row (earlier c.before.before.before.before.before.before) (take a.p (its c.before.before.before.before.before.before)) ∙ rw (sym c.appeared.ensures ∙ c.if-appeared.false) refl)
 
-pub seen-spec : {M : Type 1} → statement M
-seen-spec =
+pub seen_spec : {M : Type 1} → statement M
+seen_spec =
     tie.close
     (tie.spec
     appeared-requires

@@ -11,47 +11,46 @@ use borrow.Author.Rules.{rules}
 use Rattle.mixdown.proofs.onto.add_shaped.Statement.{statement}
 use Rattle.mixdown.proofs.onto.add_shaped.Tie as tie
 
-sub-hold : tie.Need-overflow-sub-hold
+sub-hold : tie.Need-overflow_sub-i
 sub-hold c = search rules
 
 hold-requires : tie.Need-hold-requires
 hold-requires c κs = search rules
 
-sub-add-envelope : tie.Need-overflow-sub-add-envelope
+sub-add-envelope : tie.Need-slice_bounds-add_envelope-count
 sub-add-envelope c = search rules
 
-part-add-envelope-start : tie.Need-slice-bounds-add-envelope-start
+part-add-envelope-start : tie.Need-slice_bounds-add_envelope-start
 part-add-envelope-start c = search rules
 
-part-add-envelope-end : tie.Need-slice-bounds-add-envelope-end
+part-add-envelope-end : tie.Need-slice_bounds-add_envelope-end
 part-add-envelope-end c = search rules
 
-add-envelope-requires : tie.Need-add-envelope-requires
+add-envelope-requires : tie.Need-add_envelope-requires
 add-envelope-requires c κs = search rules
 
-same_length : tie.Need-same-length
+same_length : tie.Need-shape_of-i
 same_length c = search rules
 
-same-length-2 : tie.Need-same-length-2
+same-length-2 : tie.Need-shape_of-q
 same-length-2 c = search rules
 
-same-length-3 : tie.Need-same-length-3
+same-length-3 : tie.Need-shape_of-scratch
 same-length-3 c = search rules
 
 returns : tie.Need-returns
 returns c =
-    let s = c.before.before.before.before.before.before.before.before.before.before.before.before.before.before.before.before.before in
-    let a = s.args in
+    let a = c.args in
     let room = length a.i.now - a.c.start in
-    let less : room ≤ length a.scratch.now = omega (arith, s.requires.2) in
-    let held = c.before.before.before.before.before.before.before.before.before.before.before.hold.ensures in
+    let less : room ≤ length a.scratch.now = omega (arith, c.requires.2) in
+    let held = c.hold.ensures in
     let long = ap length held ∙ after-length a.s a.b a.numbers.now a.c.offset room a.scratch.now less in (
-      shaped-rows a.rows a.c a.i.now a.q.now _ _ _ (omega (arith, long, s.requires.0, s.requires.2)) c.before.before.before.before.add-envelope.ensures.0 c.before.before.before.before.add-envelope.ensures.1 ∙ ap (with_points a.rows a.c a.i.now a.q.now) held,
-      λ _ room'. ap (scratch_after a.b.envelope.shape a.numbers.now (parts_at a.s a.b a.c.offset room')) held ∙ holds_after a.s a.b a.numbers.now a.c.offset room a.scratch.now less a.c.points s.requires.1 room' ∙ sym held,
+      shaped-rows a.rows a.c a.i.now a.q.now _ _ _ (omega (arith, long, c.requires.0, c.requires.2)) c.add_envelope.ensures.0 c.add_envelope.ensures.1 ∙ ap (with_points a.rows a.c a.i.now a.q.now) held,
+      λ _ room'. ap (scratch_after a.b.envelope.shape a.numbers.now (parts_at a.s a.b a.c.offset room')) held ∙ holds_after a.s a.b a.numbers.now a.c.offset room a.scratch.now less a.c.points c.requires.1 room' ∙ sym held,
     )
 
-pub add-shaped-spec : {M : Type 1} → statement M
-add-shaped-spec =
+pub add_shaped_spec : {M : Type 1} → statement M
+add_shaped_spec =
     tie.close
     (tie.spec
     sub-hold

@@ -9,38 +9,38 @@ use borrow.Author.Rules.{rules}
 use Rattle.mixdown.proofs.runs.advance.Statement.{statement}
 use Rattle.mixdown.proofs.runs.advance.Tie as tie
 
-abbrev invariant-loop : tie.invariant-loop
+abbrev invariant-loop : tie.invariant-loop-at
 invariant-loop marks from end mark at₀ at = advanced marks at end mark ≡ advanced marks from end mark
 
-abbrev decreases-loop : tie.decreases-loop
+abbrev decreases-loop : tie.decreases-loop-at
 decreases-loop marks from end mark at₀ at = end - at
 
-loop-holds : tie.Need-loop-init invariant-loop decreases-loop
+loop-holds : tie.Need-loop-at-init invariant-loop decreases-loop
 loop-holds c = search rules
 
-mul-if1 : tie.Need-overflow-mul-if1 invariant-loop decreases-loop
+mul-if1 : tie.Need-offset_bounds-marks-at invariant-loop decreases-loop
 mul-if1 c = search rules
 
-shared-slice-read-if1 : tie.Need-shared-slice-read-if1 invariant-loop decreases-loop
+shared-slice-read-if1 : tie.Need-bounds-marks-at invariant-loop decreases-loop
 shared-slice-read-if1 c = search rules
 
-returns : tie.Need-returns invariant-loop decreases-loop
-returns c = sym (advanced-here c.before.before.before.before.args.marks.now c.before.before.before.loop.at c.before.before.before.before.args.end c.before.before.before.before.args.mark (omega arith) c.before.before.before.before.requires (eq-eqb _ _ c.if1.true)) ∙ c.before.before.before.loop.invariant
+returns : tie.Need-returns-then-marks-at invariant-loop decreases-loop
+returns c = sym (advanced-here c.args.marks.now c.loop-at.at c.args.end c.args.mark (omega arith) c.requires (eq-eqb _ _ c.if-marks-at.true)) ∙ c.loop-at.invariant
 
-add_at : tie.Need-overflow-add-at invariant-loop decreases-loop
+add_at : tie.Need-overflow_add-at invariant-loop decreases-loop
 add_at c = search rules
 
-loop-less : tie.Need-loop-smaller invariant-loop decreases-loop
+loop-less : tie.Need-loop-at-smaller invariant-loop decreases-loop
 loop-less c = search rules
 
-loop-again : tie.Need-loop-preserved invariant-loop decreases-loop
-loop-again c = advanced-later c.before.before.before.before.args.marks.now c.before.before.before.loop.at c.before.before.before.before.args.end c.before.before.before.before.args.mark (omega arith) c.before.before.before.before.requires (ne_eqb _ _ c.if1.false) ∙ c.before.before.before.loop.invariant
+loop-again : tie.Need-loop-at-preserved invariant-loop decreases-loop
+loop-again c = advanced-later c.args.marks.now c.loop-at.at c.args.end c.args.mark (omega arith) c.requires (ne_eqb _ _ c.if-marks-at.false) ∙ c.loop-at.invariant
 
-returns-2 : tie.Need-returns-2 invariant-loop decreases-loop
-returns-2 c = sym (advanced-over c.before.before.args.marks.now c.before.loop.at c.before.before.args.end c.before.before.args.mark (omega arith)) ∙ c.before.loop.invariant
+returns-2 : tie.Need-returns invariant-loop decreases-loop
+returns-2 c = sym (advanced-over c.args.marks.now c.loop-at.at c.args.end c.args.mark (omega arith)) ∙ c.loop-at.invariant
 
-pub advance-spec : {M : Type 1} → statement M
-advance-spec =
+pub advance_spec : {M : Type 1} → statement M
+advance_spec =
     tie.close
     (tie.spec
     invariant-loop

@@ -4,29 +4,29 @@ use borrow.Author.Rules.{rules}
 use Rattle.mixdown.proofs.runs.move_on.Statement.{statement}
 use Rattle.mixdown.proofs.runs.move_on.Tie as tie
 
-mul-run : tie.Need-overflow-mul-run
+mul-run : tie.Need-offset_bounds-r-k
 mul-run c = search rules
 
-element-copy-out-run : tie.Need-element-copy-out-run
+element-copy-out-run : tie.Need-bounds-r-k
 element-copy-out-run c = search rules
 
-add-advance : tie.Need-overflow-add-advance
+add-advance : tie.Need-overflow_add-p
 add-advance c = search rules
 
 advance-requires : tie.Need-advance-requires
-advance-requires c κs = omega (arith, c.before.before.before.requires.3.each c.before.before.before.args.p.list, c.before.before.before.requires.2)
+advance-requires c κs = omega (arith, c.requires.3.each c.args.p.list, c.requires.2)
 
-mul-run-2 : tie.Need-overflow-mul-run-2
+mul-run-2 : tie.Need-offset_bounds-u-k
 mul-run-2 c = search rules
 
-element-set-from-run : tie.Need-element-set-from-run
+element-set-from-run : tie.Need-bounds-u-k
 element-set-from-run c = search rules
 
 returns : tie.Need-returns
 returns c = rw c.advance.ensures
 
-pub move-on-spec : {M : Type 1} → statement M
-move-on-spec =
+pub move_on_spec : {M : Type 1} → statement M
+move_on_spec =
     tie.close
     (tie.spec
     mul-run
