@@ -86,7 +86,7 @@ returns-5 c =
       rate = record { 0 = c.in-Both.rate };
       delay = record { 0 = c.in-Both.delay };
       level = z;
-    })) (to_z-of_z w32 c.in-Is.level (record { sfits = c.known_told-in-Is-1.given.0.1 })))
+    })) (to_z-of_z w32 c.in-Is.level (search rules)))
 
 pub sample_spec : {M : Type 1} → statement M
 sample_spec =

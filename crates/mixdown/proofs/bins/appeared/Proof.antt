@@ -58,7 +58,7 @@ returns : tie.Need-returns-then-found invariant-loop decreases-loop
 returns c =
     let at = c.loop-j in
     let under : at.j < c.args.taking.count = omega (arith, c.requires.2) in
-    sym (among_later c.args.t c.args.bins.now c.args.row (parts_in c.args.taking) at.j (none c.before.before.before.before.before) (omega (arith, many c.before.before.before.before.before, under)) c.args.k (omega arith) at.invariant.1 (there c.before.before.before.before.before at.j true under (sym (ap (λ (x : Target). x.some) c.IsPlace-in.ensures) ∙ c.if-found.true)))
+    sym (among_later c.args.t c.args.bins.now c.args.row (parts_in c.args.taking) at.j (none c.before.before.before.before.before) (omega (arith, many c.before.before.before.before.before, under)) c.args.k (omega arith) at.invariant.1 (there c.before.before.before.before.before at.j true under (sym (ap (λ (x : Target). x.some) c.place_in-found.ensures) ∙ c.if-found.true)))
 
 add-j : tie.Need-overflow_add-j invariant-loop decreases-loop
 add-j c = omega arith
@@ -70,7 +70,7 @@ loop-again : tie.Need-loop-j-preserved invariant-loop decreases-loop
 loop-again c =
     let at = c.loop-j in
     let under : at.j < c.args.taking.count = omega (arith, c.requires.2) in
-    (omega arith, rw (add-one at.j, among-suc c.args.t c.args.bins.now c.args.row (parts_in c.args.taking) at.j (none c.before.before.before.before.before) (omega (arith, many c.before.before.before.before.before, under)), at.invariant.1) (there c.before.before.before.before.before at.j false under (sym (ap (λ (x : Target). x.some) c.IsPlace-in.ensures) ∙ c.if-found.false)))
+    (omega arith, rw (add-one at.j, among-suc c.args.t c.args.bins.now c.args.row (parts_in c.args.taking) at.j (none c.before.before.before.before.before) (omega (arith, many c.before.before.before.before.before, under)), at.invariant.1) (there c.before.before.before.before.before at.j false under (sym (ap (λ (x : Target). x.some) c.place_in-found.ensures) ∙ c.if-found.false)))
 
 returns-2 : tie.Need-returns invariant-loop decreases-loop
 returns-2 c = let at = c.loop-j in let done : at.j ≡ c.args.k = omega arith in sym (rw (← done) at.invariant.1)

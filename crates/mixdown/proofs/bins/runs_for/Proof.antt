@@ -88,7 +88,7 @@ loop-again c =
     let p = get_or (parts_in c.args.taking) at.k (none c.before.before.before.before.before.before.before.before) in
     let e = get_or c.args.ends.ends at.k 0 in
     let one = parts_at c.args.taking (places c.before.before.before.before.before.before.before.before) (factors c.before.before.before.before.before.before.before.before) c.requires.2 at.k (none c.before.before.before.before.before.before.before.before) (omega arith) in
-    let made : c.run_for.result ≡ run_for c.args.marks.now (target_of (rows_of c.args.t c.args.bins.now p.place) c.args.row) at.begin e p.factor = rw (one, c.run_for.ensures, c.IsPlace-in.ensures) refl in (
+    let made : c.run_for.result ≡ run_for c.args.marks.now (target_of (rows_of c.args.t c.args.bins.now p.place) c.args.row) at.begin e p.factor = rw (one, c.run_for.ensures, c.place_in-found.ensures) refl in (
       omega arith,
       length-set at.runs at.k c.run_for.result ∙ at.invariant.1,
       within-set at.runs at.k c.run_for.result (rw made (c.requires.3.each at.k)) at.invariant.2,

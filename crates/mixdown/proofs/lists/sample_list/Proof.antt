@@ -1,4 +1,5 @@
 -- `mixdown::lists::sample_list` meets its contract. Assumes nothing.
+use mathlib.Core.Bool.{not}
 use Rattle.quant.specs.declared.refusal.Answer.{Answer}
 use Rattle.mixdown.proofs.Listed.{by_runs}
 use Rattle.mixdown.specs.Sampled.{out, ran_pulses}
@@ -92,7 +93,7 @@ module _ (c : tie.After-sample_bin invariant-loop decreases-loop) where
   abbrev here : List Float
   here = get_or (its a₁) a₁.loop-p.p []
 
-  came-to : out c.sample_bin.result (rowed c.sample_bin.new.n7_ c.sample_bin.new.n8_ c.sample_bin.new.n9_) ≡ ran_pulses (s₀ a₁).args.s (bin_of here) (numbers_of here) (s₀ a₁).args.rows (merged a₁ here) a₁.loop-p.n (rowed a₁.loop-p.i a₁.loop-p.q a₁.loop-p.scratch)
+  came-to : out c.sample_bin.result (rowed c.sample_bin.new.i c.sample_bin.new.q c.sample_bin.new.scratch) ≡ ran_pulses (s₀ a₁).args.s (bin_of here) (numbers_of here) (s₀ a₁).args.rows (merged a₁ here) a₁.loop-p.n (rowed a₁.loop-p.i a₁.loop-p.q a₁.loop-p.scratch)
   came-to =
       by_runs (s₀ a₁).args.s (s₀ a₁).args.t (s₀ a₁).args.bins.now (s₀ a₁).args.work.now (s₀ a₁).args.marks.now (parts_in (s₀ a₁).args.taking) (s₀ a₁).args.ends.ends (s₀ a₁).args.rows a₁.loop-p.n _ c.runs_for-runs.result _ _ c.runs_for-runs.ensures.0 c.sample_bin.ensures
       ∙ ap (λ (r : List Float). ran_pulses (s₀ a₁).args.s (bin_of r) (numbers_of r) (s₀ a₁).args.rows (merged a₁ r) a₁.loop-p.n (rowed a₁.loop-p.i a₁.loop-p.q a₁.loop-p.scratch)) (row_is a₁ left_over)
@@ -146,8 +147,8 @@ loop-less c = omega arith
 
 loop-again : tie.Need-loop-p-preserved-in-Done invariant-loop decreases-loop
 loop-again c =
-    let so = ap (λ (x : Answer). out x (rowed c.sample_bin.new.n7_ c.sample_bin.new.n8_ c.sample_bin.new.n9_)) (sym c.in-Done.is) ∙ came-to c.before.before.before.before.before.before.before in
-    new-step c.loop-p.invariant (s₀ c.before.before.before.before.before.before.before.before.before.before.before.before.before.before.before.before).requires.1.1 (few-merged c.before.before.before.before.before.before.before.before.before.before.before.before.before.before.before.before (here c.before.before.before.before.before.before.before)) (in-its c.before.before.before.before.before.before.before.before.before.before.before.before.before.before.before.before (left_over c.before.before.before.before.before.before.before)) (rw (← row_is c.before.before.before.before.before.before.before.before.before.before.before.before.before.before.before.before (left_over c.before.before.before.before.before.before.before)) (taken _ _ c.seen-known.ensures c.if-not-known.true)) _ _ so
+    let so = ap (λ (x : Answer). out x (rowed c.sample_bin.new.i c.sample_bin.new.q c.sample_bin.new.scratch)) (sym c.in-Done.is) ∙ came-to c.before.before.before.before.before.before.before in
+    new-step c.loop-p.invariant (s₀ c.before.before.before.before.before.before.before.before.before.before.before.before.before.before.before.before).requires.1.1 (few-merged c.before.before.before.before.before.before.before.before.before.before.before.before.before.before.before.before (here c.before.before.before.before.before.before.before)) (in-its c.before.before.before.before.before.before.before.before.before.before.before.before.before.before.before.before (left_over c.before.before.before.before.before.before.before)) (rw (← row_is c.before.before.before.before.before.before.before.before.before.before.before.before.before.before.before.before (left_over c.before.before.before.before.before.before.before)) (taken _ _ c.seen-known.ensures (ap not c.if-not-known.true))) _ _ so
 
 enum-known-why : tie.Need-enum_known-why invariant-loop decreases-loop
 enum-known-why c = search rules
@@ -163,14 +164,14 @@ same-length-3 c = let l = c.loop-p.invariant in (same_after l (s₀ c.before.bef
 
 returns : tie.Need-returns-in-Refused invariant-loop decreases-loop
 returns c =
-    let so = ap (λ (x : Answer). out x (rowed c.sample_bin.new.n7_ c.sample_bin.new.n8_ c.sample_bin.new.n9_)) (sym c.in-Refused.is) ∙ came-to c.before.before.before.before.before.before.before in
-    refused-step c.loop-p.invariant (in-its c.before.before.before.before.before.before.before.before.before.before.before.before.before.before.before.before (left_over c.before.before.before.before.before.before.before)) (rw (← row_is c.before.before.before.before.before.before.before.before.before.before.before.before.before.before.before.before (left_over c.before.before.before.before.before.before.before)) (taken _ _ c.seen-known.ensures c.if-not-known.true)) _ _ _ so
+    let so = ap (λ (x : Answer). out x (rowed c.sample_bin.new.i c.sample_bin.new.q c.sample_bin.new.scratch)) (sym c.in-Refused.is) ∙ came-to c.before.before.before.before.before.before.before in
+    refused-step c.loop-p.invariant (in-its c.before.before.before.before.before.before.before.before.before.before.before.before.before.before.before.before (left_over c.before.before.before.before.before.before.before)) (rw (← row_is c.before.before.before.before.before.before.before.before.before.before.before.before.before.before.before.before (left_over c.before.before.before.before.before.before.before)) (taken _ _ c.seen-known.ensures (ap not c.if-not-known.true))) _ _ _ so
 
 loop-less-2 : tie.Need-loop-p-smaller invariant-loop decreases-loop
 loop-less-2 c = omega arith
 
 loop-again-2 : tie.Need-loop-p-preserved invariant-loop decreases-loop
-loop-again-2 c = seen_step c.loop-p.invariant (in-its c.before.before.before.before c.loop-p-test.true) (rw (← row_is c.before.before.before.before c.loop-p-test.true) (passed _ _ c.seen-known.ensures c.if-not-known.false))
+loop-again-2 c = seen_step c.loop-p.invariant (in-its c.before.before.before.before c.loop-p-test.true) (rw (← row_is c.before.before.before.before c.loop-p-test.true) (passed _ _ c.seen-known.ensures (ap not c.if-not-known.false)))
 
 same-length-4 : tie.Need-shape_of-i invariant-loop decreases-loop
 same-length-4 c = c.loop-p.invariant.same-i
