@@ -13,4 +13,8 @@ returns : tie.Need-returns
 returns c = ap (λ (n : ℕ). record { code = n; start = 0; offset = of_bits binary64 0 }) c.number.ensures
 
 pub nowhere_spec : {M : Type 1} → statement M
-nowhere_spec = tie.close (tie.spec number-requires returns)
+nowhere_spec =
+    tie.close
+    (tie.spec
+    number-requires
+    returns)

@@ -11,74 +11,72 @@ use Rattle.numbers.proofs.Laying.{begun-end, begun-on}
 use Rattle.numbers.proofs.begin.Statement.{statement}
 use Rattle.numbers.proofs.begin.Tie as tie
 
-abbrev invariant-loop : tie.invariant-loop
+abbrev invariant-loop : tie.invariant-loop-left
 invariant-loop line k at₀ left₀ at left = (at ≤ length line) × (numbers_of (drop left (words_of (drop at line))) ≡ listed line k)
 
-abbrev decreases-loop : tie.decreases-loop
+abbrev decreases-loop : tie.decreases-loop-left
 decreases-loop line k at₀ left₀ at left = left
 
-loop-holds : tie.Need-loop-init invariant-loop decreases-loop
+loop-holds : tie.Need-loop-left-init invariant-loop decreases-loop
 loop-holds c = (omega arith, refl)
 
-sub-place : tie.Need-overflow-sub-place invariant-loop decreases-loop
+sub-place : tie.Need-slice_bounds-place-count invariant-loop decreases-loop
 sub-place c = search rules
 
-part-place-start : tie.Need-slice-bounds-place-start invariant-loop decreases-loop
+part-place-start : tie.Need-slice_bounds-place-start invariant-loop decreases-loop
 part-place-start c = search rules
 
-part-place-end : tie.Need-slice-bounds-place-end invariant-loop decreases-loop
+part-place-end : tie.Need-slice_bounds-place-end invariant-loop decreases-loop
 part-place-end c = search rules
 
 place-requires : tie.Need-place-requires invariant-loop decreases-loop
 place-requires c κs = search rules
 
-add-end : tie.Need-overflow-add-end invariant-loop decreases-loop
+add-end : tie.Need-overflow_add-end invariant-loop decreases-loop
 add-end c =
-    let line = c.before.before.before.before.before.args.line.now in
-    let at = c.before.before.before.loop in
+    let line = c.args.line.now in
+    let at = c.loop-left in
     let p = c.place.result in
     omega (arith, end-within line at.at at.left p at.invariant.0 c.place.ensures)
 
-returns : tie.Need-returns invariant-loop decreases-loop
+returns : tie.Need-returns-then-end-line invariant-loop decreases-loop
 returns c =
-    let line = c.before.before.before.before.before.before.args.line.now in
-    let at = c.before.before.before.before.loop in
-    let p = c.before.place.result in
-    begun-end line at.at at.left p at.invariant.0 c.before.place.ensures c.before.before.before.before.before.before.args.k (omega arith) at.invariant.1 c.if1.true
+    let line = c.args.line.now in
+    let at = c.loop-left in
+    let p = c.place.result in
+    begun-end line at.at at.left p at.invariant.0 c.place.ensures c.args.k (omega arith) at.invariant.1 c.if-end-line.true
 
-add_at : tie.Need-overflow-add-at invariant-loop decreases-loop
+add_at : tie.Need-overflow_add-at invariant-loop decreases-loop
 add_at c =
-    let line = c.before.before.before.before.before.before.args.line.now in
-    let at = c.before.before.before.before.loop in
-    let p = c.before.place.result in
-    omega (arith, end-within line at.at at.left p at.invariant.0 c.before.place.ensures)
+    let line = c.args.line.now in
+    let at = c.loop-left in
+    let p = c.place.result in
+    omega (arith, end-within line at.at at.left p at.invariant.0 c.place.ensures)
 
-sub-left : tie.Need-overflow-sub-left invariant-loop decreases-loop
+sub-left : tie.Need-overflow_sub-left invariant-loop decreases-loop
 sub-left c = search rules
 
-loop-less : tie.Need-loop-smaller invariant-loop decreases-loop
+loop-less : tie.Need-loop-left-smaller invariant-loop decreases-loop
 loop-less c = omega arith
 
-loop-again : tie.Need-loop-preserved invariant-loop decreases-loop
+loop-again : tie.Need-loop-left-preserved invariant-loop decreases-loop
 loop-again c =
-    let c4 = c.before.before.before.before in
-    let c6 = c4.before.before in
-    let line = c6.args.line.now in
-    let at = c4.loop in
-    let p = c.before.place.result in (
-      omega (arith, end-within line at.at at.left p at.invariant.0 c.before.place.ensures),
+    let line = c.args.line.now in
+    let at = c.loop-left in
+    let p = c.place.result in (
+      omega (arith, end-within line at.at at.left p at.invariant.0 c.place.ensures),
       begun-on line at.at at.left p
-          at.invariant.0 c.before.place.ensures c6.args.k (omega arith) at.invariant.1 c.if1.false,
+          at.invariant.0 c.place.ensures c.args.k (omega arith) at.invariant.1 c.if-end-line.false,
     )
 
-returns-2 : tie.Need-returns-2 invariant-loop decreases-loop
+returns-2 : tie.Need-returns invariant-loop decreases-loop
 returns-2 c =
-    let at = c.before.loop in
+    let at = c.loop-left in
     let none : at.left ≡ 0 = omega arith in
     record { within = at.invariant.0; is = rw none at at.invariant.1 }
 
-pub begin-spec : {M : Type 1} → statement M
-begin-spec =
+pub begin_spec : {M : Type 1} → statement M
+begin_spec =
     tie.close
     (tie.spec
     invariant-loop

@@ -9,4 +9,7 @@ unfolding packed
 returns c = refl
 
 pub none_spec : {M : Type 1} → statement M
-none_spec = tie.close (tie.spec returns)
+none_spec =
+    tie.close
+    (tie.spec
+    returns)

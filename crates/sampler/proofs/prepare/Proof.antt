@@ -1,51 +1,53 @@
 -- `sampler::prepare` meets its contract. Assumes nothing.
+use mathlib.Core.Bool.{not}
+use mathlib.Core.Path.{ap}
 use borrow.Author.Rules.{rules}
 use Rattle.quant.proofs.Judging.{taken, passed}
 use Rattle.sampler.specs.Prepared.{prepared_of}
 use Rattle.sampler.proofs.prepare.Statement.{statement}
 use Rattle.sampler.proofs.prepare.Tie as tie
 
-is-fit-requires : tie.Need-is-fit-requires
+is-fit-requires : tie.Need-is_fit-requires
 is-fit-requires c κs = search rules
 
 refused-requires : tie.Need-refused-requires
 refused-requires c κs = search rules
 
-returns : tie.Need-returns
+returns : tie.Need-returns-then-not-is_fit
 unfolding prepared_of
-returns c = rw (c.refused.ensures, taken _ _ c.before.before.is-fit.ensures c.before.if1.true)
+returns c = rw (c.refused.ensures, taken _ _ c.is_fit.ensures (ap not c.if-not-is_fit.true))
 
-sizes-fit-requires : tie.Need-sizes-fit-requires
+sizes-fit-requires : tie.Need-sizes_fit-requires
 sizes-fit-requires c κs = search rules
 
-refused-requires-2 : tie.Need-refused-requires-2
+refused-requires-2 : tie.Need-refused-requires-then-not-sizes_fit
 refused-requires-2 c κs = search rules
 
-returns-2 : tie.Need-returns-2
+returns-2 : tie.Need-returns-then-not-sizes_fit
 unfolding prepared_of
 returns-2 c = rw (
-  c.refused2.ensures,
-  passed _ _ c.before.before.before.before.is-fit.ensures c.before.before.before.if1.false,
-  taken _ _ c.before.before.sizes-fit.ensures c.before.if2.true,
+  c.refused-then-not-sizes_fit.ensures,
+  passed _ _ c.is_fit.ensures (ap not c.if-not-is_fit.false),
+  taken _ _ c.sizes_fit.ensures (ap not c.if-not-sizes_fit.true),
 )
 
 plan-requires : tie.Need-plan-requires
 plan-requires c κs = search rules
 
-planned-for-requires : tie.Need-planned-for-requires
+planned-for-requires : tie.Need-planned_for-requires
 planned-for-requires c κs = search rules
 
-returns-3 : tie.Need-returns-3
+returns-3 : tie.Need-returns
 unfolding prepared_of
 returns-3 c = rw (
-  c.planned-for.ensures,
-  c.before.plan.ensures,
-  passed _ _ c.before.before.before.before.before.is-fit.ensures c.before.before.before.before.if1.false,
-  passed _ _ c.before.before.before.sizes-fit.ensures c.before.before.if2.false,
+  c.planned_for.ensures,
+  c.plan.ensures,
+  passed _ _ c.is_fit.ensures (ap not c.if-not-is_fit.false),
+  passed _ _ c.sizes_fit.ensures (ap not c.if-not-sizes_fit.false),
 )
 
-pub prepare-spec : {M : Type 1} → statement M
-prepare-spec =
+pub prepare_spec : {M : Type 1} → statement M
+prepare_spec =
     tie.close
     (tie.spec
     is-fit-requires
