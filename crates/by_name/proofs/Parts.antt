@@ -54,6 +54,8 @@ bits_back c bits (d ∷ cs) (f ∷ fs) e first =
     let inner = both (ltb f (2 ^ 64)) (finite (of_bits binary64 f)) outer.0 in
     to_bits-of_bits binary64 f (ltb-true f (2 ^ 64) inner.0) (number_if_finite (of_bits binary64 f) inner.1)
 bits_back c bits (d ∷ cs) (f ∷ fs) e (later h) = bits_back c bits cs fs (both (ltb f (2 ^ 64) && finite (of_bits binary64 f)) (finite_bits fs) e).1 h
+bits_back c bits [] fs e x'' = elim x'' [ ]
+bits_back c bits (d ∷ cs) [] e x5 = elim x5 [ ]
 
 -- ---- those that count
 
@@ -66,6 +68,7 @@ counted_in e (d ∷ es) h = go (eq (of_bits binary64 d.bits) nought) refl e h (c
     go true z x h rest = let r = rest h in (there r.0, r.1)
     go false z x here rest = (here, z)
     go false z x (there h) rest = let r = rest h in (there r.0, r.1)
+counted_in e [] h = elim h [ ]
 
 pub in_counted : (e : Entry) (es : List Entry) → In e es → Counts e.bits → In e (counted es)
 unfolding counted
@@ -75,6 +78,7 @@ in_counted e (d ∷ es) (there h) z = go (eq (of_bits binary64 d.bits) nought) (
     go : (b : Bool) → In e (counted es) → In e (cond b (counted es) (d ∷ counted es))
     go true k = k
     go false k = there k
+in_counted e [] x'' z = elim x'' [ ]
 
 -- ---- no column twice
 
@@ -119,6 +123,7 @@ module _ (t : Tables) where
       go (At i) s p here rest = record { entry = e; listed = here; place = s; factor = refl }
       go (At i) s p (there h) rest = further p (rest h)
       go Nowhere s p h rest = further p (rest h)
+  of_entry p [] h = elim h [ ]
 
   pub once : {es : List Entry} → Apart es → (e : Entry) → In e es → (i : ℕ) → found t e.column ≡ At i → OnceAt i (of_bits binary64 e.bits) (placed t es)
   unfolding placed part_of
@@ -147,6 +152,7 @@ module _ (t : Tables) where
           other : (o : OnceAt i (of_bits binary64 e.bits) (placed t es)) (p : Part) → In p (part j (of_bits binary64 d.bits) ∷ (o.earlier ++ o.later)) → p.place ≡ i → ⊥
           other o p here same = out e h (one_name t e.column d.column i s (k ∙ ap At same))
           other o p (there l) same = o.no_other p l same
+  once none e x5 i s = elim x5 [ ]
 
   -- ---- their pairs
 

@@ -53,6 +53,7 @@ row_from_lem k r (m ∷ ms) (there h) = go (same_name m r) (row_from_lem (suc k)
     go : (b : Bool) → row_from (suc k) r ms ≡ At (suc k + position r ms) → cond b (At k) (row_from (suc k) r ms) ≡ At (k + cond b 0 (suc (position r ms)))
     go true e = ap At (omega arith)
     go false e = e ∙ ap At (omega arith)
+row_from_lem k r [] x' = elim x' [ ]
 
 row-nowhere : (k : ℕ) (r : Name) (ns : List Name) → (In r ns → ⊥) → row_from k r ns ≡ Nowhere
 unfolding row_from

@@ -1,5 +1,4 @@
 // The sampling call for a caller that owns its pulses: they come by value, so that such a caller is covered.
-// `sample_owned` lends an array of structs and is proved by hand.
 ghost use Rattle.std.specs.Prelude.{◌≡◌};
 ghost use Rattle.mixdown.specs.Sampled.{rowed};
 ghost use Rattle.sampler.specs.Sampler.{left, sampled};
