@@ -6,32 +6,40 @@ use decimal::number::Number;
 use fields::value::{Called, Flag, Level, flag_in, level_in, name_in, number_in, whole_in};
 use fields::words::{count, is_word};
 use numbers::numbers;
+use std::io::Stderr;
 
-pub(crate) fn fault(line: &[u8]) {
+pub(crate) fn fault(err: Stderr, line: &[u8]) {
     if ends_in_return(line) {
         say(
+            err,
             b"the line ends in a carriage return, and so may others: lines end in a line feed alone (tr -d '\\r' takes the returns away)",
         );
         return;
     }
     if place(line, b'\t') < line.len() {
-        say(b"a tab stands in it: words are parted by one blank");
+        say(err, b"a tab stands in it: words are parted by one blank");
         return;
     }
     if has_empty_word(line) {
-        say(b"a blank too many: words are parted by one blank, and none stands at an end");
+        say(
+            err,
+            b"a blank too many: words are parted by one blank, and none stands at an end",
+        );
         return;
     }
-    if is_known(line) {
+    if is_known(err, line) {
         return;
     }
-    say(b"no line begins with ");
-    quote_value(line, 0, b"");
+    say(err, b"no line begins with ");
+    quote_value(err, line, 0, b"");
     if is_of_mixer(line) {
-        say(b": the mixer's matrix and its offsets are one line, mixer N N N N N N (docs/JOBS.md)");
+        say(
+            err,
+            b": the mixer's matrix and its offsets are one line, mixer N N N N N N (docs/JOBS.md)",
+        );
         return;
     }
-    say(b" (docs/JOBS.md has the lines)");
+    say(err, b" (docs/JOBS.md has the lines)");
 }
 
 // What older jobs had in two lines.
@@ -75,7 +83,7 @@ fn has_empty_word(line: &[u8]) -> bool {
 }
 
 // The forms of the lines, as docs/JOBS.md has them. Where one begins with the line's first word, says what is wrong, and answers true.
-fn is_known(line: &[u8]) -> bool {
+fn is_known(err: Stderr, line: &[u8]) -> bool {
     let forms: &[u8] = b"tables amp_tol=N time_tol=N oversize=0|1
 channel NAME base=N delta=N phase=N
 shape NAME hann
@@ -102,43 +110,43 @@ print
     if form.len() < 1 {
         return false;
     }
-    first_fault(line, form);
-    say(b" in: ");
-    say(form);
-    say(b" (docs/JOBS.md)");
+    first_fault(err, line, form);
+    say(err, b" in: ");
+    say(err, form);
+    say(err, b" (docs/JOBS.md)");
     true
 }
 
 // Word by word: the first that is missing, that is not what the form has there, or that is behind the form's last.
-fn first_fault(line: &[u8], form: &[u8]) {
+fn first_fault(err: Stderr, line: &[u8], form: &[u8]) {
     let many = count(line);
     let wanted = count(form);
     let mut k: usize = 1;
     while k < wanted {
         if many <= k {
-            say(word(form, k));
-            say(b" is missing");
+            say(err, word(form, k));
+            say(err, b" is missing");
             return;
         }
         if is_many(word(form, k)) {
-            first_of_many(line, k, many);
+            first_of_many(err, line, k, many);
             return;
         }
         if !fits(line, k, word(form, k)) {
-            quote_value(line, k, b"");
-            say(b" stands where ");
-            say(word(form, k));
-            say(b" belongs");
+            quote_value(err, line, k, b"");
+            say(err, b" stands where ");
+            say(err, word(form, k));
+            say(err, b" belongs");
             return;
         }
         k += 1;
     }
     if many <= wanted {
-        say(b"fewer lines behind it than it says");
+        say(err, b"fewer lines behind it than it says");
         return;
     }
-    quote_value(line, wanted, b"");
-    say(b" is too many");
+    quote_value(err, line, wanted, b"");
+    say(err, b" is too many");
 }
 
 fn is_many(field: &[u8]) -> bool {
@@ -146,24 +154,27 @@ fn is_many(field: &[u8]) -> bool {
 }
 
 // The numbers from word k on: one of the first that cannot be read, or there are too many or too few. A crosstalk has names before them.
-fn first_of_many(line: &[u8], k: usize, many: usize) {
+fn first_of_many(err: Stderr, line: &[u8], k: usize, many: usize) {
     let mut given = [0.0; 1024];
     let n = numbers(line, k, &mut given);
     if many <= k {
         return;
     }
     if is_word(line, 0, b"crosstalk") {
-        say(b"not as many names and numbers as it says, or one that is none,");
+        say(
+            err,
+            b"not as many names and numbers as it says, or one that is none,",
+        );
         return;
     }
     if n < 1024 {
         if n < many - k {
-            quote_value(line, k + n, b"");
-            say(b" is no number");
+            quote_value(err, line, k + n, b"");
+            say(err, b" is no number");
             return;
         }
     }
-    say(b"not as many numbers as it says");
+    say(err, b"not as many numbers as it says");
 }
 
 // Whether word k is what a field of a form stands for.

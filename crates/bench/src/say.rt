@@ -1,20 +1,45 @@
 // What is written to standard error, a piece at a time.
 use super::state::least;
 use super::walk::end_of;
+use decimal::digits::place;
 use fields::words::{Span, is_word, value_at};
 use lines::text::line_end;
 use naming::Name;
+use std::io;
+use std::io::{Stderr, Write};
 
-pub(crate) fn say(words: &[u8]) {
-    io::write_all(2, words);
+// What cannot be written there is passed over.
+pub(crate) fn say(err: Stderr, words: &[u8]) {
+    let _ = err.write_all(words);
 }
 
-pub(crate) fn say_number(n: usize) {
-    io::print_decimal(2, n as u64);
+pub(crate) fn say_number(err: Stderr, n: usize) {
+    let _ = print!(err; "{n}");
+}
+
+// A line: what failed, and the reason that the system gives.
+pub(crate) fn fail(err: Stderr, what: &[u8], error: io::Error) {
+    let mut text = [0u8; 256];
+    let mut room = &mut text[..];
+    let _ = write!(room, "{error}");
+    let n = 256usize.saturating_sub(room.len());
+    say(err, what);
+    say(err, b": ");
+    say(err, reason(&text[..n]));
+    say(err, b"\n");
+}
+
+// The words of an error, without the number that stands behind them in brackets.
+fn reason(text: &[u8]) -> &[u8] {
+    let end = place(text, b'(');
+    if end < text.len() {
+        return part(text, 0, end.saturating_sub(1));
+    }
+    text
 }
 
 // Words of the job, as they stand: at most 40 bytes, and `?` for each that is not printable.
-pub(crate) fn quote(words: &[u8]) {
+pub(crate) fn quote(err: Stderr, words: &[u8]) {
     let mut out = [b'?'; 40];
     let n = least(words.len(), 40);
     let mut k: usize = 0;
@@ -22,12 +47,12 @@ pub(crate) fn quote(words: &[u8]) {
         out[k] = printable(words[k]);
         k += 1;
     }
-    say(b"'");
-    say(&out[..n]);
+    say(err, b"'");
+    say(err, &out[..n]);
     if 40 < words.len() {
-        say(b"..");
+        say(err, b"..");
     }
-    say(b"'");
+    say(err, b"'");
 }
 
 fn printable(b: u8) -> u8 {
@@ -41,18 +66,18 @@ fn printable(b: u8) -> u8 {
 }
 
 // What stands behind a key in word k of a line.
-pub(crate) fn quote_value(line: &[u8], k: usize, key: &[u8]) {
+pub(crate) fn quote_value(err: Stderr, line: &[u8], k: usize, key: &[u8]) {
     let value = value_at(line, k, key);
     match value {
-        Span::At(from, to) => quote(part(line, from, to)),
+        Span::At(from, to) => quote(err, part(line, from, to)),
         Span::Missing => {}
     }
 }
 
-pub(crate) fn quote_name(n: Name) {
+pub(crate) fn quote_name(err: Stderr, n: Name) {
     let mut bytes = [0u8; 16];
     naming::write(n, &mut bytes, 0);
-    quote(&bytes[..least(n.len, 16)]);
+    quote(err, &bytes[..least(n.len, 16)]);
 }
 
 // From one place of a text to another; nothing where that is not within it.

@@ -1,13 +1,15 @@
 // What the bench prints.
 ghost use Rattle.std.specs.Prelude.{◌≤◌, length};
 
+use super::say::fail;
 use super::state::least;
 use decimal::print::{pattern, put_double};
 use fields::words::is_word;
 use job_sheet::Inset;
 use naming::Name;
-use quant::judge::both;
 use quant::refusal::{Answer, number};
+use std::io;
+use std::io::{Stderr, Stdout};
 use tables::{Channel, Tables};
 
 // What a line is answered.
@@ -18,42 +20,37 @@ pub enum Reply {
     Syntax,
     Of(Answer),
     // What stands before the answer was not written.
-    Lost,
+    Lost(io::Error),
 }
 
-// Whether a line's reply was written.
-pub(crate) fn show_reply(r: Reply, line: usize) -> bool {
+// Writes a line's reply.
+pub(crate) fn show_reply(out: Stdout, r: Reply, line: usize) -> io::Result<()> {
     match r {
-        Reply::Nothing => true,
-        Reply::Syntax => show_syntax(line),
-        Reply::Of(answer) => show_answer(answer),
-        Reply::Lost => false,
+        Reply::Nothing => Ok(()),
+        Reply::Syntax => show_syntax(out, line),
+        Reply::Of(answer) => show_answer(out, answer),
+        Reply::Lost(error) => Err(error),
     }
 }
 
 // With the reason that the system gives, of the write that failed.
-pub(crate) fn lost() {
-    os::fail(b"bench: the answers cannot be written");
+pub(crate) fn lost(err: Stderr, error: io::Error) {
+    fail(err, b"bench: the answers cannot be written", error);
 }
 
-fn show_answer(a: Answer) -> bool {
+fn show_answer(out: Stdout, a: Answer) -> io::Result<()> {
     match a {
-        Answer::Done(count) => both(io::write_all(1, b"ok "), end_with(count)),
-        Answer::Refused(why, place) => {
-            let begun = io::write_all(1, b"refused ");
-            let numbered = io::print_decimal(1, number(why) as u64);
-            let parted = io::write_all(1, b" ");
-            both(both(begun, numbered), both(parted, end_with(place)))
-        }
+        Answer::Done(count) => println!(out; "ok {count}"),
+        Answer::Refused(why, place) => println!(out; "refused {} {place}", number(why)),
     }
 }
 
-pub(crate) fn wrong_size() -> bool {
-    io::write_all(1, b"refused 13 0\n")
+pub(crate) fn wrong_size(out: Stdout) -> io::Result<()> {
+    println!(out; "refused 13 0")
 }
 
-fn show_syntax(line: usize) -> bool {
-    both(io::write_all(1, b"syntax "), end_with(line))
+fn show_syntax(out: Stdout, line: usize) -> io::Result<()> {
+    println!(out; "syntax {line}")
 }
 
 // The reply to a line is that of the state or, where it has none, of the rows. Of a line of a sheet it is the sheet's, and `syntax` where it has none:
@@ -71,73 +68,72 @@ pub(crate) fn reply_with(line: &[u8], first: Reply, inset: Inset, second: Reply)
     }
 }
 
-fn end_with(n: usize) -> bool {
-    both(io::print_decimal(1, n as u64), io::write_all(1, b"\n"))
+fn reply_if(written: io::Result<()>) -> Reply {
+    match written {
+        Ok(()) => Reply::Of(Answer::Done(0)),
+        Err(error) => Reply::Lost(error),
+    }
 }
 
-fn reply_if(written: bool) -> Reply {
-    if written {
-        return Reply::Of(Answer::Done(0));
-    }
-    Reply::Lost
+pub(crate) fn show_states(out: Stdout, t: Tables) -> Reply {
+    reply_if(each_state(out, t))
 }
 
 // The channels in order of first adding.
-pub(crate) fn show_states(t: Tables) -> Reply {
+fn each_state(out: Stdout, t: Tables) -> io::Result<()> {
     let count = least(t.count, 8);
-    let mut written = true;
     let mut k: usize = 0;
     while k < count {
-        written = both(show_state(t.channels[k]), written);
+        show_state(out, t.channels[k])?;
         k += 1;
     }
-    reply_if(written)
+    Ok(())
 }
 
-fn show_state(c: Channel) -> bool {
+fn show_state(out: Stdout, c: Channel) -> io::Result<()> {
     let osc = c.osc;
-    let begun = io::write_all(1, b"state ");
-    let named = show_name(c.name);
-    let numbers = both(
-        both(show_double(osc.base.0), show_double(osc.delta.0)),
-        show_double(osc.phase.0),
-    );
-    let ended = io::write_all(1, b"\n");
-    both(both(begun, named), both(numbers, ended))
+    print!(out; "state ")?;
+    show_name(out, c.name)?;
+    show_double(out, osc.base.0)?;
+    show_double(out, osc.delta.0)?;
+    show_double(out, osc.phase.0)?;
+    println!(out)
 }
 
-fn show_name(n: Name) -> bool {
+fn show_name(out: Stdout, n: Name) -> io::Result<()> {
     let mut bytes = [0u8; 16];
     naming::write(n, &mut bytes, 0);
-    io::write_all(1, &bytes[..least(n.len, 16)])
+    out.write_all(&bytes[..least(n.len, 16)])
 }
 
-fn show_double(x: f64) -> bool {
-    both(io::write_all(1, b" "), io::print_hex(1, pattern(x), 16))
+fn show_double(out: Stdout, x: f64) -> io::Result<()> {
+    print!(out; " {:016x}", pattern(x))
 }
 
-// The rows, and whether they were written.
-pub(crate) fn show_rows(rows: usize, i: &[f64], q: &[f64]) -> Reply {
-    let first = show_row(1, i);
+pub(crate) fn show_rows(out: Stdout, rows: usize, i: &[f64], q: &[f64]) -> Reply {
+    reply_if(each_row(out, rows, i, q))
+}
+
+fn each_row(out: Stdout, rows: usize, i: &[f64], q: &[f64]) -> io::Result<()> {
+    show_row(out, 1, i)?;
     if rows == 2 {
-        return reply_if(both(first, show_row(2, q)));
+        return show_row(out, 2, q);
     }
-    reply_if(first)
+    Ok(())
 }
 
 // A row's samples, 256 at a time.
-fn show_row(r: usize, row: &[f64]) -> bool {
-    let begun = io::write_all(1, b"row ");
-    let mut written = both(begun, io::print_decimal(1, r as u64));
-    let mut out = [b' '; 4352];
+fn show_row(out: Stdout, r: usize, row: &[f64]) -> io::Result<()> {
+    print!(out; "row {r}")?;
+    let mut text = [b' '; 4352];
     let mut at: usize = 0;
     while at < row.len() {
         let n = least(row.len() - at, 256);
-        fill(&row[at..at + n], &mut out);
-        written = both(io::write_all(1, &out[..17 * n]), written);
+        fill(&row[at..at + n], &mut text);
+        out.write_all(&text[..17 * n])?;
         at += n;
     }
-    both(io::write_all(1, b"\n"), written)
+    println!(out)
 }
 
 // Each sample's digits behind the blank that stands there.

@@ -13,6 +13,7 @@ use quant::quantity::{Amplitude, Frequency, Time};
 use quant::refusal::{Answer, Refusal};
 use sampler::Request;
 use sheet::names::blank;
+use std::io::Stdout;
 use tables::{Tabled, Tables};
 
 #[derive(Clone, Copy)]
@@ -47,7 +48,13 @@ pub struct Changed {
 }
 
 // What a line does to the state; steps on rows, runs, samplings and sheets have no reply here.
-pub(crate) fn after(s: State, said: Line, line: &[u8], splines: &mut [[f64; 72]]) -> Changed {
+pub(crate) fn after(
+    out: Stdout,
+    s: State,
+    said: Line,
+    line: &[u8],
+    splines: &mut [[f64; 72]],
+) -> Changed {
     let t = s.tables;
     match said {
         Line::Syntax => with_reply(s, Reply::Syntax),
@@ -62,7 +69,7 @@ pub(crate) fn after(s: State, said: Line, line: &[u8], splines: &mut [[f64; 72]]
             Reply::Nothing,
         ),
         Line::Run => unless_too_many(s),
-        Line::States => with_reply(s, show_states(t)),
+        Line::States => with_reply(s, show_states(out, t)),
         Line::Crosstalk(n) => with_reply(with_names(s, n, line), Reply::Of(Answer::Done(0))),
         Line::Rows(n, length) => with_rows(s, n, length),
         _ => with_reply(s, Reply::Nothing),

@@ -14,6 +14,7 @@ use job_sheet::{Taken, fewer, take_sheet};
 use mixer::mixer;
 use numbers::numbers;
 use quant::refusal::Answer;
+use std::io::Stdout;
 
 // The state after a line, and the reply; and the job goes on at `next`, behind the line and so many lines more.
 #[derive(Clone, Copy)]
@@ -34,6 +35,7 @@ pub enum RowStep {
 
 // The line from `at` to `end`.
 pub(crate) fn tell(
+    out: Stdout,
     said: Line,
     s: State,
     text: &[u8],
@@ -47,7 +49,7 @@ pub(crate) fn tell(
     requires { (at ≤ end) × (end ≤ length text.now) }
     ensures { Tells said text.now end s.crosstalk factors.old result factors.new }
 {
-    let changed = after(s, said, &text[at..end], splines);
+    let changed = after(out, s, said, &text[at..end], splines);
     let u = changed.state;
     let first = changed.reply;
     take_factors(said, &text[at..end], factors);
@@ -59,7 +61,7 @@ pub(crate) fn tell(
     let crossed = taken.crosstalk;
     let state = with_crosstalk(u, crossed);
     let inset = taken.inset;
-    let second = on_rows(said, state, &text[at..end], i, q);
+    let second = on_rows(out, said, state, &text[at..end], i, q);
     let reply = reply_with(part(text, at, end), first, inset, second);
     let next = past + taken.bytes;
     Told {
@@ -97,13 +99,20 @@ fn sheet_behind(
 }
 
 // The state is that after the line: a line of rows has set their sizes. Steps on rows and prints have a reply here.
-fn on_rows(said: Line, s: State, line: &[u8], i: &mut [f64], q: &mut [f64]) -> Reply {
+fn on_rows(out: Stdout, said: Line, s: State, line: &[u8], i: &mut [f64], q: &mut [f64]) -> Reply {
     let n = least(s.length, i.len());
     let m = least(second(s), q.len());
-    on_parts(said, s.rows, line, &mut i[..n], &mut q[..m])
+    on_parts(out, said, s.rows, line, &mut i[..n], &mut q[..m])
 }
 
-fn on_parts(said: Line, rows: usize, line: &[u8], i: &mut [f64], q: &mut [f64]) -> Reply {
+fn on_parts(
+    out: Stdout,
+    said: Line,
+    rows: usize,
+    line: &[u8],
+    i: &mut [f64],
+    q: &mut [f64],
+) -> Reply {
     match said {
         Line::Rows(n, length) => {
             if size_fits(n, length) {
@@ -112,7 +121,7 @@ fn on_parts(said: Line, rows: usize, line: &[u8], i: &mut [f64], q: &mut [f64]) 
             }
             Reply::Nothing
         }
-        Line::Print => show_rows(rows, i, q),
+        Line::Print => show_rows(out, rows, i, q),
         Line::Mixer => step(RowStep::Mixer, rows, line, 1, i, q),
         Line::Iir(_) => step(RowStep::Iir, rows, line, 2, i, q),
         Line::Fir(_) => step(RowStep::Fir, rows, line, 2, i, q),

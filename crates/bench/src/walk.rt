@@ -18,9 +18,12 @@ use quant::judge::both;
 use quant::quantity::Time;
 use quant::refusal::Answer;
 use sampler::Request;
+use std::io;
+use std::io::{Stderr, Stdout};
 use tables::Tables;
 
-pub(crate) fn each(text: &[u8]) {
+// An error where an answer cannot be written: the lines behind it are not read.
+pub(crate) fn each(out: Stdout, err: Stderr, text: &[u8]) -> io::Result<()> {
     let mut commands = [idle(); 1024];
     let mut starts = [0usize; 1025];
     let mut pulses = [no_pulse(); 8192];
@@ -47,6 +50,7 @@ pub(crate) fn each(text: &[u8]) {
         starts[place] = at;
         let runs = is_run(said, s.gathered);
         let told = tell(
+            out,
             said,
             s,
             text,
@@ -61,9 +65,16 @@ pub(crate) fn each(text: &[u8]) {
         let reply = told.reply;
         // That lines end in carriage returns is said once.
         let returned = is_returned(reply, part(text, at, end));
-        if !answered(reply, both(returned, warned), text, at, end, number) {
-            return;
-        }
+        answered(
+            out,
+            err,
+            reply,
+            both(returned, warned),
+            text,
+            at,
+            end,
+            number,
+        )?;
         warned = either(returned, warned);
         let from = at;
         let line = number;
@@ -76,9 +87,7 @@ pub(crate) fn each(text: &[u8]) {
             pulses = e.pulses;
             s = ran(s, tabled);
             let answer = tabled.answer;
-            if !answered_run(answer, t, text, &starts, line) {
-                return;
-            }
+            answered_run(out, err, answer, t, text, &starts, line)?;
         } else if is_sample(said) {
             let t = s.tables;
             let c = s.crosstalk;
@@ -97,11 +106,10 @@ pub(crate) fn each(text: &[u8]) {
                 &mut work,
                 &mut marks,
             );
-            if !answered_sample(answer, c, text, from, end, line) {
-                return;
-            }
+            answered_sample(out, err, answer, c, text, from, end, line)?;
         }
     }
+    Ok(())
 }
 
 // Onto the first samples of each row: so many of I, and so many of Q.

@@ -8,27 +8,28 @@ use fields::words::{Span, is_word, value_at};
 use lines::text::line_end;
 use naming::{Name, Naming, from_bytes, is_name};
 use quant::refusal::{Refusal, number};
+use std::io::Stderr;
 use tables::{Found, Tables, find};
 
 // Of a job's line, a command's or a sheet's: the words for the number, and what they are about. Of a swap it is told whether its first channel is
 // known.
-pub(crate) fn why(refusal: Refusal, line: &[u8], known: bool) {
+pub(crate) fn why(err: Stderr, refusal: Refusal, line: &[u8], known: bool) {
     let n = number(refusal);
-    say_row(n);
+    say_row(err, n);
     match n {
-        2 => malformed(line),
-        3 | 16 => own_name(line),
-        5 => quote_value(line, 2, b"shape="),
-        7 => unknown(line, known),
-        13 => size(line),
-        15 => quote(line),
-        17 | 19 => quote(value(line)),
+        2 => malformed(err, line),
+        3 | 16 => own_name(err, line),
+        5 => quote_value(err, line, 2, b"shape="),
+        7 => unknown(err, line, known),
+        13 => size(err, line),
+        15 => quote(err, line),
+        17 | 19 => quote(err, value(line)),
         _ => {}
     }
 }
 
 // Row n of the table, from 1, and a blank where more follows. What is said for 2 goes by the line, and nothing is refused by 14, 20 or 21.
-fn say_row(n: usize) {
+fn say_row(err: Stderr, n: usize) {
     let table: &[u8] = b"
 a setting that cannot be used: a rate is above 0, a level from -20 to 20, no tolerance below 0, and each is finite
 
@@ -54,55 +55,55 @@ no column has the name:
 a0, the fourth of its six numbers, is not 1:
 ";
     let at = behind(table, 0, n);
-    say(part(table, at, line_end(table, at)));
+    say(err, part(table, at, line_end(table, at)));
     match n {
-        3 | 5 | 7 | 13..=19 | 22 => say(b" "),
+        3 | 5 | 7 | 13..=19 | 22 => say(err, b" "),
         _ => {}
     }
 }
 
 // 22: the place is the section, from 0. The sections' numbers begin at word 2, and there are at most 16 sections.
-pub(crate) fn why_filtered(refusal: Refusal, place: usize, line: &[u8]) {
-    say(b"section ");
-    say_number(place);
-    say(b", counted from 0: ");
-    say_row(number(refusal));
+pub(crate) fn why_filtered(err: Stderr, refusal: Refusal, place: usize, line: &[u8]) {
+    say(err, b"section ");
+    say_number(err, place);
+    say(err, b", counted from 0: ");
+    say_row(err, number(refusal));
     if place < 16 {
-        quote_value(line, 6 * place + 5, b"");
+        quote_value(err, line, 6 * place + 5, b"");
     }
 }
 
 // Of a sampling. 2, 17 and 18 may be the crosstalk's; from 8 to 12 it is a pulse's, and the place is how many were added before it.
-pub(crate) fn why_sampled(refusal: Refusal, place: usize, line: &[u8], c: Crosstalk) {
+pub(crate) fn why_sampled(err: Stderr, refusal: Refusal, place: usize, line: &[u8], c: Crosstalk) {
     let n = number(refusal);
     match n {
-        2 => malformed_sampling(line, c),
-        17 | 18 => crossed(n, place, c),
+        2 => malformed_sampling(err, line, c),
+        17 | 18 => crossed(err, n, place, c),
         _ => {
-            pulse(n, place);
-            why(refusal, line, true);
+            pulse(err, n, place);
+            why(err, refusal, line, true);
         }
     }
 }
 
-fn pulse(n: usize, place: usize) {
+fn pulse(err: Stderr, n: usize, place: usize) {
     if n < 8 {
         return;
     }
     if 12 < n {
         return;
     }
-    say(b"pulse ");
-    say_number(std::num::wrapping_add_usize(place, 1));
-    say(b" of this sampling");
+    say(err, b"pulse ");
+    say_number(err, std::num::wrapping_add_usize(place, 1));
+    say(err, b" of this sampling");
     if n == 8 {
-        say(b":");
+        say(err, b":");
     }
-    say(b" ");
+    say(err, b" ");
 }
 
 // 13, by the line's first word.
-fn size(line: &[u8]) {
+fn size(err: Stderr, line: &[u8]) {
     let sizes: &[u8] = b"rows 1 or 2 rows of at most 65,536 samples
 run at most 1,024 commands to a run
 mixer it is for two rows
@@ -112,48 +113,51 @@ sheet a sheet has at most 4,096 bytes
 sample at most 8 names in a crosstalk
 ";
     let row = row_for(line, sizes);
-    say(part(
-        row,
-        std::num::wrapping_add_usize(place(row, b' '), 1),
-        row.len(),
-    ));
+    say(
+        err,
+        part(
+            row,
+            std::num::wrapping_add_usize(place(row, b' '), 1),
+            row.len(),
+        ),
+    );
 }
 
 // 2: a name, a width or a number.
-fn malformed(line: &[u8]) {
-    if is_misnamed(line) {
+fn malformed(err: Stderr, line: &[u8]) {
+    if is_misnamed(err, line) {
         return;
     }
     if is_narrow(line) {
-        say(b"the width is below 0");
+        say(err, b"the width is below 0");
         return;
     }
-    say(b"a number is not finite");
+    say(err, b"a number is not finite");
 }
 
 // Each place of a name: of channels, shapes and splines, of commands, and of a sheet.
-fn is_misnamed(line: &[u8]) -> bool {
+fn is_misnamed(err: Stderr, line: &[u8]) -> bool {
     if is_named(line) {
-        return is_no_name(line, 1, b"");
+        return is_no_name(err, line, 1, b"");
     }
-    if is_no_name(line, 1, b"ch=") {
+    if is_no_name(err, line, 1, b"ch=") {
         return true;
     }
     if !is_word(line, 2, b"shape=") {
-        if is_no_name(line, 2, b"shape=") {
+        if is_no_name(err, line, 2, b"shape=") {
             return true;
         }
     }
-    if is_no_name(line, 1, b"a=") {
+    if is_no_name(err, line, 1, b"a=") {
         return true;
     }
-    if is_no_name(line, 2, b"b=") {
+    if is_no_name(err, line, 2, b"b=") {
         return true;
     }
-    if is_no_name(line, 0, b"column=") {
+    if is_no_name(err, line, 0, b"column=") {
         return true;
     }
-    is_no_name(line, 0, b"row=")
+    is_no_name(err, line, 0, b"row=")
 }
 
 fn is_named(line: &[u8]) -> bool {
@@ -167,7 +171,7 @@ fn is_named(line: &[u8]) -> bool {
 }
 
 // Says so where what is behind a key in word k is no name.
-fn is_no_name(line: &[u8], k: usize, key: &[u8]) -> bool {
+fn is_no_name(err: Stderr, line: &[u8], k: usize, key: &[u8]) -> bool {
     let value = value_at(line, k, key);
     let Span::At(from, to) = value else {
         return false;
@@ -176,8 +180,11 @@ fn is_no_name(line: &[u8], k: usize, key: &[u8]) -> bool {
     match named {
         Naming::Named(_) => false,
         Naming::Bad => {
-            say(b"a name is 1 to 16 printable characters, no blank and no = among them: ");
-            quote_value(line, k, key);
+            say(
+                err,
+                b"a name is 1 to 16 printable characters, no blank and no = among them: ",
+            );
+            quote_value(err, line, k, key);
             true
         }
     }
@@ -192,18 +199,18 @@ fn is_narrow(line: &[u8]) -> bool {
 }
 
 // The sampling's own name comes first, then those of the crosstalk, of which there are at most eight, and its factors.
-fn malformed_sampling(line: &[u8], c: Crosstalk) {
-    if is_no_name(line, 1, b"") {
+fn malformed_sampling(err: Stderr, line: &[u8], c: Crosstalk) {
+    if is_no_name(err, line, 1, b"") {
         return;
     }
     let k = misnamed(c);
     if k < c.count {
-        say(b"name ");
-        say_number(k + 1);
-        say(b" of the crosstalk breaks the rule for names");
+        say(err, b"name ");
+        say_number(err, k + 1);
+        say(err, b" of the crosstalk breaks the rule for names");
         return;
     }
-    say(b"a factor of the crosstalk is not finite");
+    say(err, b"a factor of the crosstalk is not finite");
 }
 
 // The place of the first name that breaks the rule.
@@ -219,24 +226,24 @@ fn misnamed(c: Crosstalk) -> usize {
 }
 
 // The channel or the shape that a line is about.
-fn own_name(line: &[u8]) {
+fn own_name(err: Stderr, line: &[u8]) {
     let value = value_at(line, 1, b"ch=");
     match value {
-        Span::At(from, to) => quote(part(line, from, to)),
-        Span::Missing => quote_value(line, 1, b""),
+        Span::At(from, to) => quote(err, part(line, from, to)),
+        Span::Missing => quote_value(err, line, 1, b""),
     }
 }
 
-fn unknown(line: &[u8], known: bool) {
+fn unknown(err: Stderr, line: &[u8], known: bool) {
     if !is_word(line, 0, b"swap_phase") {
-        own_name(line);
+        own_name(err, line);
         return;
     }
     if known {
-        quote_value(line, 2, b"b=");
+        quote_value(err, line, 2, b"b=");
         return;
     }
-    quote_value(line, 1, b"a=");
+    quote_value(err, line, 1, b"a=");
 }
 
 pub(crate) fn is_known(t: Tables, n: Name) -> bool {
@@ -247,19 +254,19 @@ pub(crate) fn is_known(t: Tables, n: Name) -> bool {
 }
 
 // 17 and 18: the place is the name's position, from 1.
-fn crossed(n: usize, position: usize, c: Crosstalk) {
-    say(b"name ");
-    say_number(position);
-    say(b" of the crosstalk: ");
-    say_row(n);
+fn crossed(err: Stderr, n: usize, position: usize, c: Crosstalk) {
+    say(err, b"name ");
+    say_number(err, position);
+    say(err, b" of the crosstalk: ");
+    say_row(err, n);
     if 0 < position {
-        quote_at(c, position - 1);
+        quote_at(err, c, position - 1);
     }
 }
 
-fn quote_at(c: Crosstalk, k: usize) {
+fn quote_at(err: Stderr, c: Crosstalk, k: usize) {
     if k < 8 {
-        quote_name(c.names[k]);
+        quote_name(err, c.names[k]);
     }
 }
 

@@ -31,6 +31,8 @@
 //     m NUMBER COUNT
 //     i SAMPLE ..
 //     q SAMPLE ..
+#![tactic(auto)]
+
 ghost use Rattle.std.specs.Prelude.{◌≡◌, length};
 ghost use Rattle.lines.specs.Text.{lines_of};
 
@@ -39,9 +41,10 @@ mod show;
 mod state;
 pub mod walk;
 
-// For the clock: a text answered on a file that is open, and how many lines it has.
-#[unsafe(no_mangle)]
-pub extern "C" fn skierralu_calls(text: &[u8], out: i32) -> usize
+use std::io::Write;
+
+// For the clock: a text answered, and how many lines it has.
+pub fn skierralu_calls<W: Write>(text: &[u8], out: &mut W) -> usize
     ensures { result ≡ length (lines_of text.now) }
 {
     walk::walk(text, out)

@@ -7,6 +7,7 @@ use commands::command::Arranged;
 use crosstalk::names::Crosstalk;
 use naming::Name;
 use quant::quantity::{Amplitude, Time};
+use std::io::Write;
 use tables::{Tabled, Tables};
 
 #[derive(Clone, Copy)]
@@ -41,8 +42,13 @@ fn fresh(tables: Tables) -> State {
     }
 }
 
-// What a line does to the state, but for a call.
-pub(crate) fn after(s: State, said: Line, splines: &mut [[f64; 72]], out: i32) -> State {
+// What a line does to the state, but for a call. A write that fails changes nothing of it.
+pub(crate) fn after<W: Write>(
+    s: State,
+    said: Line,
+    splines: &mut [[f64; 72]],
+    out: &mut W,
+) -> State {
     let t = s.tables;
     match said {
         Line::Tables(amp, time, oversize) => fresh(told(tables::make(amp, time, oversize), out)),
@@ -52,16 +58,16 @@ pub(crate) fn after(s: State, said: Line, splines: &mut [[f64; 72]], out: i32) -
         Line::Named(name) => with_name(s, name),
         Line::Factor(x) => with_factor(s, x),
         Line::Unreadable => {
-            io::write_all(out, b"?\n");
+            let _ = out.write_all(b"?\n");
             s
         }
         _ => s,
     }
 }
 
-fn told(t: Tabled, out: i32) -> Tables {
+fn told<W: Write>(t: Tabled, out: &mut W) -> Tables {
     let answer = t.answer;
-    show_refused(answer, out);
+    let _ = show_refused(answer, out);
     t.tables
 }
 

@@ -14,11 +14,13 @@ use quant::complex::Complex;
 use quant::quantity::Time;
 use quant::refusal::Answer;
 use sampler::Request;
+use std::io;
+use std::io::Write;
 use tables::{Tabled, Tables};
 use words::end_of;
 
-// Answers go to a file that is open. Every line is gone through once: the count is the lines'.
-pub fn walk(text: &[u8], out: i32) -> usize
+// Answers go to a writer, and one that cannot be written is passed over. Every line is gone through once: the count is the lines'.
+pub fn walk<W: Write>(text: &[u8], out: &mut W) -> usize
     ensures { result ≡ length (lines_of text.now) }
 {
     let mut commands = [arranged_of(b'b', b""); 1024];
@@ -48,7 +50,7 @@ pub fn walk(text: &[u8], out: i32) -> usize
 }
 
 // A sampling leaves all as it was; `X` lends no row.
-fn called(
+fn called<W: Write>(
     s: State,
     said: Line,
     letter: u8,
@@ -56,16 +58,16 @@ fn called(
     commands: [Arranged; 1024],
     bins: &mut [[f64; 77]],
     pulses: [Pulse; 8192],
-    out: i32,
+    out: &mut W,
 ) -> Executed {
     let t = s.tables;
     if let Line::Sampling(ask) = said {
-        sampled(s, ask, bins, pulses, out);
+        let _ = sampled(s, ask, bins, pulses, out);
         return unchanged(t, pulses);
     }
     let n = rows_of(letter, bins.len());
     let e = execute_owned(t, splines, commands, s.count, &mut bins[..n], pulses);
-    show(letter, e, bins, out);
+    let _ = show(letter, e, bins, out);
     e
 }
 
@@ -83,7 +85,13 @@ fn unchanged(tables: Tables, pulses: [Pulse; 8192]) -> Executed {
     Executed { tabled, pulses }
 }
 
-fn sampled(s: State, ask: Ask, bins: &[[f64; 77]], pulses: [Pulse; 8192], out: i32) {
+fn sampled<W: Write>(
+    s: State,
+    ask: Ask,
+    bins: &[[f64; 77]],
+    pulses: [Pulse; 8192],
+    out: &mut W,
+) -> io::Result<()> {
     let t = s.tables;
     let r = ask.request;
     let c = s.cross;
@@ -110,9 +118,9 @@ fn sampled(s: State, ask: Ask, bins: &[[f64; 77]], pulses: [Pulse; 8192], out: i
         &mut work,
         &mut marks,
     );
-    show_answer(b"m", a, out);
-    show_row(b"i", &i, ask.from, ask.i, out);
-    show_row(b"q", &q, ask.from, ask.q, out);
+    show_answer(b"m", a, out)?;
+    show_row(b"i", &i, ask.from, ask.i, out)?;
+    show_row(b"q", &q, ask.from, ask.q, out)
 }
 
 // On the first factors, and the first samples of each row and of the scratch: as many as are given, or all.

@@ -1,4 +1,4 @@
-// What C, Rust and Python link: each function is one of the crates below, under a name of its own.
+// What C, Rust and Python call, by the crate `host_c`: each function is one of the crates below, under a name of its own.
 ghost use Rattle.std.specs.Prelude.{◌≡◌, map};
 ghost use Rattle.std.specs.Float.{binary64};
 ghost use Rattle.executor.specs.Osc.{shifted_phase, set_phase_to, shifted_freq, set_freq_to, swapped_phases};
@@ -22,29 +22,25 @@ use quant::complex::Complex;
 use quant::quantity::{Frequency, Phase, Time};
 use quant::refusal::{Refusal, number};
 
-#[unsafe(no_mangle)]
-pub extern "C" fn skierralu_mul_add(a: f64, b: f64, c: f64) -> f64
+pub fn skierralu_mul_add(a: f64, b: f64, c: f64) -> f64
     ensures { result ≡ fma binary64 a b c }
 {
     quick_fma::mul_add(a, b, c)
 }
 
-#[unsafe(no_mangle)]
-pub extern "C" fn skierralu_ceil(x: f64) -> f64
+pub fn skierralu_ceil(x: f64) -> f64
     ensures { result ≡ ceiling x }
 {
     ieee::ceil::ceil(x)
 }
 
-#[unsafe(no_mangle)]
-pub extern "C" fn skierralu_cos(x: f64) -> f64
+pub fn skierralu_cos(x: f64) -> f64
     ensures { result ≡ cosine_of x }
 {
     trig::cosine(x)
 }
 
-#[unsafe(no_mangle)]
-pub extern "C" fn skierralu_sin(x: f64) -> f64
+pub fn skierralu_sin(x: f64) -> f64
     ensures { result ≡ sine_of x }
 {
     trig::sine(x)
@@ -67,8 +63,7 @@ pub struct Place {
     pub offset: f64,
 }
 
-#[unsafe(no_mangle)]
-pub extern "C" fn skierralu_align(time: Time, rate: Frequency, level: i32) -> Index
+pub fn skierralu_align(time: Time, rate: Frequency, level: i32) -> Index
     ensures { result ≡ index_of (aligned_of time.0 rate.0 level) }
 {
     match align(time, rate, level) {
@@ -80,8 +75,7 @@ pub extern "C" fn skierralu_align(time: Time, rate: Frequency, level: i32) -> In
     }
 }
 
-#[unsafe(no_mangle)]
-pub extern "C" fn skierralu_place(time: Time, rate: Frequency, level: i32) -> Place
+pub fn skierralu_place(time: Time, rate: Frequency, level: i32) -> Place
     ensures { result ≡ place_of (placed_of (aligned_of time.0 rate.0 level)) }
 {
     match place(time, rate, level) {
@@ -106,44 +100,38 @@ fn nowhere(r: Refusal) -> Place
     }
 }
 
-#[unsafe(no_mangle)]
-pub extern "C" fn skierralu_shift_phase(osc: OscState, by: Phase) -> Moved
+pub fn skierralu_shift_phase(osc: OscState, by: Phase) -> Moved
     ensures { result ≡ shifted_phase osc by.0 }
 {
     osc.shift_phase(by)
 }
 
-#[unsafe(no_mangle)]
-pub extern "C" fn skierralu_set_phase(osc: OscState, to: Phase, time: Time) -> Moved
+pub fn skierralu_set_phase(osc: OscState, to: Phase, time: Time) -> Moved
     ensures { result ≡ set_phase_to osc to.0 time.0 }
 {
     osc.set_phase(to, time)
 }
 
-#[unsafe(no_mangle)]
-pub extern "C" fn skierralu_shift_freq(osc: OscState, by: Frequency, time: Time) -> Moved
+pub fn skierralu_shift_freq(osc: OscState, by: Frequency, time: Time) -> Moved
     ensures { result ≡ shifted_freq osc by.0 time.0 }
 {
     osc.shift_freq(by, time)
 }
 
-#[unsafe(no_mangle)]
-pub extern "C" fn skierralu_set_freq(osc: OscState, to: Frequency, time: Time) -> Moved
+pub fn skierralu_set_freq(osc: OscState, to: Frequency, time: Time) -> Moved
     ensures { result ≡ set_freq_to osc to.0 time.0 }
 {
     osc.set_freq(to, time)
 }
 
-#[unsafe(no_mangle)]
-pub extern "C" fn skierralu_swap_phase(one: OscState, two: OscState, time: Time) -> Swapped
+pub fn skierralu_swap_phase(one: OscState, two: OscState, time: Time) -> Swapped
     ensures { result ≡ swapped_phases one two time.0 }
 {
     executor::osc::swap_phase(one, two, time)
 }
 
 // The steps on rows answer 0, or the number of their refusal.
-#[unsafe(no_mangle)]
-pub extern "C" fn skierralu_mixer(
+pub fn skierralu_mixer(
     rows: usize,
     i: &mut [f64],
     q: &mut [f64],
@@ -156,21 +144,14 @@ pub extern "C" fn skierralu_mixer(
     quant::refusal::code(r)
 }
 
-#[unsafe(no_mangle)]
-pub extern "C" fn skierralu_iir(
-    rows: usize,
-    i: &mut [f64],
-    q: &mut [f64],
-    sections: &[f64],
-) -> usize
+pub fn skierralu_iir(rows: usize, i: &mut [f64], q: &mut [f64], sections: &[f64]) -> usize
     ensures { Coded (λ (r : Answer). Iir rows i.old q.old sections.now r i.new q.new) result }
 {
     let r = iir::iir(rows, i, q, sections);
     quant::refusal::code(r)
 }
 
-#[unsafe(no_mangle)]
-pub extern "C" fn skierralu_fir(rows: usize, i: &mut [f64], q: &mut [f64], taps: &[f64]) -> usize
+pub fn skierralu_fir(rows: usize, i: &mut [f64], q: &mut [f64], taps: &[f64]) -> usize
     ensures { Coded (λ (r : Answer). Fir rows i.old q.old taps.now r i.new q.new) result }
 {
     let r = fir::fir(rows, i, q, taps);
@@ -178,8 +159,7 @@ pub extern "C" fn skierralu_fir(rows: usize, i: &mut [f64], q: &mut [f64], taps:
 }
 
 // A plateau: the carrier and the rotation as two numbers each.
-#[unsafe(no_mangle)]
-pub extern "C" fn skierralu_add_plateau(
+pub fn skierralu_add_plateau(
     rows: usize,
     i: &mut [f64],
     q: &mut [f64],
@@ -199,8 +179,7 @@ pub extern "C" fn skierralu_add_plateau(
 }
 
 // A spline's value at each point, in its place. The row has 72 numbers: degree, count of controls, 32 controls, 38 knots.
-#[unsafe(no_mangle)]
-pub extern "C" fn skierralu_spline(points: &mut [f64], row: &[f64])
+pub fn skierralu_spline(points: &mut [f64], row: &[f64])
     ensures { points.new ≡ map (value_in row.now) points.old }
 {
     spline::over::over(points, row);

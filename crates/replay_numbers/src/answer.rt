@@ -6,29 +6,28 @@ use points::lay;
 use quant::aligned::{Placed, place};
 use quant::quantity::{Frequency, Phase, Time};
 use quick_fma::mul_add;
+use std::io;
 use words::{float, level, readable, word};
 
-pub(crate) fn answer(line: &[u8]) {
+pub(crate) fn answer(rt: &impl Print, line: &[u8]) -> io::Result<()> {
     if line.len() < 1 {
-        io::write_all(1, b"?");
-        return;
+        return print!(rt; "?");
     }
     let letter = line[0];
     if !readable(line, words_of(letter)) {
-        io::write_all(1, b"?");
-        return;
+        return print!(rt; "?");
     }
-    io::write_all(1, &[letter]);
+    rt.write_all(&[letter])?;
     match letter {
-        b'm' => print_float(mul_add(float(line, 0), float(line, 1), float(line, 2))),
-        b'u' => print_float(ceil(float(line, 0))),
-        b'r' => print_float(trig::reduce(float(line, 0))),
-        b'l' => print_float(laid(line)),
-        b'c' => print_between(line, trig::cosine(float(line, 0))),
-        b's' => print_between(line, trig::sine(float(line, 0))),
-        b'a' => print_placed(placed(line)),
-        b'w' => print_swapped(swapped(line)),
-        _ => print_moved(moved(letter, line)),
+        b'm' => print_float(rt, mul_add(float(line, 0), float(line, 1), float(line, 2))),
+        b'u' => print_float(rt, ceil(float(line, 0))),
+        b'r' => print_float(rt, trig::reduce(float(line, 0))),
+        b'l' => print_float(rt, laid(line)),
+        b'c' => print_between(rt, line, trig::cosine(float(line, 0))),
+        b's' => print_between(rt, line, trig::sine(float(line, 0))),
+        b'a' => print_placed(rt, placed(line)),
+        b'w' => print_swapped(rt, swapped(line)),
+        _ => print_moved(rt, moved(letter, line)),
     }
 }
 
@@ -90,61 +89,58 @@ fn osc_at(line: &[u8], a: u8, b: u8, c: u8) -> OscState {
     }
 }
 
-fn print_between(line: &[u8], x: f64) {
+fn print_between(rt: &impl Print, line: &[u8], x: f64) -> io::Result<()> {
     if float(line, 1) <= x {
         if x <= float(line, 2) {
-            print_word(1);
-            return;
+            return print_word(rt, 1);
         }
     }
-    print_word(0);
+    print_word(rt, 0)
 }
 
-fn print_placed(p: Placed) {
+fn print_placed(rt: &impl Print, p: Placed) -> io::Result<()> {
     match p {
-        Placed::Start(start, offset) => print_place(0, start as u64, offset),
-        Placed::NotFinite => print_place(8, 0, 0.0),
-        Placed::Before => print_place(9, 0, 0.0),
-        Placed::Beyond => print_place(10, 0, 0.0),
+        Placed::Start(start, offset) => print_place(rt, 0, start as u64, offset),
+        Placed::NotFinite => print_place(rt, 8, 0, 0.0),
+        Placed::Before => print_place(rt, 9, 0, 0.0),
+        Placed::Beyond => print_place(rt, 10, 0, 0.0),
     }
 }
 
-fn print_place(code: u64, start: u64, offset: f64) {
-    print_word(code);
-    print_word(start);
-    print_float(offset);
+fn print_place(rt: &impl Print, code: u64, start: u64, offset: f64) -> io::Result<()> {
+    print_word(rt, code)?;
+    print_word(rt, start)?;
+    print_float(rt, offset)
 }
 
-fn print_moved(m: Moved) {
-    print_code(m.refused);
-    print_osc(m.osc);
+fn print_moved(rt: &impl Print, m: Moved) -> io::Result<()> {
+    print_code(rt, m.refused)?;
+    print_osc(rt, m.osc)
 }
 
-fn print_swapped(m: Swapped) {
-    print_code(m.refused);
-    print_osc(m.one);
-    print_osc(m.two);
+fn print_swapped(rt: &impl Print, m: Swapped) -> io::Result<()> {
+    print_code(rt, m.refused)?;
+    print_osc(rt, m.one)?;
+    print_osc(rt, m.two)
 }
 
-fn print_code(refused: bool) {
+fn print_code(rt: &impl Print, refused: bool) -> io::Result<()> {
     if refused {
-        print_word(8);
-        return;
+        return print_word(rt, 8);
     }
-    print_word(0);
+    print_word(rt, 0)
 }
 
-fn print_osc(o: OscState) {
-    print_float(o.base.0);
-    print_float(o.delta.0);
-    print_float(o.phase.0);
+fn print_osc(rt: &impl Print, o: OscState) -> io::Result<()> {
+    print_float(rt, o.base.0)?;
+    print_float(rt, o.delta.0)?;
+    print_float(rt, o.phase.0)
 }
 
-fn print_float(x: f64) {
-    print_word(pattern(x));
+fn print_float(rt: &impl Print, x: f64) -> io::Result<()> {
+    print_word(rt, pattern(x))
 }
 
-fn print_word(w: u64) {
-    io::write_all(1, b" ");
-    io::print_hex(1, w, 16);
+fn print_word(rt: &impl Print, w: u64) -> io::Result<()> {
+    print!(rt; " {w:016x}")
 }

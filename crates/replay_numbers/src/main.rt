@@ -13,26 +13,29 @@
 //
 // Printed: the letter and the answer's words. CODE is 0 or the refusal's number; START and OFFSET are 0 there, and oscillators as they came.
 // A NaN is printed as 7ff8000000000000, a line that cannot be read as `?`.
+#![tactic(auto)]
+
 mod answer;
 
+use std::io;
 use words::end_of;
 
-fn main() {
+fn main(rt: HostRuntime) -> io::Result<()> {
     let mut text = lines::text::room();
-    let n = io::read_full(0, &mut text);
+    let n = input::read_full(&mut rt.stdin(), &mut text)?;
     if n == text.len() {
-        io::write_all(1, b"input too long\n");
-        return;
+        return println!(rt; "input too long");
     }
-    each(&text[..n]);
+    each(&rt, &text[..n])
 }
 
-fn each(text: &[u8]) {
+fn each(rt: &impl Print, text: &[u8]) -> io::Result<()> {
     let mut at: usize = 0;
     while at < text.len() {
         let end = end_of(text, at);
-        answer::answer(&text[at..end]);
-        io::write_all(1, b"\n");
+        answer::answer(rt, &text[at..end])?;
+        println!(rt)?;
         at = end + 1;
     }
+    Ok(())
 }

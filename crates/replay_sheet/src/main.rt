@@ -1,37 +1,40 @@
 // Reads many sheets on standard input, each after its length (two bytes, high first), and answers to each as `sheet_print` does, then
 // with a line `--`. `compare/sheet_damage` makes such a list, and what must be printed.
+#![tactic(auto)]
+
 ghost use Rattle.std.specs.Prelude.{◌≡◌, ◌<◌, min};
 
 use sheet::print::Printed;
+use std::io;
 
-fn main() {
+fn main(rt: HostRuntime) -> io::Result<()> {
     let mut text = lines::text::room();
-    let n = io::read_full(0, &mut text);
+    let n = input::read_full(&mut rt.stdin(), &mut text)?;
     if n == text.len() {
-        io::write_all(1, b"input too long\n");
-        return;
+        return println!(rt; "input too long");
     }
-    each(&text[..n]);
+    each(&rt, &text[..n])
 }
 
-fn each(list: &[u8]) {
+fn each(rt: &impl Print, list: &[u8]) -> io::Result<()> {
     let mut at: usize = 0;
     while at < list.len() {
         let start = least(at + 2, list.len());
         let end = least(start + size_at(list, at), list.len());
-        show(&list[start..end]);
+        show(rt, &list[start..end])?;
         at = end;
     }
+    Ok(())
 }
 
 // An answer, and its end.
-fn show(text: &[u8]) {
+fn show(rt: &impl Print, text: &[u8]) -> io::Result<()> {
     let mut out = [0u8; 4096];
     let answer = sheet_answer::answer(text, &mut out);
     if let Printed::Bytes(size) = answer {
-        io::write_all(1, &out[..size]);
+        rt.write_all(&out[..size])?;
     }
-    io::write_all(1, b"--\n");
+    println!(rt; "--")
 }
 
 // The length that stands at a place, 0 where the list ends before.

@@ -8,6 +8,8 @@
 //
 // Points are those of the last spline before them; where there is none, values are 0.
 // Printed: the letter and the answer's words. A NaN is printed as 7ff8000000000000, a line that cannot be read as `?`.
+#![tactic(auto)]
+
 ghost use Rattle.std.specs.Prelude.{◌≤◌, length};
 
 use decimal::print::pattern;
@@ -15,50 +17,49 @@ use spline::check::check;
 use spline::over::over;
 use spline::row::row_of;
 use spline::value::{is_fine, value};
+use std::io;
 use words::{end_of, float, readable, word};
 
-fn main() {
+fn main(rt: HostRuntime) -> io::Result<()> {
     let mut text = lines::text::room();
-    let n = io::read_full(0, &mut text);
+    let n = input::read_full(&mut rt.stdin(), &mut text)?;
     if n == text.len() {
-        io::write_all(1, b"input too long\n");
-        return;
+        return println!(rt; "input too long");
     }
-    each(&text[..n]);
+    each(&rt, &text[..n])
 }
 
-fn each(text: &[u8]) {
+fn each(rt: &impl Print, text: &[u8]) -> io::Result<()> {
     let mut kept = [0.0; 72];
     let mut at: usize = 0;
     while at < text.len() {
         let end = end_of(text, at);
-        answer(&text[at..end], &mut kept);
-        io::write_all(1, b"\n");
+        answer(rt, &text[at..end], &mut kept)?;
+        println!(rt)?;
         at = end + 1;
     }
+    Ok(())
 }
 
 // Kept is the row of the last spline, or of none.
-fn answer(line: &[u8], kept: &mut [f64; 72]) {
+fn answer(rt: &impl Print, line: &[u8], kept: &mut [f64; 72]) -> io::Result<()> {
     let many = words_in(line);
     if line.len() < 1 {
-        print_none();
-        return;
+        return print_none(rt);
     }
     if !readable(line, many) {
-        print_none();
-        return;
+        return print_none(rt);
     }
     match line[0] {
-        b's' => tell(line, many, kept),
-        b'x' => print_point(line, many, kept),
-        b'w' => print_walk(line, many, kept),
-        _ => print_none(),
+        b's' => tell(rt, line, many, kept),
+        b'x' => print_point(rt, line, many, kept),
+        b'w' => print_walk(rt, line, many, kept),
+        _ => print_none(rt),
     }
 }
 
-fn print_none() {
-    io::write_all(1, b"?");
+fn print_none(rt: &impl Print) -> io::Result<()> {
+    print!(rt; "?")
 }
 
 // How many words a line has if it can be read.
@@ -70,20 +71,20 @@ fn words_in(line: &[u8]) -> u8 {
     128
 }
 
-fn tell(line: &[u8], many: u8, kept: &mut [f64; 72]) {
+fn tell(rt: &impl Print, line: &[u8], many: u8, kept: &mut [f64; 72]) -> io::Result<()> {
     let left = numbers_in(line, many);
     if left == 128 {
-        print_none();
-        return;
+        return print_none(rt);
     }
     let mut given = [0.0f64; 128];
     take(line, 3, &mut given);
     keep(
+        rt,
         word(line, 0) as usize,
         word(line, 1) as usize,
         &given[..left],
         kept,
-    );
+    )
 }
 
 // How many controls and knots stand on a line; 128 where these are not as many as it says.
@@ -107,17 +108,22 @@ fn numbers_in(line: &[u8], many: u8) -> usize
     left as usize
 }
 
-fn keep(degree: usize, controls: usize, given: &[f64], kept: &mut [f64; 72]) {
-    io::write_all(1, b"s");
+fn keep(
+    rt: &impl Print,
+    degree: usize,
+    controls: usize,
+    given: &[f64],
+    kept: &mut [f64; 72],
+) -> io::Result<()> {
+    print!(rt; "s")?;
     if controls <= given.len() {
         let knots = &given[controls..];
         if check(degree, controls, knots) {
-            print_word(0);
             *kept = row_of(degree, &given[..controls], knots);
-            return;
+            return print_word(rt, 0);
         }
     }
-    print_word(16);
+    print_word(rt, 16)
 }
 
 // The words from word k on, as many as there is room for.
@@ -131,48 +137,45 @@ fn take(line: &[u8], k: u8, out: &mut [f64])
     }
 }
 
-fn print_point(line: &[u8], many: u8, row: &[f64]) {
+fn print_point(rt: &impl Print, line: &[u8], many: u8, row: &[f64]) -> io::Result<()> {
     if many != 1 {
-        print_none();
-        return;
+        return print_none(rt);
     }
     let x = float(line, 0);
-    io::write_all(1, b"x");
+    print!(rt; "x")?;
     if is_fine(row, x) {
-        print_word(0);
-        print_word(pattern(value(row, x)));
-        return;
+        print_word(rt, 0)?;
+        return print_word(rt, pattern(value(row, x)));
     }
-    print_word(8);
-    print_word(0);
+    print_word(rt, 8)?;
+    print_word(rt, 0)
 }
 
-fn print_walk(line: &[u8], many: u8, row: &[f64]) {
+fn print_walk(rt: &impl Print, line: &[u8], many: u8, row: &[f64]) -> io::Result<()> {
     if 64 < many {
-        print_none();
-        return;
+        return print_none(rt);
     }
     let n = many as usize;
     let mut part = [0.0f64; 64];
     take(line, 0, &mut part);
-    walk(&mut part[..n], row);
+    walk(rt, &mut part[..n], row)
 }
 
-fn walk(part: &mut [f64], row: &[f64]) {
+fn walk(rt: &impl Print, part: &mut [f64], row: &[f64]) -> io::Result<()> {
     over(part, row);
-    io::write_all(1, b"w");
-    print_all(part);
+    print!(rt; "w")?;
+    print_all(rt, part)
 }
 
-fn print_all(part: &[f64]) {
+fn print_all(rt: &impl Print, part: &[f64]) -> io::Result<()> {
     let mut i: usize = 0;
     while i < part.len() {
-        print_word(pattern(part[i]));
+        print_word(rt, pattern(part[i]))?;
         i += 1;
     }
+    Ok(())
 }
 
-fn print_word(w: u64) {
-    io::write_all(1, b" ");
-    io::print_hex(1, w, 16);
+fn print_word(rt: &impl Print, w: u64) -> io::Result<()> {
+    print!(rt; " {w:016x}")
 }

@@ -1,37 +1,35 @@
 // Reads words on standard input, one to a line, and prints what each is as a number of a job: the 16 hex digits of the double, or `none`. Stored
 // beside it are words, and what Python's `float` and `float.fromhex` answer. `tools/words` prints the words anew, `tools/words answers` the answers.
+#![tactic(auto)]
+
 use decimal::number::{Number, read};
 use decimal::print::pattern;
+use std::io;
 use words::end_of;
 
-fn main() {
+fn main(rt: HostRuntime) -> io::Result<()> {
     let mut text = lines::text::room();
-    let n = io::read_full(0, &mut text);
+    let n = input::read_full(&mut rt.stdin(), &mut text)?;
     if n == text.len() {
-        io::write_all(1, b"input too long\n");
-        return;
+        return println!(rt; "input too long");
     }
-    each(&text[..n]);
+    each(&rt, &text[..n])
 }
 
-fn each(text: &[u8]) {
+fn each(rt: &impl Print, text: &[u8]) -> io::Result<()> {
     let mut at: usize = 0;
     while at < text.len() {
         let end = end_of(text, at);
-        answer(&text[at..end]);
+        answer(rt, &text[at..end])?;
         at = end + 1;
     }
+    Ok(())
 }
 
-fn answer(word: &[u8]) {
+fn answer(rt: &impl Print, word: &[u8]) -> io::Result<()> {
     let number = read(word);
     match number {
-        Number::Double(x) => {
-            io::print_hex(1, pattern(x), 16);
-            io::write_all(1, b"\n");
-        }
-        Number::Bad => {
-            io::write_all(1, b"none\n");
-        }
+        Number::Double(x) => println!(rt; "{:016x}", pattern(x)),
+        Number::Bad => println!(rt; "none"),
     }
 }

@@ -1,0 +1,160 @@
+// What C, Rust and Python link: each function is one of the crate `host`, which says the same of it.
+#![tactic(auto)]
+
+ghost use Rattle.std.specs.Prelude.{◌≡◌, map};
+ghost use Rattle.std.specs.Float.{binary64};
+ghost use Rattle.executor.specs.Osc.{shifted_phase, set_phase_to, shifted_freq, set_freq_to, swapped_phases};
+ghost use Rattle.fir.specs.Fir.{Fir};
+ghost use Rattle.ieee.specs.Ceiling.{ceiling};
+ghost use Rattle.fma.specs.Fused.{fma};
+ghost use Rattle.host.specs.Coded.{Coded};
+ghost use Rattle.host.specs.Places.{index_of, place_of};
+ghost use Rattle.iir.specs.Iir.{Iir};
+ghost use Rattle.mix.specs.Part.{first_row, second_row};
+ghost use Rattle.mix.specs.Plateau.{carried, real, imaginary};
+ghost use Rattle.mixer.specs.Mixer.{Mixer};
+ghost use Rattle.quant.specs.Aligned.{aligned_of, placed_of};
+ghost use Rattle.quant.specs.declared.refusal.Answer.{Answer};
+ghost use Rattle.spline.specs.Value.{value_in};
+ghost use Rattle.trig.specs.Trig.{cosine_of, sine_of};
+
+use executor::osc::{Moved, OscState, Swapped};
+use host::{Index, Place};
+use quant::quantity::{Frequency, Phase, Time};
+
+#[unsafe(no_mangle)]
+pub extern "C" fn skierralu_mul_add(a: f64, b: f64, c: f64) -> f64
+    ensures { result ≡ fma binary64 a b c }
+{
+    host::skierralu_mul_add(a, b, c)
+}
+
+#[unsafe(no_mangle)]
+pub extern "C" fn skierralu_ceil(x: f64) -> f64
+    ensures { result ≡ ceiling x }
+{
+    host::skierralu_ceil(x)
+}
+
+#[unsafe(no_mangle)]
+pub extern "C" fn skierralu_cos(x: f64) -> f64
+    ensures { result ≡ cosine_of x }
+{
+    host::skierralu_cos(x)
+}
+
+#[unsafe(no_mangle)]
+pub extern "C" fn skierralu_sin(x: f64) -> f64
+    ensures { result ≡ sine_of x }
+{
+    host::skierralu_sin(x)
+}
+
+#[unsafe(no_mangle)]
+pub extern "C" fn skierralu_align(time: Time, rate: Frequency, level: i32) -> Index
+    ensures { result ≡ index_of (aligned_of time.0 rate.0 level) }
+{
+    host::skierralu_align(time, rate, level)
+}
+
+#[unsafe(no_mangle)]
+pub extern "C" fn skierralu_place(time: Time, rate: Frequency, level: i32) -> Place
+    ensures { result ≡ place_of (placed_of (aligned_of time.0 rate.0 level)) }
+{
+    host::skierralu_place(time, rate, level)
+}
+
+#[unsafe(no_mangle)]
+pub extern "C" fn skierralu_shift_phase(osc: OscState, by: Phase) -> Moved
+    ensures { result ≡ shifted_phase osc by.0 }
+{
+    host::skierralu_shift_phase(osc, by)
+}
+
+#[unsafe(no_mangle)]
+pub extern "C" fn skierralu_set_phase(osc: OscState, to: Phase, time: Time) -> Moved
+    ensures { result ≡ set_phase_to osc to.0 time.0 }
+{
+    host::skierralu_set_phase(osc, to, time)
+}
+
+#[unsafe(no_mangle)]
+pub extern "C" fn skierralu_shift_freq(osc: OscState, by: Frequency, time: Time) -> Moved
+    ensures { result ≡ shifted_freq osc by.0 time.0 }
+{
+    host::skierralu_shift_freq(osc, by, time)
+}
+
+#[unsafe(no_mangle)]
+pub extern "C" fn skierralu_set_freq(osc: OscState, to: Frequency, time: Time) -> Moved
+    ensures { result ≡ set_freq_to osc to.0 time.0 }
+{
+    host::skierralu_set_freq(osc, to, time)
+}
+
+#[unsafe(no_mangle)]
+pub extern "C" fn skierralu_swap_phase(one: OscState, two: OscState, time: Time) -> Swapped
+    ensures { result ≡ swapped_phases one two time.0 }
+{
+    host::skierralu_swap_phase(one, two, time)
+}
+
+// The steps on rows answer 0, or the number of their refusal.
+#[unsafe(no_mangle)]
+pub extern "C" fn skierralu_mixer(
+    rows: usize,
+    i: &mut [f64],
+    q: &mut [f64],
+    matrix: &[f64],
+    offsets: &[f64],
+) -> usize
+    ensures { Coded (λ (r : Answer). Mixer rows i.old q.old matrix.now offsets.now r i.new q.new) result }
+{
+    host::skierralu_mixer(rows, i, q, matrix, offsets)
+}
+
+#[unsafe(no_mangle)]
+pub extern "C" fn skierralu_iir(
+    rows: usize,
+    i: &mut [f64],
+    q: &mut [f64],
+    sections: &[f64],
+) -> usize
+    ensures { Coded (λ (r : Answer). Iir rows i.old q.old sections.now r i.new q.new) result }
+{
+    host::skierralu_iir(rows, i, q, sections)
+}
+
+#[unsafe(no_mangle)]
+pub extern "C" fn skierralu_fir(rows: usize, i: &mut [f64], q: &mut [f64], taps: &[f64]) -> usize
+    ensures { Coded (λ (r : Answer). Fir rows i.old q.old taps.now r i.new q.new) result }
+{
+    host::skierralu_fir(rows, i, q, taps)
+}
+
+// A plateau: the carrier and the rotation as two numbers each.
+#[unsafe(no_mangle)]
+pub extern "C" fn skierralu_add_plateau(
+    rows: usize,
+    i: &mut [f64],
+    q: &mut [f64],
+    start: usize,
+    count: usize,
+    re: f64,
+    im: f64,
+    cos: f64,
+    sin: f64,
+)
+    ensures i_after { i.new ≡ first_row rows start count i.old q.old (carried real (record { re = re; im = im }) (record { re = cos; im = sin })) }
+    ensures q_after { q.new ≡ second_row rows start count i.old q.old (carried imaginary (record { re = re; im = im }) (record { re = cos; im = sin })) }
+{
+    host::skierralu_add_plateau(rows, i, q, start, count, re, im, cos, sin);
+}
+
+// A spline's value at each point, in its place. The row has 72 numbers: degree, count of controls, 32 controls, 38 knots.
+#[unsafe(no_mangle)]
+pub extern "C" fn skierralu_spline(points: &mut [f64], row: &[f64])
+    ensures { points.new ≡ map (value_in row.now) points.old }
+{
+    host::skierralu_spline(points, row);
+}
