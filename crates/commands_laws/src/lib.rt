@@ -1,1 +1,2 @@
 // Laws only, and no code: what the definitions of commands and of the command call have to mean.
+#![tactic(auto)]

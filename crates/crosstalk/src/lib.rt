@@ -1,5 +1,7 @@
 // Which channels' lists take part in a sampling, with which factors, or the refusal. The crosstalk half of the Rust's `merge_and_sample`.
 // Document 01: "a channel among the names takes its row; factor 0 skips a list". Of a sampling call's order 13, 2, 17 and 18, 7 are judged here.
+#![tactic(auto)]
+
 ghost use Rattle.std.specs.Prelude.{◌≡◌, ◌≤◌};
 ghost use Rattle.crosstalk.specs.Crosstalk.{cross_fits, cross_fine, planned};
 

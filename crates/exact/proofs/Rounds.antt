@@ -1,7 +1,7 @@
 -- A signed number rounded to a double: no double is nearer, a double is not changed, the order is kept, and the error is a part in 2 ^ 53 at most. Assumes nothing.
 use mathlib.Core.Path.{◌≡◌, refl, sym, ap, ◌∙◌, subst}
 use mathlib.Core.Bool.{Bool, true, false}
-use Prim.Native.Nat.{ℕ, ◌+◌, ◌-◌, ◌^◌, ◌≤◌}
+use Prim.Native.Nat.{ℕ, ◌+◌, ◌^◌, ◌≤◌}
 use native.Mathlib.Omega.{arith}
 use Rattle.exact.specs.Near.{Part}
 use Rattle.exact.specs.Signed.{Signed, Same, Apart, signed, times, mag}

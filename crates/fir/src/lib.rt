@@ -1,4 +1,6 @@
 // Rows filtered by taps: the Rust's `pulse/fir.rs` at one lane.
+#![tactic(auto)]
+
 ghost use Rattle.std.specs.Prelude.{◌≡◌};
 ghost use Rattle.fir.specs.Fir.{Fir, fir_fits};
 

@@ -1,4 +1,6 @@
 // A 64-bit word as text: 16 lowercase hex digits, the most significant first.
+#![tactic(auto)]
+
 ghost use Rattle.std.specs.Prelude.{◌≡◌, ◌<◌};
 ghost use Rattle.hexadecimal.specs.Hex.{digit_value, digit_of, word_at, Wrote};
 

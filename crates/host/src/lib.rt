@@ -1,4 +1,6 @@
 // What C, Rust and Python call, by the crate `host_c`: each function is one of the crates below, under a name of its own.
+#![tactic(auto)]
+
 ghost use Rattle.std.specs.Prelude.{◌≡◌, map};
 ghost use Rattle.std.specs.Float.{binary64};
 ghost use Rattle.executor.specs.Osc.{shifted_phase, set_phase_to, shifted_freq, set_freq_to, swapped_phases};

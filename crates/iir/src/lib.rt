@@ -1,4 +1,6 @@
 // Rows through second-order sections. The Rust's src/pulse/iir.rs.
+#![tactic(auto)]
+
 ghost use Rattle.std.specs.Prelude.{◌≡◌};
 ghost use Rattle.iir.specs.Iir.{iir_fits, iir_answer, Iir};
 

@@ -1,4 +1,6 @@
 // A job's line by value: what it asks for, or that it cannot be read.
+#![tactic(auto)]
+
 pub mod command;
 pub mod line;
 pub mod list;

@@ -1,4 +1,6 @@
 // The sheet that stands in a job: the lines behind `sheet COUNT` are read as they stand, and what they say becomes the crosstalk.
+#![tactic(auto)]
+
 ghost use Rattle.std.specs.Prelude.{◌≡◌};
 ghost use Rattle.job_sheet.specs.Inset.{sheeted, fewer, Took};
 

@@ -224,7 +224,7 @@ module _ (t : Tables) (taking : Taking) (ps : List Pulse) (rows : Rows) (marks :
           ys = zs;
           ms = us;
           es = es;
-              within = add-one-le less;
+          within = add-one-le less;
           near = omega (arith, u.near);
           long-w = lz ∙ u.long-w;
           long-m = lu ∙ u.long-m;

@@ -1,4 +1,6 @@
 // One pulse added onto the rows of a channel, sample by sample, under a turning carrier. The Rust's `mix_add_plateau` and `mix_add_envelope`.
+#![tactic(auto)]
+
 ghost use Rattle.std.specs.Prelude.{◌≡◌, length};
 ghost use Rattle.mix.specs.Part.{first_row, second_row};
 ghost use Rattle.mix.specs.Plateau.{carried, real, imaginary};

@@ -1,4 +1,6 @@
 // The summed lists in the work rows, merged bin by bin and mixed down onto the rows. The Rust's `merge_and_sample` and `sample_pulse_list`.
+#![tactic(auto)]
+
 ghost use Rattle.std.specs.Prelude.{◌≡◌};
 ghost use Rattle.mixdown.specs.Sampled.{rowed, out, ends_fit, mixed_down};
 

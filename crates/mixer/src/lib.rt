@@ -1,5 +1,7 @@
 // The mixer's correction of two rows, in one pass: a matrix over I and Q, and then an offset for each row. The Rust's `apply_iq_inplace` and
 // `apply_offset_inplace`, one after the other.
+#![tactic(auto)]
+
 ghost use Rattle.std.specs.Prelude.{◌≡◌, cond, ◌&&◌, ◌+◌, ◌<◌, length};
 ghost use Rattle.std.specs.Float.Ieee.{eq};
 ghost use Rattle.exact.specs.Doubles.{nought};

@@ -1,5 +1,7 @@
 // Names of channels and shapes. Document 01: "A name is 1..16 bytes of 0x21..0x7E without `=`, compared byte by byte";
 // "names by value as two 64-bit words and a length". They stand for the Rust's `Arc<str>`.
+#![tactic(auto)]
+
 ghost use Rattle.std.specs.Prelude.{◌≡◌, ◌≤◌, ◌<◌, length, get_or};
 ghost use Rattle.naming.specs.Name.{name_byte, every, word_of, bytes_of_word, sixteen, naming_of, is_name, in_place, same_name, Wrote};
 

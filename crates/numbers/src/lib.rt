@@ -1,4 +1,6 @@
 // The numbers of a list, from a line's words into a lent buffer.
+#![tactic(auto)]
+
 ghost use Rattle.numbers.specs.Numbers.{Begun, Stored};
 
 use decimal::digits::place;

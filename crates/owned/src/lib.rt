@@ -1,4 +1,6 @@
 // The command call for a caller that owns its arrays: they come and go by value, so that such a caller is covered.
+#![tactic(auto)]
+
 ghost use Rattle.std.specs.Prelude.{◌≡◌};
 ghost use Rattle.commands.specs.Run.{ran_to};
 ghost use Rattle.owned.specs.Owned.{executed_owned, to_run, told_of, executed_with};

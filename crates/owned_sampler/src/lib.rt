@@ -1,4 +1,6 @@
 // The sampling call for a caller that owns its pulses: they come by value, so that such a caller is covered.
+#![tactic(auto)]
+
 ghost use Rattle.std.specs.Prelude.{◌≡◌};
 ghost use Rattle.mixdown.specs.Sampled.{rowed};
 ghost use Rattle.sampler.specs.Sampler.{left, sampled};

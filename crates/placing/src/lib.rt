@@ -1,4 +1,6 @@
 // One pulse of a sampling call: where it goes and with what carrier, or its refusal, before any sample changes. The Rust's `sample_pulse_list`.
+#![tactic(auto)]
+
 ghost use Rattle.std.specs.Prelude.{◌≡◌};
 ghost use Rattle.rows.specs.Rows.{all_finite};
 ghost use Rattle.pulse.specs.Envelope.{is_shaped};

@@ -1,4 +1,6 @@
 // The points of one part of an envelope: i*dx + x, rounded once. The Rust's `sample_array`, without its values.
+#![tactic(auto)]
+
 ghost use Rattle.std.specs.Prelude.{◌≡◌, length};
 ghost use Rattle.points.specs.Points.{point_at, points};
 

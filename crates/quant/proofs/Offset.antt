@@ -24,7 +24,7 @@ use Rattle.exact.proofs.Value.{digits_of, pow-split, rescale, units-are}
 use Rattle.exact.proofs.Truth.{like-false}
 use Rattle.ieee.specs.Ceiling.{ceiling}
 use Rattle.ieee.specs.Exp2.{exp2_of}
-use Rattle.ieee.proofs.Ceiling.{ceiling-at, ceiling-fits, ceiling-finite, value}
+use Rattle.ieee.proofs.Ceiling.{ceiling-at, ceiling-fits, ceiling-finite}
 use Rattle.ieee.proofs.Powers.{level-value}
 use Rattle.ieee.specs.Cut.{cut_of}
 use Rattle.ieee.specs.declared.cut.Cut.{Cut}

@@ -1,5 +1,7 @@
 // Fused multiply-add by doubles, where they settle it, and else by `fma`, in whole numbers. The rounded product and the rounded sum are off by doubles,
 // exactly; and their sum, less these, nearly always lies where it can only round one way.
+#![tactic(auto)]
+
 ghost use Rattle.std.specs.Prelude.{◌≡◌, true, ◌||◌};
 ghost use Rattle.std.specs.Float.{binary64};
 ghost use Rattle.std.specs.Float.Ieee.{eq};

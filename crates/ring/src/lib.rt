@@ -1,5 +1,7 @@
 // A row through taps, by a ring of slots: the Rust's `pulse/fir.rs` at one lane. The taps stay where the caller has them, each found by wrapping
 // round.
+#![tactic(auto)]
+
 ghost use Rattle.std.specs.Prelude.{◌≡◌, ◌%◌, ◌≤◌, ◌<◌, min, length};
 ghost use Rattle.ring.specs.Ring.{slot_of, filtered_from, filtered_or_kept};
 ghost use Rattle.ring.specs.Inside.{Ready, Advanced};

@@ -2,7 +2,7 @@
 -- one after the other is too: what is left is small enough for its last digit. So the last of them is the rounded product less the exact one. Assumes nothing.
 use mathlib.Core.Path.{◌≡◌, sym, ap, ◌∙◌, subst}
 use mathlib.Core.Logic.{◌⊎◌, inl, inr}
-use Prim.Native.Nat.{ℕ, ◌+◌, ◌-◌, ◌*◌, ◌^◌, ◌≤◌, ◌<◌}
+use Prim.Native.Nat.{ℕ, ◌+◌, ◌-◌, ◌*◌, ◌^◌, ◌≤◌}
 use native.Mathlib.Nat.{le_trans, le_of_eq, mul_assoc, mul_comm, mul-le-mul, mul-le-mul_right, zero-mul, mul-zero}
 use native.Mathlib.Omega.{arith}
 use lib.Dec.{T, lit<, lit≤}

@@ -1,4 +1,6 @@
 // What a rounded sum and a rounded product are off by, exactly, as doubles; and whether a sum with such an error can only round one way.
+#![tactic(auto)]
+
 ghost use Rattle.std.specs.Prelude.{◌≡◌};
 ghost use Rattle.roundoff.specs.Roundoff.{sum_off, product_off, enclosure_of};
 

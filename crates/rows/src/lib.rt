@@ -1,4 +1,6 @@
 // What the steps on rows share: the sizes that rows may have, and the test that numbers are finite.
+#![tactic(auto)]
+
 ghost use Rattle.std.specs.Prelude.{◌≡◌};
 ghost use Rattle.rows.specs.Rows.{rows_fit, all_finite, answer_of};
 

@@ -1,5 +1,7 @@
 // The sampling call: one channel's lists, summed and merged with those that cross over to it, added onto the rows. The Rust's `sample` of
 // src/pulse.rs with its `merge_and_sample`.
+#![tactic(auto)]
+
 ghost use Rattle.std.specs.Prelude.{◌≡◌, []};
 ghost use Rattle.merge.specs.Taking.{packed};
 ghost use Rattle.mixdown.specs.Sampled.{rowed};

@@ -1,1 +1,2 @@
 // Laws of the sampling call: no code.
+#![tactic(auto)]

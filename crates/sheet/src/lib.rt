@@ -1,4 +1,6 @@
 // The crosstalk sheet: read and printed. Document 01, "The sheet".
+#![tactic(auto)]
+
 pub mod line;
 pub mod names;
 pub mod print;

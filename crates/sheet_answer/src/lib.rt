@@ -1,4 +1,6 @@
 // What a program prints for a sheet. Document 01, "The sheet".
+#![tactic(auto)]
+
 ghost use Rattle.std.specs.Prelude.{◌≡◌, ◌≤◌, length};
 ghost use Rattle.sheet.specs.Sheet.{printed_of, sheet_of, sheet_text};
 ghost use Rattle.sheet.specs.Puts.{Put};

@@ -1,1 +1,2 @@
 // Laws only, and no code: what the definition of the crosstalk sheet has to mean.
+#![tactic(auto)]

@@ -1,1 +1,2 @@
 // Laws of the whole system, over any run of calls: no code.
+#![tactic(auto)]

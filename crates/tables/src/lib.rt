@@ -1,5 +1,7 @@
 // The tables of a bench: tolerances, channels and shapes, by value. The Rust's `Executor`, but for its pulse lists: of these a channel
 // keeps only how many bins and pulses it has.
+#![tactic(auto)]
+
 ghost use Rattle.std.specs.Prelude.{◌≡◌, length};
 ghost use Rattle.tables.specs.Tables.{no_name, at_rest, empty, done, refused, made, fresh, found, shape_found, with_channel, settled, finite_osc, with_added, formed, settled_shape, with_added_shape, with_added_spline, state_of};
 

@@ -1,4 +1,6 @@
 // Cosine and sine of any double: the angle is reduced by TAU, every step of it exact, and Horner's rule runs in one fixed order of operations.
+#![tactic(auto)]
+
 ghost use Rattle.std.specs.Prelude.{◌≡◌};
 ghost use Rattle.trig.specs.Reduce.{wrapped, reduced, Far, Inside};
 ghost use Rattle.trig.specs.Trig.{cosine_at, sine_at, cosine_of, sine_of, Both};

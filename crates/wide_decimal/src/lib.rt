@@ -1,6 +1,8 @@
 // A decimal of any length, rounded once to the nearest double. What stands before the point is a whole number in digits of 32 bits; what stands
 // behind it is found from its last figure on, by dividing by ten, in units of 2^-1088, with the last bit set where anything was lost: the
 // divisors are even, so that it survives the next division, and it decides every tie.
+#![tactic(auto)]
+
 ghost use Rattle.std.specs.Prelude.{◌≡◌, length};
 ghost use Rattle.wide_decimal.specs.Figures.{without};
 ghost use Rattle.wide_decimal.specs.Placed.{nearest_of};

@@ -1,5 +1,7 @@
 // The words of a line: behind its letter, each 16 lowercase hex digits after one space, counted from 0. And where a line of a text ends.
 // For the programs that run outside vectors.
+#![tactic(auto)]
+
 ghost use Rattle.std.specs.Prelude.{◌≡◌, ◌≤◌};
 ghost use Rattle.lines.specs.Field.{number_at};
 ghost use Rattle.words.specs.Words.{word_in, float_in, choice_in, name_in, level_of, is_word, readable_as, end_in};

@@ -1,5 +1,5 @@
 -- `fma::general` meets its contract: over 2 ^ 2272 the product and the addend are what the code hands to `combine`, in one order or the other. Assumes nothing.
-use Rattle.std.proofs.Common.{◌≡◌, ℕ, ◌+◌, ◌-◌, ◌*◌, ◌/◌, ◌%◌, ◌^◌, ◌<◌, ◌≤◌, Bool, T, leb, sym, refl, ap, ◌∙◌, subst, le_trans, le_of_eq, lt_of_le_of_lt, add-zero, le_of_lt, mul-le-mul, arith, lit<, lit≤, pow_pos, pow-add, rules}
+use Rattle.std.proofs.Common.{◌≡◌, ℕ, ◌+◌, ◌*◌, ◌/◌, ◌%◌, ◌^◌, ◌<◌, ◌≤◌, Bool, T, leb, sym, refl, ap, ◌∙◌, subst, le_trans, le_of_eq, lt_of_le_of_lt, add-zero, le_of_lt, mul-le-mul, arith, lit<, lit≤, pow_pos, pow-add, rules}
 use native.Mathlib.Nat.{mul-mul-mul_comm, mul-mod_left}
 use lib.Arith.{sub-sub_self}
 use lib.Ieee.{Float, binary64, unlike, sum, fits, to_bits}

@@ -33,8 +33,7 @@ sub-loop c = omega (arith, c.loop-i.invariant.within, c.loop-i.invariant.same_i)
 
 two-requires : tie.Need-two-requires invariant-loop decreases-loop
 two-requires c κs =
-    let at = c.loop-i in
-    (
+    let at = c.loop-i in (
       at.invariant.same_i ∙ at.invariant.equal ∙ sym at.invariant.same_q,
       omega (arith, at.invariant.within, at.invariant.same_i),
       record { room = c.both_roomy-fit.ensures; first = record { upper = c.upper-h0.ensures; lower = refl }; second = record { upper = c.upper-h1.ensures; lower = refl } },

@@ -7,7 +7,6 @@ use mathlib.Core.List.{List}
 use native.Mathlib.Omega.{arith}
 use native.Mathlib.Nat.{min-le_left}
 use borrow.Author.Rules.{rules}
-use borrow.Author.Tests.{not-true, not-false}
 use lib.ListN.{length, take, drop, length-take, length-drop, drop_of_length-le}
 use lib.Seq.{length-take-le, take_all}
 use Rattle.naming.specs.declared.Naming.TheVariants.{Named, Bad}
@@ -101,7 +100,6 @@ returns-5 c =
     let first = after_first.word_of-first-2 in
     let second = c.word_of-second in
     sym (reads_two text (omega arith) (omega arith) (passed else3) first.result second.result first.ensures second.ensures)
-
 
 x-slice_bounds-word_of-end-2 : tie.Need-slice_bounds-word_of-end-2
 x-slice_bounds-word_of-end-2 = search rules

@@ -6,7 +6,7 @@ use mathlib.Core.Bool.{true, false, ◌&&◌}
 use mathlib.Core.List.{List}
 use native.Mathlib.Omega.{arith}
 use borrow.Author.Rules.{rules}
-use borrow.Author.Tests.{eq-eqb, ne_eqb, not-true, not-false}
+use borrow.Author.Tests.{eq-eqb, ne_eqb}
 use Rattle.lines.specs.Field.{number_at}
 use Rattle.words.specs.Words.{is_word, words_stand, readable_as}
 use Rattle.words.proofs.readable.Statement.{statement}

@@ -77,9 +77,9 @@ loop-again c =
     let on : drop at.k row ≡ get_or row at.k nan ∷ drop (at.k + 1) row = rw (add-one at.k) (drop-cons row at.k nan there) in (
       omega arith,
       elim c.if-row-k.branch [
-        then-row-k w ↦
-          rw (w.taking-is, w.with_part-taking.ensures, w.find.ensures)
-          (turn-with c.args.t _ row at.k at.taking _ _ named on (omega (arith, c.requires.0, c.requires.1)) (not-true _ w.if-row-k.true) at.invariant.1)
+        | then-row-k w ↦
+            rw (w.taking-is, w.with_part-taking.ensures, w.find.ensures)
+            (turn-with c.args.t _ row at.k at.taking _ _ named on (omega (arith, c.requires.0, c.requires.1)) (not-true _ w.if-row-k.true) at.invariant.1)
         | else-row-k w ↦ rw w.taking-is (turn-skip c.args.t _ row at.k at.taking _ _ named on (not-false _ w.if-row-k.false) at.invariant.1)
       ],
     )

@@ -1,5 +1,5 @@
 -- `fma::pack::nearest_double` meets its contract: nothing is a zero, and all else goes to `finish`, 64 powers of two higher. Assumes nothing.
-use Rattle.std.proofs.Common.{◌≡◌, ℕ, ◌+◌, ◌*◌, ◌^◌, ◌<◌, sym, ap, ◌∙◌, inl, inr, mul_assoc, zero-mul, arith, lit<, pow_pos, pow-add, rules}
+use Rattle.std.proofs.Common.{◌≡◌, ℕ, ◌+◌, ◌*◌, ◌^◌, ◌<◌, sym, ap, ◌∙◌, mul_assoc, zero-mul, arith, lit<, pow_pos, pow-add, rules}
 use lib.Ieee.{binary64, round}
 use lib.Ieee.Scale.{round_same}
 use Rattle.fma.specs.Words.{words}

@@ -108,9 +108,9 @@ returns-2 : tie.Need-returns
 returns-2 c =
     let a = c.args in
     elim c.if-from-at.branch [
-      then-from-at+else-falls w ↦
-        apart a.work.now a.marks.now a.from a.at a.p a.tolerance.0 w.pulse_in-kept.result w.falls.result w.if-from-at.true w.pulse_in-kept.ensures
-        w.falls.ensures c.row_of-2.result c.row_of-2.ensures w.if-falls.false
+      | then-from-at+else-falls w ↦
+          apart a.work.now a.marks.now a.from a.at a.p a.tolerance.0 w.pulse_in-kept.result w.falls.result w.if-from-at.true w.pulse_in-kept.ensures
+          w.falls.ensures c.row_of-2.result c.row_of-2.ensures w.if-falls.false
       | else-from-at w ↦ fresh a.work.now a.marks.now a.from a.at a.p a.tolerance.0 c.row_of-2.result c.row_of-2.ensures w.if-from-at.false
     ]
 

@@ -12,7 +12,7 @@ invariant-loop-k l = record {
   room_w : l.used + (l.end - l.k) ≤ length l.initial.work;
   room_m : l.used + (l.end - l.k) ≤ length l.initial.marks;
   left : kept_all l.at l.tolerance.0 (take (l.end - l.k) (drop l.k l.pulses)) (laid l.work l.marks l.used)
-    ≡ laid_on (summed l.tolerance.0 (take l.count (drop l.from l.pulses))) l.at l.initial.work l.initial.marks;
+      ≡ laid_on (summed l.tolerance.0 (take l.count (drop l.from l.pulses))) l.at l.initial.work l.initial.marks;
 }
 
 abbrev pub decreases-loop-k : goal.decreases-loop-k

@@ -12,7 +12,7 @@ invariant-loop-k l = record {
   near : l.at ≤ 1024 * l.k;
   long_e : length l.ends.ends ≡ 8;
   left : still (lists l.t l.taking l.pulses) l.k l.at l.work l.marks l.ends.ends
-    ≡ gathered_of l.t (parts_in l.taking) l.pulses l.initial.work l.initial.marks;
+      ≡ gathered_of l.t (parts_in l.taking) l.pulses l.initial.work l.initial.marks;
 }
 
 abbrev pub decreases-loop-k : goal.decreases-loop-k

@@ -256,7 +256,6 @@ returns-4 c =
     let refused = rw c.in-Refused-add_pulse.is at c.add_pulse-2.ensures.1 in
     refused-last c.loop-p.invariant c.add_pulse-2.ensures.0 c.loop-p-test.false _ refused ∙ finish c.before.before.before.before.before.before.before.before.before.before.before.before.before
 
-
 x-overflow_add-result : tie.Need-overflow_add-result invariant-loop decreases-loop
 x-overflow_add-result c = search rules
 

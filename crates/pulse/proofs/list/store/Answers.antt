@@ -26,9 +26,9 @@ returns-after-loop-i c =
     let n = c.loop-i.i - 1 - c.args.from in
     let done = c.loop-i.invariant.rest ∙ sym (stored-room c.args.from c.args.count c.args.p c.args.pulses.now room) in
     elim c.loop-i-test.branch [
-      else-loop-i-test w ↦ at_from c.args.from c.args.p c.loop-i.pulses c.loop-i.i (omega arith) inside ∙ done
+      | else-loop-i-test w ↦ at_from c.args.from c.args.p c.loop-i.pulses c.loop-i.i (omega arith) inside ∙ done
       | then-loop-i-test+then-stays_before w ↦
-        behind c.args.from c.args.p c.loop-i.pulses c.loop-i.i n (omega arith) inside (sym w.if-stays_before.ensures) ∙ done
+          behind c.args.from c.args.p c.loop-i.pulses c.loop-i.i n (omega arith) inside (sym w.if-stays_before.ensures) ∙ done
     ]
 
 pub returns-else-has_room : goal.returns-else-has_room

@@ -57,7 +57,6 @@ returns c =
     let left = start.requires.1.1.1 in
     move-eight a.taps.now a.ring.now a.row.now a.k a.s start.requires.1.0 _ _ _ _ left start.requires.1.1.0 (put_all _ a.row.now a.k left c.put_eight.ensures) c.sum_all.ensures c.put_eight-2.ensures c.put_eight-3.ensures
 
-
 x-slice_bounds-put_eight-end-2 : tie.Need-slice_bounds-put_eight-end-2
 x-slice_bounds-put_eight-end-2 c = search rules
 

@@ -11,29 +11,27 @@ use Rattle.sheet.proofs.put.put_block.Tie as tie
 
 put-name-requires : tie.Need-put_name-at-requires
 unfolding row_key
-put-name-requires c κs =
-    (
-      c.requires.0,
-      omega (
-        arith,
-        c.requires.2,
-        length-append (name_line row_key c.args.n) (factors_text (patterns c.args.numbers.now)),
-      ),
-    )
+put-name-requires c κs = (
+  c.requires.0,
+  omega (
+    arith,
+    c.requires.2,
+    length-append (name_line row_key c.args.n) (factors_text (patterns c.args.numbers.now)),
+  ),
+)
 
 put-factors-requires : tie.Need-put_factors-requires
 unfolding row_key
-put-factors-requires c κs =
-    (
-      c.requires.1,
-      omega (
-        arith,
-        c.requires.2,
-        c.put_name-at.ensures.next,
-        c.put_name-at.auto.out,
-        length-append (name_line row_key c.args.n) (factors_text (patterns c.args.numbers.now)),
-      ),
-    )
+put-factors-requires c κs = (
+  c.requires.1,
+  omega (
+    arith,
+    c.requires.2,
+    c.put_name-at.ensures.next,
+    c.put_name-at.auto.out,
+    length-append (name_line row_key c.args.n) (factors_text (patterns c.args.numbers.now)),
+  ),
+)
 
 same_length : tie.Need-shape_of-out
 same_length c = c.put_factors.auto.out ∙ c.put_name-at.auto.out

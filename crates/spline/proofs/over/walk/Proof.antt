@@ -63,12 +63,12 @@ loop-again c =
     let x = get_or at.part at.i nan in
     let tested = c.in_domain.ensures in
     elim c.if-in_domain.branch [
-      then-in_domain w ↦ (
-        let here = value-inside a.row.now a.p a.n x _ _ (sym tested ∙ w.if-in_domain.true) w.span_from-k.ensures.0 w.de_boor.ensures in
-        (rw w.part-is (turn w.de_boor.result here), rw w.k-is w.span_from-k.ensures.1.0, rw w.k-is w.span_from-k.ensures.1.1))
+      | then-in_domain w ↦ (
+          let here = value-inside a.row.now a.p a.n x _ _ (sym tested ∙ w.if-in_domain.true) w.span_from-k.ensures.0 w.de_boor.ensures in
+          (rw w.part-is (turn w.de_boor.result here), rw w.k-is w.span_from-k.ensures.1.0, rw w.k-is w.span_from-k.ensures.1.1))
       | else-in_domain w ↦ (
-        let here = value-outside a.row.now a.p a.n x (sym tested ∙ w.if-in_domain.false) in
-        (rw w.part-is (turn nought here), rw w.k-is at.invariant.1, rw w.k-is at.invariant.2))
+          let here = value-outside a.row.now a.p a.n x (sym tested ∙ w.if-in_domain.false) in
+          (rw w.part-is (turn nought here), rw w.k-is at.invariant.1, rw w.k-is at.invariant.2))
     ]
 
 same_length : tie.Need-shape_of-part invariant-loop decreases-loop

@@ -100,7 +100,6 @@ returns c =
     let place : 34 + at.j ≡ 72 = omega arith in
     at.invariant.1 ∙ ap (filled a.degree a.controls.now a.knots.now) place ∙ filled-all a.degree a.controls.now a.knots.now
 
-
 x-nearest_u64_to_f64-requires : tie.Need-nearest_u64_to_f64-requires invariant-loop decreases-loop invariant-loop2 decreases-loop2
 x-nearest_u64_to_f64-requires c = search rules
 

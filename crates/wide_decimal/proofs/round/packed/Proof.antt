@@ -51,7 +51,7 @@ module _ (c : tie.After-top-u) where
 enough : (c : tie.Joined-u-eq0) → (digits c.before.before ≡ 34) ⊎ (2 ^ 64 ≤ number c.before.before)
 enough c =
     elim c.if-u-eq0.branch [
-      then-u-eq0+else-low-lt34 k ↦ inl (omega (arith, k.if-low-lt34.false, (start c.before.before).requires.1))
+      | then-u-eq0+else-low-lt34 k ↦ inl (omega (arith, k.if-low-lt34.false, (start c.before.before).requires.1))
       | else-u-eq0 k ↦ inr (two-words c.top-u.result.hi c.top-u.result.lo c.top-u.result.lost (number c.before.before) (omega (arith, k.if-u-eq0.false)) (stands c.before.before))
     ]
 
