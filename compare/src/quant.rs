@@ -6,7 +6,7 @@ use crate::rng::Rng;
 use theirs::osc::Osc;
 
 pub fn compare(report: &mut Report, scale: u64) {
-    // Archives for another machine (compare/native) take and give structs as x86-64's C does, so that these calls cannot be made there.
+    // Structs go in and out as x86-64's C passes them, so that these calls cannot be made on another machine.
     if cfg!(not(target_arch = "x86_64")) {
         println!("place and the oscillator's commands: not compared on this machine");
         return;
