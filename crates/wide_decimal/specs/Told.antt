@@ -26,5 +26,5 @@ pub record Room (high low : List ℕ) : Type 0 where
 -- the double; or what stands before the point does not fit; or the digits behind it are fewer than 34
 abbrev pub Outcome : Bool → List ℕ → ℕ → ℕ → ℕ → ℕ → Tried → Type 0
 Outcome minus figures whole zeros above below (result.Sure r) = r ≡ nearest_of minus figures whole zeros
-Outcome minus figures whole zeros above below result.Spilled = weight above ≤ before figures whole
-Outcome minus figures whole zeros above below result.Thin = below < 34
+Outcome minus figures whole _ above below result.Spilled = weight above ≤ before figures whole
+Outcome minus figures whole _ above below result.Thin = below < 34
