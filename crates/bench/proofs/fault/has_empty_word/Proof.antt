@@ -3,38 +3,38 @@ use Rattle.std.proofs.Common.{◌-◌, length, rules}
 use Rattle.bench.proofs.fault.has_empty_word.Statement.{statement}
 use Rattle.bench.proofs.fault.has_empty_word.Tie as tie
 
-abbrev invariant-loop : tie.invariant-loop
+abbrev invariant-loop : tie.invariant-loop-k
 invariant-loop line before₀ k₀ before k = Unit {0}
 
-abbrev decreases-loop : tie.decreases-loop
+abbrev decreases-loop : tie.decreases-loop-k
 decreases-loop line before₀ k₀ before k = length line - k
 
-loop-holds : tie.Need-loop-init invariant-loop decreases-loop
+loop-holds : tie.Need-loop-k-init invariant-loop decreases-loop
 loop-holds c = search rules
 
-shared-slice-read-if1 : tie.Need-shared-slice-read-if1 invariant-loop decreases-loop
+shared-slice-read-if1 : tie.Need-bounds-line-k invariant-loop decreases-loop
 shared-slice-read-if1 c = search rules
 
-returns : tie.Need-returns invariant-loop decreases-loop
+returns : tie.Need-returns-then-before-eq32 invariant-loop decreases-loop
 returns c = search rules
 
-shared-slice-read-before : tie.Need-shared-slice-read-before invariant-loop decreases-loop
+shared-slice-read-before : tie.Need-bounds-line-k-in-loop-k invariant-loop decreases-loop
 shared-slice-read-before c = search rules
 
-add-k : tie.Need-overflow-add-k invariant-loop decreases-loop
+add-k : tie.Need-overflow_add-k invariant-loop decreases-loop
 add-k c = search rules
 
-loop-less : tie.Need-loop-smaller invariant-loop decreases-loop
+loop-less : tie.Need-loop-k-smaller invariant-loop decreases-loop
 loop-less c = search rules
 
-loop-again : tie.Need-loop-preserved invariant-loop decreases-loop
+loop-again : tie.Need-loop-k-preserved invariant-loop decreases-loop
 loop-again c = search rules
 
-returns-2 : tie.Need-returns-2 invariant-loop decreases-loop
+returns-2 : tie.Need-returns invariant-loop decreases-loop
 returns-2 c = search rules
 
-pub has-empty-word-spec : {M : Type 1} → statement M
-has-empty-word-spec =
+pub has_empty_word_spec : {M : Type 1} → statement M
+has_empty_word_spec =
     tie.close
     (tie.spec
     invariant-loop

@@ -3,47 +3,47 @@ use Rattle.std.proofs.Common.{◌+◌, ◌-◌, ◌≤◌, length, rules}
 use Rattle.bench.proofs.say.row_for.Statement.{statement}
 use Rattle.bench.proofs.say.row_for.Tie as tie
 
-abbrev invariant-loop : tie.invariant-loop
+abbrev invariant-loop : tie.invariant-loop-at
 invariant-loop line table at₀ at = at ≤ length table + 1
 
-abbrev decreases-loop : tie.decreases-loop
+abbrev decreases-loop : tie.decreases-loop-at
 decreases-loop line table at₀ at = length table - at
 
-loop-holds : tie.Need-loop-init invariant-loop decreases-loop
+loop-holds : tie.Need-loop-at-init invariant-loop decreases-loop
 loop-holds c = search rules
 
-end-of-requires : tie.Need-end-of-requires invariant-loop decreases-loop
+end-of-requires : tie.Need-end_of-end-requires invariant-loop decreases-loop
 end-of-requires c κs = search rules
 
-part-requires : tie.Need-part-requires invariant-loop decreases-loop
+part-requires : tie.Need-part-row-requires invariant-loop decreases-loop
 part-requires c κs = search rules
 
 word-requires : tie.Need-word-requires invariant-loop decreases-loop
 word-requires c κs = search rules
 
-is-word-requires : tie.Need-is-word-requires invariant-loop decreases-loop
+is-word-requires : tie.Need-is_word-requires invariant-loop decreases-loop
 is-word-requires c κs = search rules
 
-returns : tie.Need-returns invariant-loop decreases-loop
+returns : tie.Need-returns-then-is_word invariant-loop decreases-loop
 returns c = search rules
 
-add_at : tie.Need-overflow-add-at invariant-loop decreases-loop
+add_at : tie.Need-overflow_add-at invariant-loop decreases-loop
 add_at c = search rules
 
-loop-less : tie.Need-loop-smaller invariant-loop decreases-loop
+loop-less : tie.Need-loop-at-smaller invariant-loop decreases-loop
 loop-less c = search rules
 
-loop-again : tie.Need-loop-preserved invariant-loop decreases-loop
+loop-again : tie.Need-loop-at-preserved invariant-loop decreases-loop
 loop-again c = search rules
 
-part-requires-2 : tie.Need-part-requires-2 invariant-loop decreases-loop
+part-requires-2 : tie.Need-part-requires invariant-loop decreases-loop
 part-requires-2 c κs = search rules
 
-returns-2 : tie.Need-returns-2 invariant-loop decreases-loop
+returns-2 : tie.Need-returns invariant-loop decreases-loop
 returns-2 c = search rules
 
-pub row-for-spec : {M : Type 1} → statement M
-row-for-spec =
+pub row_for_spec : {M : Type 1} → statement M
+row_for_spec =
     tie.close
     (tie.spec
     invariant-loop

@@ -3,7 +3,7 @@ use Rattle.std.proofs.Common.{sym, length-take-le, rules}
 use Rattle.bench.proofs.show.show_name.Statement.{statement}
 use Rattle.bench.proofs.show.show_name.Tie as tie
 
-slice-aggregate-write : tie.Need-slice-aggregate-write
+slice-aggregate-write : tie.Need-slice_bounds-write-end
 slice-aggregate-write c = search rules
 
 write-requires : tie.Need-write-requires
@@ -12,20 +12,20 @@ write-requires c κs = search rules
 least-requires : tie.Need-least-requires
 least-requires c κs = search rules
 
-array-share-prefix-bytes : tie.Need-array-share-prefix-bytes
+array-share-prefix-bytes : tie.Need-slice_bounds-bytes-end
 array-share-prefix-bytes c = search rules
 
-slice-aggregate-write-all : tie.Need-slice-aggregate-write-all
+slice-aggregate-write-all : tie.Need-slice_bounds-write_all-end
 slice-aggregate-write-all c = sym (length-take-le _ _ (search rules))
 
-write-all-requires : tie.Need-write-all-requires
+write-all-requires : tie.Need-write_all-requires
 write-all-requires c κs = search rules
 
 returns : tie.Need-returns
 returns c = search rules
 
-pub show-name-spec : {M : Type 1} → statement M
-show-name-spec =
+pub show_name_spec : {M : Type 1} → statement M
+show_name_spec =
     tie.close
     (tie.spec
     slice-aggregate-write

@@ -15,55 +15,50 @@ module _ (n many first more : ℕ) (e : many ≡ min n 131072) (p : first ≤ ma
   controls-within : (xs : List Float) → length xs ≡ 131072 → first ≤ length (take (first + more) xs)
   controls-within xs long = omega (arith, within xs long, length-take (first + more) xs)
 
-slice-aggregate-numbers : tie.Need-slice-aggregate-numbers
+slice-aggregate-numbers : tie.Need-slice_bounds-numbers-end
 slice-aggregate-numbers c = search rules
 
 numbers-requires : tie.Need-numbers-requires
 numbers-requires c κs = search rules
 
-least-requires : tie.Need-least-requires
+least-requires : tie.Need-least-many-requires
 least-requires c κs = search rules
 
-fewer-requires : tie.Need-fewer-requires
+fewer-requires : tie.Need-fewer-first-requires
 fewer-requires c κs = search rules
 
-sub-fewer : tie.Need-overflow-sub-fewer
+sub-fewer : tie.Need-overflow_sub-many
 sub-fewer c = search rules
 
-fewer-requires-2 : tie.Need-fewer-requires-2
+fewer-requires-2 : tie.Need-fewer-requires
 fewer-requires-2 c κs = search rules
 
-add-end : tie.Need-overflow-add-end
-add-end c = let fits = few _ _ _ _ c.before.before.least.ensures c.before.fewer.ensures c.fewer2.ensures in omega (arith, fits)
+add-end : tie.Need-overflow_add-end
+add-end c = let fits = few _ _ _ _ c.least-many.ensures c.fewer-first.ensures c.fewer.ensures in omega (arith, fits)
 
-array-share-prefix-given : tie.Need-array-share-prefix-given
+array-share-prefix-given : tie.Need-slice_bounds-given-end
 array-share-prefix-given c =
-    let read = c.before.before.before.before in
-    within _ _ _ _ c.before.before.least.ensures c.before.fewer.ensures c.fewer2.ensures
-    read.numbers.new.1.1.0 (read.numbers.auto.1.1.0 ∙ search rules)
+    within _ _ _ _ c.least-many.ensures c.fewer-first.ensures c.fewer.ensures
+    c.numbers.new.out (c.numbers.auto.out ∙ search rules)
 
-slice-aggregate-add : tie.Need-slice-aggregate-add
+slice-aggregate-add : tie.Need-slice_bounds-add-end
 slice-aggregate-add c =
-    let at = c.before in
-    let read = at.before.before.before.before in
-    sym (length-take-le _ _ (within _ _ _ _ at.before.before.least.ensures at.before.fewer.ensures at.fewer2.ensures
-    read.numbers.new.1.1.0 (read.numbers.auto.1.1.0 ∙ search rules)))
+    sym (length-take-le _ _ (within _ _ _ _ c.least-many.ensures c.fewer-first.ensures c.fewer.ensures
+    c.numbers.new.out (c.numbers.auto.out ∙ search rules)))
 
 add-requires : tie.Need-add-requires
 add-requires c κs =
-    let at = c.before.before in
-    let read = at.before.before.before.before in
-    controls-within _ _ _ _ at.before.before.least.ensures at.before.fewer.ensures at.fewer2.ensures
-    read.numbers.new.1.1.0 (read.numbers.auto.1.1.0 ∙ search rules)
+    controls-within _ _ _ _ c.least-many.ensures c.fewer-first.ensures c.fewer.ensures
+    c.numbers.new.out (c.numbers.auto.out ∙ search rules)
 
-same_length : tie.Need-same-length
+same_length : tie.Need-shape_of-splines
 same_length c = search rules
 
 returns : tie.Need-returns
 returns c = search rules
 
-pub spline-spec : {M : Type 1} → statement M
-spline-spec =
+pub spline_spec : {M : Type 1} → statement M
+spline_spec =
     tie.close
     (tie.spec
     slice-aggregate-numbers

@@ -3,28 +3,28 @@ use Rattle.std.proofs.Common.{sym, length-take-le, rules}
 use Rattle.bench.proofs.steps.step.Statement.{statement}
 use Rattle.bench.proofs.steps.step.Tie as tie
 
-slice-aggregate-numbers : tie.Need-slice-aggregate-numbers
+slice-aggregate-numbers : tie.Need-slice_bounds-numbers-end
 slice-aggregate-numbers c = search rules
 
 numbers-requires : tie.Need-numbers-requires
 numbers-requires c κs = search rules
 
-least-requires : tie.Need-least-requires
+least-requires : tie.Need-least-n-requires
 least-requires c κs = search rules
 
-array-share-prefix-given : tie.Need-array-share-prefix-given
+array-share-prefix-given : tie.Need-slice_bounds-given-end
 array-share-prefix-given c = search rules
 
-slice-aggregate-stepped : tie.Need-slice-aggregate-stepped
+slice-aggregate-stepped : tie.Need-slice_bounds-stepped-end
 slice-aggregate-stepped c = sym (length-take-le _ _ (search rules))
 
 stepped-requires : tie.Need-stepped-requires
 stepped-requires c κs = search rules
 
-same_length : tie.Need-same-length
+same_length : tie.Need-shape_of-i
 same_length c = search rules
 
-same-length-2 : tie.Need-same-length-2
+same-length-2 : tie.Need-shape_of-q
 same-length-2 c = search rules
 
 returns : tie.Need-returns
