@@ -53,7 +53,7 @@ pub rem_value : (x : Float) → T (fits binary64 x) → T (finite x) → Units (
 rem_value x f t = rem-exact x TAU f t tau_fits tau_finite tau_some
 
 -- below TAU it is x
-rem-own : (x : Float) → T (fits binary64 x) → T (finite x) → units_of x < units_of TAU → x ≡ rem binary64 x TAU
+pub rem-own : (x : Float) → T (fits binary64 x) → T (finite x) → units_of x < units_of TAU → x ≡ rem binary64 x TAU
 rem-own x f t h =
     unique x (rem binary64 x TAU) (sign_of x) (units_of x) (2 ^ 1074) (pow_pos 1074) f (rem-fits binary64 x TAU f) (own x f t)
     (rw (mod-eq_of_lt h) at (rem_value x f t))

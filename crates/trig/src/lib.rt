@@ -1,8 +1,11 @@
 // Cosine and sine of any double: the angle is reduced by TAU, every step of it exact, and Horner's rule runs in one fixed order of operations.
 #![tactic(auto)]
 
-ghost use Rattle.std.specs.Prelude.{◌≡◌};
-ghost use Rattle.trig.specs.Reduce.{wrapped, reduced, Far, Inside};
+ghost use Rattle.std.specs.Prelude.{◌≡◌, ◌<◌, false};
+ghost use Rattle.std.specs.Float.{binary64};
+ghost use Rattle.std.specs.Float.Ieee.{rem};
+ghost use Rattle.exact.specs.Value.{Units, units_of};
+ghost use Rattle.trig.specs.Reduce.{TAU, wrapped, reduced, Far, Inside};
 ghost use Rattle.trig.specs.Trig.{cosine_at, sine_at, cosine_of, sine_of, Both};
 
 // 0x401921FB54442D18
@@ -29,13 +32,18 @@ const BOTTOM: f64 = 6755399438958592.0;
 // MIDDLE + 2^21
 const TOP: f64 = 6755399443152896.0;
 
+const INFINITY: f64 = f64::INFINITY;
+
+// 2^1023, half of what no double reaches: 0x7FE0000000000000
+const HALF: f64 = 8.98846567431158e307;
+
 #[derive(Clone, Copy)]
 pub struct Pair {
     pub cos: f64,
     pub sin: f64,
 }
 
-// The angle less a whole multiple of TAU, at most PI in size. The division is left for what two products do not settle: angles beside an
+// The angle less a whole multiple of TAU, at most PI in size. The remainder is left for what two products do not settle: angles beside an
 // odd multiple of PI, multiples of TAU, and those of 2^21 turns or more.
 pub fn reduce(x: f64) -> f64
     ensures { result ≡ reduced x }
@@ -53,7 +61,7 @@ pub fn reduce(x: f64) -> f64
             }
         }
     }
-    wrap(x % TAU)
+    wrap(remainder(x))
 }
 
 pub fn cosine(x: f64) -> f64
@@ -98,6 +106,43 @@ fn turned(x: f64) -> f64
         }
     }
     0.0
+}
+
+// x less whole multiples of TAU, with the sign of x, by subtractions alone. (The operator would call the C library's `fmod`.)
+fn remainder(x: f64) -> f64
+    ensures { result ≡ rem binary64 x TAU }
+{
+    if x < INFINITY {
+        if x > -INFINITY {
+            if x > 0.0 {
+                return taken(x, TAU);
+            }
+            if x < 0.0 {
+                return -taken(-x, TAU);
+            }
+            return x;
+        }
+    }
+    x - x
+}
+
+// r less as many d as it holds: as many 2 d first, and then one d or none. Every step is exact.
+fn taken(r: f64, d: f64) -> f64
+    requires above { Units r false (units_of r) }
+    requires divisor { Units d false (units_of d) × (0 < units_of d) }
+    ensures { result ≡ rem binary64 r d }
+{
+    if r < d {
+        return r;
+    }
+    if d < HALF {
+        let rest = taken(r, d + d);
+        if rest < d {
+            return rest;
+        }
+        return rest - d;
+    }
+    r - d
 }
 
 // Above PI less TAU, below -PI plus TAU.
