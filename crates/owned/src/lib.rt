@@ -1,4 +1,4 @@
-// The command call for a caller that owns its arrays: they come and go by value, so that such a caller is covered.
+// The command call for a caller that owns its arrays: they come and go by value.
 #![tactic(auto)]
 
 ghost use Rattle.std.specs.Prelude.{◌≡◌};

@@ -1,4 +1,4 @@
-// The sampling call for a caller that owns its pulses: they come by value, so that such a caller is covered.
+// The sampling call for a caller that owns its pulses: they come by value.
 #![tactic(auto)]
 
 ghost use Rattle.std.specs.Prelude.{◌≡◌};

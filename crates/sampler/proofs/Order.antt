@@ -109,7 +109,7 @@ module _ (t : Tables) (r : Request) (c : Crosstalk) (factors : List Float) (bins
   unfolding sampled prepared_of
   in_order = by_flags (is_rate r.rate.0 && finite (div binary64 one r.rate.0) && finite r.delay.0 && is_level r.level)
 
-  -- what the walk has at its two ends, where `prepare` answered p
+  -- what `sample` leaves at its two ends, where `prepare` answered p
   module _ (p : Prepared) (is : p ≡ prepared) where
     by_answer : sampled_by t r bins pulses st work marks p ≡ sampled t r c factors bins pulses st work marks
     by_answer = ap (sampled_by t r bins pulses st work marks) is ∙ in_order

@@ -1,7 +1,12 @@
 -- What each call that is tried comes to, by computation over the definitions that the calls promise. Assumes nothing.
-use mathlib.Core.Path.{◌≡◌, refl}
-use mathlib.Core.List.{[], ◌∷◌}
-use lib.Ieee.{add, sub, mul, div, rem, neg, lt, eq, le, sum, round, of_bits, of_int}
+use mathlib.Core.Path.{◌≡◌, refl, sym, ap, ◌∙◌}
+use mathlib.Core.Bool.{true}
+use mathlib.Core.List.{List, [], ◌∷◌}
+use borrow.Author.Tests.{eqb-true}
+use lib.Dec.{T, eqb}
+use lib.ListN.{get_or}
+use lib.Ieee.Bits.{of_bits-to_bits}
+use lib.Ieee.{Float, nan, binary64, to_bits, fits, add, sub, mul, div, rem, neg, lt, eq, le, sum, round, of_bits, of_int}
 use Rattle.ieee.specs.Ceiling.{ceiling}
 use Rattle.ieee.specs.Cut.{cut_of}
 use Rattle.ieee.specs.Exp2.{exp2_of}
@@ -61,9 +66,35 @@ pub record All : Type 0 where
   pub each : (t : Trial) → Tried (try_of t)
   pub first : TriedFirst
 
+-- the first pulse alone, of two: one sample, and its bits are those of 1. Of a program that samples both they are those of 2.
+abbrev left-one : List Float
+left-one = (first_pulse (sampling_of two-pulses)).i
+
+one-sample : left-one ≡ get_or left-one 0 nan ∷ []
+unfolding outcome add sub mul div rem neg lt eq le sum round of_bits of_int ceiling cut_of exp2_of fma wrapped reduced horner cosine_at sine_at cosine_of sine_of all_finite name_byte every low_bytes bytes_of_word sixteen bytes_of past_end is_name same_name corrected_row mixer_fits ran sections_from a0s_from given pipelined turns tap_at sum_to filtered_from points not_falling is_spline in_domain span_to blend_of fine_step d_at fine_at spline-row.row_of whole_of spline_at spline_fine value_in fine_in envelope_at point_fine values all_fine index_at parted_of shape_of finite_points fine_points hann_of same_numbers same_row place_of envelope_of phase0 dphase start_pair rotation_pair phase_numbers judged found_from shape_from settled settled_shape kept_from summed_by joined joined_two packed zipped all_names names_judged row_from part_of parts_at planned on_part carried shaped of_mark all_rows firsts_after good required run.acted run.ran ran_pulses ran_bins sampled dues_of all_dues with_all
+one-sample = refl
+
+one_left : eqb (to_bits binary64 (get_or left-one 0 nan)) 0x3ff0_0000_0000_0000 ≡ true
+unfolding outcome add sub mul div rem neg lt eq le sum round of_bits of_int ceiling cut_of exp2_of fma wrapped reduced horner cosine_at sine_at cosine_of sine_of all_finite name_byte every low_bytes bytes_of_word sixteen bytes_of past_end is_name same_name corrected_row mixer_fits ran sections_from a0s_from given pipelined turns tap_at sum_to filtered_from points not_falling is_spline in_domain span_to blend_of fine_step d_at fine_at spline-row.row_of whole_of spline_at spline_fine value_in fine_in envelope_at point_fine values all_fine index_at parted_of shape_of finite_points fine_points hann_of same_numbers same_row place_of envelope_of phase0 dphase start_pair rotation_pair phase_numbers judged found_from shape_from settled settled_shape kept_from summed_by joined joined_two packed zipped all_names names_judged row_from part_of parts_at planned on_part carried shaped of_mark all_rows firsts_after good required run.acted run.ran ran_pulses ran_bins sampled dues_of all_dues with_all to_bits
+one_left = refl
+
+fits-one : T (fits binary64 (get_or left-one 0 nan))
+unfolding outcome add sub mul div rem neg lt eq le sum round of_bits of_int ceiling cut_of exp2_of fma wrapped reduced horner cosine_at sine_at cosine_of sine_of all_finite name_byte every low_bytes bytes_of_word sixteen bytes_of past_end is_name same_name corrected_row mixer_fits ran sections_from a0s_from given pipelined turns tap_at sum_to filtered_from points not_falling is_spline in_domain span_to blend_of fine_step d_at fine_at spline-row.row_of whole_of spline_at spline_fine value_in fine_in envelope_at point_fine values all_fine index_at parted_of shape_of finite_points fine_points hann_of same_numbers same_row place_of envelope_of phase0 dphase start_pair rotation_pair phase_numbers judged found_from shape_from settled settled_shape kept_from summed_by joined joined_two packed zipped all_names names_judged row_from part_of parts_at planned on_part carried shaped of_mark all_rows firsts_after good required run.acted run.ran ran_pulses ran_bins sampled dues_of all_dues with_all fits
+fits-one = tt
+
+one-is : of_bits binary64 0x3ff0_0000_0000_0000 ≡ whole 1
+unfolding of_bits of_int round
+one-is = refl
+
+pulse-first : left-one ≡ whole 1 ∷ []
+pulse-first =
+    one-sample
+    ∙ ap (λ (x : Float). x ∷ [])
+    (sym (of_bits-to_bits binary64 (get_or left-one 0 nan) fits-one) ∙ ap (of_bits binary64) (eqb-true (to_bits binary64 (get_or left-one 0 nan)) 0x3ff0_0000_0000_0000 one_left) ∙ one-is)
+
 pub tried : All
 unfolding outcome add sub mul div rem neg lt eq le sum round of_bits of_int ceiling cut_of exp2_of fma wrapped reduced horner cosine_at sine_at cosine_of sine_of all_finite name_byte every low_bytes bytes_of_word sixteen bytes_of past_end is_name same_name corrected_row mixer_fits ran sections_from a0s_from given pipelined turns tap_at sum_to filtered_from points not_falling is_spline in_domain span_to blend_of fine_step d_at fine_at spline-row.row_of whole_of spline_at spline_fine value_in fine_in envelope_at point_fine values all_fine index_at parted_of shape_of finite_points fine_points hann_of same_numbers same_row place_of envelope_of phase0 dphase start_pair rotation_pair phase_numbers judged found_from shape_from settled settled_shape kept_from summed_by joined joined_two packed zipped all_names names_judged row_from part_of parts_at planned on_part carried shaped of_mark all_rows firsts_after good required run.acted run.ran ran_pulses ran_bins sampled dues_of all_dues with_all
-tried = record { each = each; first = record { pulse = refl; bin = refl } }
+tried = record { each = each; first = record { pulse = pulse-first; bin = refl } }
   where
     each : (t : Trial) → Tried (try_of t)
     each (ones plateau) = record { answer = refl; i = refl; q = refl }

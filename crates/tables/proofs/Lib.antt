@@ -1,4 +1,3 @@
 pub mod Sizes
 pub mod Finding
 pub mod Laws
-pub mod Walked

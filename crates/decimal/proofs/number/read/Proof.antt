@@ -1,4 +1,4 @@
--- `decimal::number::read` meets its contract. By the length, and then by what `hex` read. Assumes nothing.
+-- `decimal::number::read` meets its contract. By the length, and then by what `hexadecimal` read. Assumes nothing.
 use mathlib.Core.Path.{sym, ap, ◌∙◌}
 use borrow.Author.Tests.{eq-eqb, ne_eqb}
 use lib.ListN.{length}
