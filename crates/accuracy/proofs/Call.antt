@@ -1,6 +1,9 @@
 -- DEMAND 3. A sampling call that added exactly one pulse, of no shape, onto rows of zeros of either sign: sample k of the pulse lies within
 -- (k + 1) 2 ^ -49 m of the exact product, in I and, with two rows, in Q, and all other samples stay what they were. Nothing is assumed but the
 -- mission's bounds: that the numbers are doubles and finite follows from the call. Assumes nothing.
+use Rattle.quant.specs.Aligned.{starts_at}
+use Rattle.quant.specs.declared.refusal.Refusal.{Refusal}
+use Rattle.std.specs.Prelude.{Some, Result, Ok, Err}
 use Prim.Native.Nat.{ℕ, ◌+◌, ◌≤◌, ◌<◌}
 use native.Mathlib.Omega.{arith}
 use mathlib.Core.Path.{◌≡◌, refl, sym, ap, subst, ◌∙◌}
@@ -8,15 +11,12 @@ use mathlib.Core.Bool.{Bool, true, false, ◌&&◌, cond, true≢false}
 use mathlib.Core.List.{List, [], ◌∷◌}
 use lib.Dec.{T, leb, eqb}
 use borrow.Author.Tests.{leb-true, eqb-true}
-use lib.Ieee.{Float, nan, binary64, fits}
+use lib.Ieee.{Float, nan, binary64}
 use lib.Ieee.Fits.{mul-fits}
 use lib.Ieee.Scale.{finite}
 use lib.ListN.{length, get_or}
 use Rattle.exact.proofs.Truth.{both}
-use Rattle.quant.specs.declared.aligned.Placed.TheVariants.{Start}
 use Rattle.quant.specs.declared.complex.Complex.{Complex}
-use Rattle.quant.specs.declared.phaser.Phased.TheVariants.{Pair}
-use Rattle.quant.specs.declared.refusal.Answer.TheVariants.{Done}
 use Rattle.quant.specs.declared.settings.Settings.{Settings}
 use Rattle.quant.specs.Complex.{times_c}
 use Rattle.quant.specs.Phaser.{radians_of, pair_at, phased, phased_of}
@@ -31,14 +31,14 @@ use Rattle.tables.specs.declared.Tables.{Tables}
 use Rattle.merge.specs.Taking.{Part, parts_in}
 use Rattle.merge.proofs.Scaled.{Fitting, AllFitting}
 use Rattle.crosstalk.specs.declared.names.Crosstalk.{Crosstalk}
-use Rattle.crosstalk.specs.Crosstalk.{planned}
+use Rattle.crosstalk.specs.Crosstalk.{planned, taking_of}
 use Rattle.mix.specs.Part.{part_fits, on_part}
 use Rattle.mix.specs.Plateau.{carried, real, imaginary}
 use Rattle.mix.proofs.Parts.{fits_one, fits-two}
 use Rattle.mix.proofs.Samples.{plateau-before, plateau-behind}
 use Rattle.placing.specs.declared.Flat.{Flat}
 use Rattle.placing.specs.declared.Judged.{Judged}
-use Rattle.placing.specs.declared.Judged.TheVariants.{Plateau, Shaped, Refused}
+use Rattle.placing.specs.declared.Judged.TheVariants.{Plateau, Shaped}
 use Rattle.placing.specs.Phases.{phase0, dphase, start_pair, rotation_pair}
 use Rattle.placing.specs.Judged.{placed_at, judged, count_of, weight_numbers}
 use Rattle.placing.proofs.Accepted.{HeldFlat, flat-held, curved-held}
@@ -61,25 +61,25 @@ use Rattle.accuracy.proofs.Samples.{real-near, imaginary-near}
 pub true_is : (b : Bool) → b ≡ true → T b
 true_is b e = subst T (sym e) tt
 
-finite-pair : (p : Float) (z : Complex) → phased_of p ≡ Pair z → finite (radians_of p) ≡ true
+finite-pair : (p : Float) (z : Complex) → phased_of p ≡ Some z → finite (radians_of p) ≡ true
 finite-pair p z e = go (finite (radians_of p)) e
   where
-    go : (b : Bool) → phased b (radians_of p) ≡ Pair z → b ≡ true
+    go : (b : Bool) → phased b (radians_of p) ≡ Some z → b ≡ true
     go true f = refl
     go false f = let w : ◌≡◌ {A = ℕ} 0 1 = cc in absurd (omega arith)
 
-pair_held : (p : Float) (z : Complex) → phased_of p ≡ Pair z → Held (pair_at (radians_of p))
+pair_held : (p : Float) (z : Complex) → phased_of p ≡ Some z → Held (pair_at (radians_of p))
 pair_held p z e =
     let x = radians_of p in
     let there = mul-fits binary64 p TAU in
     let ok = true_is (finite x) (finite-pair p z e) in
     record { re-fits = cosine-fits x; im-fits = sine-fits x; re-finite = cosine-finite x there ok; im-finite = sine-finite x there ok }
 
-start-held : (s : Settings) (b : Bin) (start : ℕ) (offset : Float) (z : Complex) → phased_of (phase0 s b start offset) ≡ Pair z → Held (start_pair s b start offset)
+start-held : (s : Settings) (b : Bin) (start : ℕ) (offset : Float) (z : Complex) → phased_of (phase0 s b start offset) ≡ Some z → Held (start_pair s b start offset)
 unfolding start_pair
 start-held s b start offset z e = pair_held (phase0 s b start offset) z e
 
-rotation-held : (s : Settings) (b : Bin) (z : Complex) → phased_of (dphase s b) ≡ Pair z → Held (rotation_pair s b)
+rotation-held : (s : Settings) (b : Bin) (z : Complex) → phased_of (dphase s b) ≡ Some z → Held (rotation_pair s b)
 unfolding rotation_pair
 rotation-held s b z e = pair_held (dphase s b) z e
 
@@ -106,7 +106,7 @@ kind rows i q e =
     go false f false g h k = absurd (true≢false (sym k))
 
 -- ---- a pulse without a shape, alone on rows of zeros
-module _ (s : Settings) (b : Bin) (numbers : List Float) (p : Pulse) (rows len : ℕ) (st after : Rowed) (f : Flat) (held : HeldFlat s b p (length st.i) f) (z : Zeros rows len st) (sized : rows_fit rows (length st.i) (length st.q) ≡ true) (is : after ≡ added_to s b numbers rows (Plateau f) st) (fitting : Fitting p) where
+module _ (s : Settings) (b : Bin) (numbers : List Float) (p : Pulse) (rows len : ℕ) (st after : Rowed) (f : Flat) (held : HeldFlat s b p (length st.i) f) (z : Zeros rows len st) (sized : rows_fit rows (length st.i) (length st.q) ≡ true) (is : after ≡ added_to s b numbers rows (Ok (Plateau f)) st) (fitting : Fitting p) where
   abbrev it : AsSampled
   it = record { settings = s; bin = b; pulse = p; start = f.start; offset = held.offset }
 
@@ -191,45 +191,45 @@ module _ (t : Tables) (r : Request) (c : Crosstalk) (factors : List Float) (bins
   result = sampled t r c factors bins pulses st work marks
 
   abbrev parts : List Part
-  parts = parts_in (planned t r.channel c factors).taking
+  parts = parts_in (taking_of (planned t r.channel c factors))
 
-  module _ (z : Zeros r.rows len st) (a : Accepted t r c factors bins pulses st work marks) (told : (ran_bins a.settings r.rows (merged_of t bins pulses parts) (bins_by t bins parts) 0 st).answer ≡ Done 1) (x : One a.settings r.rows (merged_of t bins pulses parts) (bins_by t bins parts) st result.rows) where
+  module _ (z : Zeros r.rows len st) (a : Accepted t r c factors bins pulses st work marks) (told : (ran_bins a.settings r.rows (merged_of t bins pulses parts) (bins_by t bins parts) 0 st).answer ≡ Ok 1) (x : One a.settings r.rows (merged_of t bins pulses parts) (bins_by t bins parts) st result.rows) where
     abbrev its-bin : Bin
     its-bin = bin_of x.row
 
     abbrev its-numbers : List Float
     its-numbers = numbers_of x.row
 
-    abbrev verdict : Judged
+    abbrev verdict : Result Judged Refusal
     verdict = judged a.settings its-bin its-numbers x.pulse (length st.i)
 
     fitting : Fitting x.pulse
     fitting = (subst AllFitting x.only (all-merged t bins pulses parts x.row)).0
 
-    left_is : (d : Judged) → verdict ≡ d → result.rows ≡ added_to a.settings its-bin its-numbers r.rows d st
-    left_is d e = x.alone.left ∙ ap (λ (j : Judged). added_to a.settings its-bin its-numbers r.rows j st) e
+    left_is : (d : Result Judged Refusal) → verdict ≡ d → result.rows ≡ added_to a.settings its-bin its-numbers r.rows d st
+    left_is d e = x.alone.left ∙ ap (λ (j : Result Judged Refusal). added_to a.settings its-bin its-numbers r.rows j st) e
 
     -- the pulse that was added, by its start and its offset
     abbrev as_it : ℕ → Float → AsSampled
     as_it start offset = record { settings = a.settings; bin = its-bin; pulse = x.pulse; start = start; offset = offset }
 
-    only-it : (start : ℕ) (offset : Float) → placed_at a.settings x.pulse ≡ Start start offset → Only t r c factors bins pulses (as_it start offset)
-    only-it start offset e = record { fit = a.fit; row = x.row; place = x.place; within = x.within; there = x.there; its-bin = refl; only = x.only; placed = e }
+    only-it : (at : ℕ) (offset : Float) → placed_at a.settings x.pulse ≡ starts_at at offset → Only t r c factors bins pulses (as_it at offset)
+    only-it at offset e = record { fit = a.fit; row = x.row; place = x.place; within = x.within; there = x.there; its-bin = refl; only = x.only; placed = e }
 
     alone : (y : AsSampled) → Only t r c factors bins pulses y → (x : AsSampled) → Only t r c factors bins pulses x → x ≡ y
     alone y u x o = only_one t r c factors bins pulses a.settings st told x y o u
 
-    by-verdict : (d : Judged) → verdict ≡ d → OneNear t r c factors bins pulses len st result.rows
-    by-verdict (Plateau f) e =
+    by-verdict : (d : Result Judged Refusal) → verdict ≡ d → OneNear t r c factors bins pulses len st result.rows
+    by-verdict (Ok (Plateau f)) e =
         let h = flat-held a.settings its-bin its-numbers x.pulse (length st.i) f e in
         let sized = (fitting-sizes r.rows (length st.i) (length st.q) (length st.scratch) (length bins) (length pulses) (length work) (length marks) a.sizes).its-rows in
         record {
           one = as_it f.start h.offset;
           only = only-it f.start h.offset h.placed;
           alone = alone (as_it f.start h.offset) (only-it f.start h.offset h.placed);
-          near = λ plain bounded. flat_near a.settings its-bin its-numbers x.pulse r.rows len st result.rows f h z sized (left_is (Plateau f) e) fitting bounded;
+          near = λ plain bounded. flat_near a.settings its-bin its-numbers x.pulse r.rows len st result.rows f h z sized (left_is (Ok (Plateau f)) e) fitting bounded;
         }
-    by-verdict (Shaped k) e =
+    by-verdict (Ok (Shaped k)) e =
         let h = curved-held a.settings its-bin its-numbers x.pulse (length st.i) k e in
         record {
           one = as_it k.start k.offset;
@@ -237,15 +237,15 @@ module _ (t : Tables) (r : Request) (c : Crosstalk) (factors : List Float) (bins
           alone = alone (as_it k.start k.offset) (only-it k.start k.offset h.placed);
           near = λ plain bounded. absurd (true≢false (sym h.shape ∙ ap is_shaped plain));
         }
-    by-verdict (Refused why) e = absurd (true≢false (sym x.alone.taken ∙ ap accepted e))
+    by-verdict (Err why) e = absurd (true≢false (sym x.alone.taken ∙ ap accepted e))
 
-  pub plateau-near : Zeros r.rows len st → (sampled t r c factors bins pulses st work marks).answer ≡ Done 1 → OneNear t r c factors bins pulses len st (sampled t r c factors bins pulses st work marks).rows
+  pub plateau-near : Zeros r.rows len st → (sampled t r c factors bins pulses st work marks).answer ≡ Ok 1 → OneNear t r c factors bins pulses len st (sampled t r c factors bins pulses st work marks).rows
   plateau-near z done =
       let a = call-done t r c factors bins pulses st work marks 1 done in
       let merged = merged_of t bins pulses parts in
       let rs = bins_by t bins parts in
       let o = ran_bins a.settings r.rows merged rs 0 st in
-      let told : o.answer ≡ Done 1 = sym (ap (λ (l : Left). l.answer) a.is) ∙ done in
+      let told : o.answer ≡ Ok 1 = sym (ap (λ (l : Left). l.answer) a.is) ∙ done in
       let rows_are : o.left ≡ result.rows = sym (ap (λ (l : Left). l.rows) a.is) in
       let x = subst (λ (y : Rowed). One a.settings r.rows merged rs st y) rows_are (one-added a.settings r.rows merged rs 0 st told) in
       by-verdict z a told x (verdict z a told x) refl

@@ -1,7 +1,7 @@
 -- THE ERROR OF THE CARRIER. Each computed carrier, k up to 65,535, is finite and lies within (k + 1) 2 ^ -49 m of the exact one, in each part: k + 1
 -- products have been taken, and each adds an error below 2 ^ -50 m. The induction carries the square of the error. Assumes nothing.
 use mathlib.Core.Path.{◌≡◌, refl, sym, ap, ◌∙◌, subst}
-use Prim.Native.Nat.{ℕ, zero, suc, ◌+◌, ◌-◌, ◌*◌, ◌^◌, ◌≤◌, ◌<◌}
+use Prim.Native.Nat.{ℕ, zero, suc, ◌+◌, ◌-◌, ◌*◌, ◌^◌, ◌≤◌}
 use native.Mathlib.Nat.{le_refl, le_trans, le_of_eq, le-suc, le-add_left, le-add_right, add-le-add, add-mul, mul-add, mul-one, one-mul, mul_comm, mul-mul-mul_comm, mul-le-mul, mul-le-mul_left, mul-le-mul_right, le_of_mul-le-mul_left, pow-suc, pow-zero}
 use native.Mathlib.Omega.{arith}
 use lib.Dec.{lit≤, lit<}

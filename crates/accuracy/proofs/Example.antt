@@ -1,4 +1,6 @@
 -- A call that meets every premise of `plateau-near`, by computation, and so has its pulse near the exact product. Assumes nothing.
+use Rattle.quant.specs.Aligned.{starts_at}
+use Rattle.std.specs.Prelude.{Some, Ok}
 use Prim.Native.Nat.{ℕ, zero, suc, ◌<◌}
 use native.Mathlib.Nat.{le_of_suc-le-suc, not-suc-le-zero, not-le_of_lt}
 use native.Mathlib.Omega.{arith}
@@ -16,9 +18,6 @@ use Rattle.trig.specs.Reduce.{wrapped, reduced}
 use Rattle.trig.specs.Trig.{horner, cosine_at, sine_at, cosine_of, sine_of}
 use Rattle.rows.specs.Rows.{all_finite}
 use Rattle.naming.specs.Name.{name_byte, every, low_bytes, bytes_of_word, sixteen, bytes_of, past_end, is_name, same_name}
-use Rattle.quant.specs.declared.aligned.Placed.TheVariants.{Start}
-use Rattle.quant.specs.declared.refusal.Answer.TheVariants.{Done}
-use Rattle.quant.specs.declared.settings.Fitting.TheVariants.{Fit}
 use Rattle.quant.specs.Settings.{fitting_of}
 use Rattle.shape.specs.Parts.{index_at}
 use Rattle.spline.specs.Same.{same_numbers}
@@ -28,7 +27,7 @@ use Rattle.tables.specs.Tables.{found_from}
 use Rattle.merge.specs.Sum.{kept_from, summed_by}
 use Rattle.merge.specs.Join.{joined, joined_two}
 use Rattle.merge.specs.Taking.{parts_in, packed, zipped}
-use Rattle.crosstalk.specs.Crosstalk.{all_names, names_judged, row_from, part_of, parts_at, planned}
+use Rattle.crosstalk.specs.Crosstalk.{all_names, names_judged, row_from, part_of, parts_at, planned, taking_of}
 use Rattle.mix.specs.Part.{on_part}
 use Rattle.mix.specs.Plateau.{carried}
 use Rattle.placing.specs.Phases.{phase0, dphase, start_pair, rotation_pair, phase_numbers}
@@ -44,11 +43,11 @@ use Rattle.accuracy.proofs.Call.{plateau-near}
 
 -- ---- by computation
 record Computed : Type 0 where
-  done : left.answer ≡ Done 1
-  fit : fitting_of request.rate request.delay request.level ≡ Fit the_one.settings
-  bin : bins_by tables bins (parts_in (planned tables request.channel cross []).taking) ≡ row ∷ []
-  merged : merged_of tables bins pulses (parts_in (planned tables request.channel cross []).taking) row ≡ pulse ∷ []
-  placed : placed_at the_one.settings pulse ≡ Start 1 nought
+  done : left.answer ≡ Ok 1
+  fit : fitting_of request.rate request.delay request.level ≡ Some the_one.settings
+  bin : bins_by tables bins (parts_in (taking_of (planned tables request.channel cross []))) ≡ row ∷ []
+  merged : merged_of tables bins pulses (parts_in (taking_of (planned tables request.channel cross []))) row ≡ pulse ∷ []
+  placed : placed_at the_one.settings pulse ≡ starts_at 1 nought
   plain : the_one.bin.envelope.shape ≡ Plain
   bounded : Bounded (amp_of the_one) (start_of the_one) (rotation_of the_one)
   long : length_of the_one ≡ 3

@@ -1,7 +1,7 @@
 -- What three roundings cost one part of a complex product: the exact part is a sum of two products, n and m in size, and the computed one is within
 -- 3 (n + m) / 2 ^ 53 of it, and 2 units more. In whole numbers of 2 ^ -2148. Assumes nothing.
 use mathlib.Core.Bool.{Bool, true, false}
-use Prim.Native.Nat.{ℕ, ◌+◌, ◌-◌, ◌*◌, ◌^◌, ◌≤◌, ◌<◌}
+use Prim.Native.Nat.{ℕ, ◌+◌, ◌*◌, ◌^◌, ◌≤◌, ◌<◌}
 use native.Mathlib.Nat.{le_of_mul-le-mul_right}
 use native.Mathlib.Omega.{arith}
 use lib.Dec.{lit≤}

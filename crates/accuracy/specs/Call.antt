@@ -1,11 +1,10 @@
 -- Demand 3, of the sampling call: "Take an accepted plateau pulse (no shape), sampled alone onto rows of zeros." Definitions only.
-use Rattle.std.specs.Prelude.{ℕ, ◌+◌, ◌^◌, ◌≤◌, ◌<◌, ◌≡◌, true, List, [], ◌∷◌, Float, length, get_or}
+use Rattle.quant.specs.Aligned.{starts_at}
+use Rattle.std.specs.Prelude.{ℕ, ◌+◌, ◌^◌, ◌≤◌, ◌<◌, ◌≡◌, true, List, [], ◌∷◌, Float, length, get_or, Some}
 use Rattle.std.specs.Float.{nan}
 use Rattle.std.specs.Float.Ieee.{eq}
 use Rattle.exact.specs.Doubles.{nought}
-use Rattle.quant.specs.declared.aligned.Placed.TheVariants.{Start}
 use Rattle.quant.specs.declared.complex.Complex.{Complex}
-use Rattle.quant.specs.declared.settings.Fitting.TheVariants.{Fit}
 use Rattle.quant.specs.declared.settings.Settings.{Settings}
 use Rattle.quant.specs.Settings.{fitting_of}
 use Rattle.pulse.specs.declared.bin.Bin.{Bin}
@@ -15,7 +14,7 @@ use Rattle.pulse.specs.Bin.{bin_of}
 use Rattle.tables.specs.declared.Tables.{Tables}
 use Rattle.merge.specs.Taking.{parts_in}
 use Rattle.crosstalk.specs.declared.names.Crosstalk.{Crosstalk}
-use Rattle.crosstalk.specs.Crosstalk.{planned}
+use Rattle.crosstalk.specs.Crosstalk.{planned, taking_of}
 use Rattle.placing.specs.Phases.{start_pair, rotation_pair}
 use Rattle.placing.specs.Judged.{placed_at, count_of}
 use Rattle.mixdown.specs.Bins.{bins_by, merged_of}
@@ -70,14 +69,14 @@ module _ (x : AsSampled) where
 
 -- x is the one pulse that a call added: its bin stands among the bins by first appearance, and after merging and crosstalk has no other pulse
 pub record Only (t : Tables) (r : Request) (c : Crosstalk) (factors : List Float) (bins : List (List Float)) (pulses : List Pulse) (x : AsSampled) : Type 0 where
-  pub fit : fitting_of r.rate r.delay r.level ≡ Fit x.settings
+  pub fit : fitting_of r.rate r.delay r.level ≡ Some x.settings
   pub row : List Float
   pub place : ℕ
-  pub within : place < length (bins_by t bins (parts_in (planned t r.channel c factors).taking))
-  pub there : get_or (bins_by t bins (parts_in (planned t r.channel c factors).taking)) place [] ≡ row
+  pub within : place < length (bins_by t bins (parts_in (taking_of (planned t r.channel c factors))))
+  pub there : get_or (bins_by t bins (parts_in (taking_of (planned t r.channel c factors)))) place [] ≡ row
   pub its-bin : x.bin ≡ bin_of row
-  pub only : merged_of t bins pulses (parts_in (planned t r.channel c factors).taking) row ≡ x.pulse ∷ []
-  pub placed : placed_at x.settings x.pulse ≡ Start x.start x.offset
+  pub only : merged_of t bins pulses (parts_in (taking_of (planned t r.channel c factors))) row ≡ x.pulse ∷ []
+  pub placed : placed_at x.settings x.pulse ≡ starts_at x.start x.offset
 
 -- "Then each sample k of the pulse, counted from its start and below its length, lies within (k+1)·2^-49·m of the exact product: amplitude times
 -- start times rotation to the power k, with the computed doubles read as exact fractions, in I and, with two rows, likewise in Q." Samples before

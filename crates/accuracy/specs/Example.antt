@@ -1,13 +1,12 @@
 -- A call that demand 3 speaks of: a channel `q` with one stored pulse of no shape, three samples long, that turns by an eighth each sample; no
 -- crosstalk; sampled at rate 1 onto two rows of five zeros, of both signs. Definitions only.
-use Rattle.std.specs.Prelude.{◌*◌, ◌^◌, ◌≡◌, false, List, [], ◌∷◌, ◌++◌, pos, Float, get_or, replicate}
+use Rattle.std.specs.Prelude.{◌*◌, ◌^◌, ◌≡◌, false, List, [], ◌∷◌, ◌++◌, pos, Float, get_or, replicate, Ok}
 use Rattle.std.specs.Float.{nan, binary64}
 use Rattle.std.specs.Float.Ieee.{of_bits}
 use Rattle.exact.specs.Doubles.{nought, one}
 use Rattle.exact.specs.Value.{value_of}
 use Rattle.exact.specs.Signed.{Apart, times}
 use Rattle.naming.specs.declared.Name.{Name}
-use Rattle.quant.specs.declared.refusal.Answer.TheVariants.{Done}
 use Rattle.pulse.specs.declared.envelope.Shape.TheVariants.{Plain}
 use Rattle.pulse.specs.declared.list.Pulse.{Pulse}
 use Rattle.pulse.specs.Bin.{no_numbers, bin_of}
@@ -99,7 +98,7 @@ Closer = Apart (times (2 ^ 53 * 2 ^ 1074) (value_of (get_or left.rows.i 1 nan)))
 -- ---- what holds of it: all that `plateau-near` asks for, and what follows. Its samples are not exact: of sample 0 a bound with 2^-53 is false.
 pub record Shown : Type 0 where
   pub zeros : Zeros 2 5 rows
-  pub done : left.answer ≡ Done 1
+  pub done : left.answer ≡ Ok 1
   pub only : Only tables request cross [] bins pulses the_one
   pub plain : the_one.bin.envelope.shape ≡ Plain
   pub bounded : Bounded (amp_of the_one) (start_of the_one) (rotation_of the_one)

@@ -1,9 +1,8 @@
 // What is wrong with a line that cannot be read.
 use super::say::{part, quote_value, row_for, say, word};
 use super::show::Reply;
-use decimal::digits::{Digits, place};
-use decimal::number::Number;
-use fields::value::{Called, Flag, Level, flag_in, level_in, name_in, number_in, whole_in};
+use decimal::digits::place;
+use fields::value::{flag_in, level_in, name_in, number_in, whole_in};
 use fields::words::{count, is_word};
 use numbers::numbers;
 use std::io::Stderr;
@@ -44,40 +43,26 @@ pub(crate) fn fault(err: Stderr, line: &[u8]) {
 
 // What older jobs had in two lines.
 fn is_of_mixer(line: &[u8]) -> bool {
-    if is_word(line, 0, b"iq") {
-        return true;
-    }
-    is_word(line, 0, b"offset")
+    is_word(line, 0, b"iq") || is_word(line, 0, b"offset")
 }
 
 // Whether a line cannot be read for its carriage return.
 pub(crate) fn is_returned(reply: Reply, line: &[u8]) -> bool {
-    match reply {
-        Reply::Syntax => ends_in_return(line),
-        _ => false,
-    }
+    matches!(reply, Reply::Syntax) && ends_in_return(line)
 }
 
 pub(crate) fn ends_in_return(line: &[u8]) -> bool {
-    let n = line.len();
-    if n < 1 {
-        return false;
-    }
-    line[n - 1] == b'\r'
+    line.ends_with(b"\r")
 }
 
 // Two blanks side by side, or one at an end.
 fn has_empty_word(line: &[u8]) -> bool {
     let mut before = b' ';
-    let mut k: usize = 0;
-    while k < line.len() {
-        if line[k] == b' ' {
-            if before == b' ' {
-                return true;
-            }
+    for b in line {
+        if *b == b' ' && before == b' ' {
+            return true;
         }
-        before = line[k];
-        k += 1;
+        before = *b;
     }
     before == b' '
 }
@@ -107,7 +92,7 @@ fir COUNT N..
 print
 ";
     let form = row_for(line, forms);
-    if form.len() < 1 {
+    if form.is_empty() {
         return false;
     }
     first_fault(err, line, form);
@@ -121,8 +106,7 @@ print
 fn first_fault(err: Stderr, line: &[u8], form: &[u8]) {
     let many = count(line);
     let wanted = count(form);
-    let mut k: usize = 1;
-    while k < wanted {
+    for k in 1..wanted {
         if many <= k {
             say(err, word(form, k));
             say(err, b" is missing");
@@ -139,7 +123,6 @@ fn first_fault(err: Stderr, line: &[u8], form: &[u8]) {
             say(err, b" belongs");
             return;
         }
-        k += 1;
     }
     if many <= wanted {
         say(err, b"fewer lines behind it than it says");
@@ -167,12 +150,10 @@ fn first_of_many(err: Stderr, line: &[u8], k: usize, many: usize) {
         );
         return;
     }
-    if n < 1024 {
-        if n < many - k {
-            quote_value(err, line, k + n, b"");
-            say(err, b" is no number");
-            return;
-        }
+    if n < 1024 && n < many - k {
+        quote_value(err, line, k + n, b"");
+        say(err, b" is no number");
+        return;
     }
     say(err, b"not as many numbers as it says");
 }
@@ -193,54 +174,19 @@ fn fits(line: &[u8], k: usize, field: &[u8]) -> bool {
 
 fn is_kind(line: &[u8], k: usize, key: &[u8], kind: &[u8]) -> bool {
     if is_word(kind, 0, b"N") {
-        return is_number(number_in(line, k, key));
+        return number_in(line, k, key).is_some();
     }
     if is_word(kind, 0, b"NAME") {
-        return is_called(name_in(line, k, key));
+        return name_in(line, k, key).is_some();
     }
     if is_word(kind, 0, b"0|1") {
-        return is_flag(flag_in(line, k, key));
+        return flag_in(line, k, key).is_some();
     }
     if is_word(kind, 0, b"INTEGER") {
-        return is_level(level_in(line, k, key));
+        return level_in(line, k, key).is_some();
     }
     if is_word(kind, 0, b"hann") {
         return is_word(line, k, kind);
     }
-    is_whole(whole_in(line, k, key))
-}
-
-fn is_number(x: Number) -> bool {
-    match x {
-        Number::Double(_) => true,
-        Number::Bad => false,
-    }
-}
-
-fn is_called(x: Called) -> bool {
-    match x {
-        Called::Name(_) => true,
-        Called::Bad => false,
-    }
-}
-
-fn is_flag(x: Flag) -> bool {
-    match x {
-        Flag::Is(_) => true,
-        Flag::Bad => false,
-    }
-}
-
-fn is_level(x: Level) -> bool {
-    match x {
-        Level::Is(_) => true,
-        Level::Bad => false,
-    }
-}
-
-fn is_whole(x: Digits) -> bool {
-    match x {
-        Digits::Value(_) => true,
-        Digits::Bad => false,
-    }
+    whole_in(line, k, key).is_some()
 }

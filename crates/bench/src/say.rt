@@ -1,8 +1,7 @@
 // What is written to standard error, a piece at a time.
-use super::state::least;
 use super::walk::end_of;
 use decimal::digits::place;
-use fields::words::{Span, is_word, value_at};
+use fields::words::{is_word, value_at};
 use lines::text::line_end;
 use naming::Name;
 use std::io;
@@ -41,11 +40,9 @@ fn reason(text: &[u8]) -> &[u8] {
 // Words of the job, as they stand: at most 40 bytes, and `?` for each that is not printable.
 pub(crate) fn quote(err: Stderr, words: &[u8]) {
     let mut out = [b'?'; 40];
-    let n = least(words.len(), 40);
-    let mut k: usize = 0;
-    while k < n {
-        out[k] = printable(words[k]);
-        k += 1;
+    let n = words.len().min(40);
+    for (shown, word) in out.iter_mut().zip(words) {
+        *shown = printable(*word);
     }
     say(err, b"'");
     say(err, &out[..n]);
@@ -56,28 +53,20 @@ pub(crate) fn quote(err: Stderr, words: &[u8]) {
 }
 
 fn printable(b: u8) -> u8 {
-    if b < 0x20 {
-        return b'?';
-    }
-    if 0x7E < b {
-        return b'?';
-    }
-    b
+    if (0x20..=0x7E).contains(&b) { b } else { b'?' }
 }
 
 // What stands behind a key in word k of a line.
 pub(crate) fn quote_value(err: Stderr, line: &[u8], k: usize, key: &[u8]) {
-    let value = value_at(line, k, key);
-    match value {
-        Span::At(from, to) => quote(err, part(line, from, to)),
-        Span::Missing => {}
+    if let Some(value) = value_at(line, k, key) {
+        quote(err, part(line, value.from, value.to));
     }
 }
 
 pub(crate) fn quote_name(err: Stderr, n: Name) {
     let mut bytes = [0u8; 16];
     naming::write(n, &mut bytes, 0);
-    quote(err, &bytes[..least(n.len, 16)]);
+    quote(err, &bytes[..n.len.min(16)]);
 }
 
 // From one place of a text to another; nothing where that is not within it.
@@ -94,10 +83,8 @@ pub(crate) fn part(text: &[u8], from: usize, to: usize) -> &[u8] {
 // Where line `k` behind the one that ends at a place begins.
 pub(crate) fn behind(text: &[u8], end: usize, k: usize) -> usize {
     let mut at = end;
-    let mut left = k;
-    while 1 < left {
+    for _ in 1..k {
         at = line_end(text, std::num::wrapping_add_usize(at, 1));
-        left -= 1;
     }
     std::num::wrapping_add_usize(at, 1)
 }
@@ -105,6 +92,7 @@ pub(crate) fn behind(text: &[u8], end: usize, k: usize) -> usize {
 // The row of a table that begins with a line's first word; nothing where none does.
 pub(crate) fn row_for<'a, 'b>(line: &'b [u8], table: &'a [u8]) -> &'a [u8] {
     let mut at: usize = 0;
+    // Kept: bytes have no `split`, and a table parted in two at each line feed is no plainer.
     while at < table.len() {
         let end = end_of(table, at);
         let row = part(table, at, end);
@@ -117,9 +105,8 @@ pub(crate) fn row_for<'a, 'b>(line: &'b [u8], table: &'a [u8]) -> &'a [u8] {
 }
 
 pub(crate) fn word(line: &[u8], k: usize) -> &[u8] {
-    let at = value_at(line, k, b"");
-    match at {
-        Span::At(from, to) => part(line, from, to),
-        Span::Missing => part(line, 0, 0),
+    match value_at(line, k, b"") {
+        Some(at) => part(line, at.from, at.to),
+        None => part(line, 0, 0),
     }
 }

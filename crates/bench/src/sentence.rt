@@ -4,10 +4,9 @@ use super::say::{behind, part, say, say_number};
 use super::show::{Reply, show_reply};
 use super::words::{is_known, why, why_filtered, why_sampled};
 use crosstalk::names::Crosstalk;
-use decimal::digits::Digits;
-use fields::value::{Called, name_in, whole_in};
+use fields::value::{name_in, whole_in};
 use lines::text::line_end;
-use quant::refusal::{Answer, Refusal, number};
+use quant::refusal::{Answer, Refusal, Refused, number};
 use std::io;
 use std::io::{Stderr, Stdout};
 use tables::Tables;
@@ -45,7 +44,13 @@ fn syntax(err: Stderr, words: &[u8], line: usize) {
 
 // A place is a section of a filter, or a line of a sheet.
 fn refused(err: Stderr, answer: Answer, text: &[u8], at: usize, end: usize, line: usize) {
-    let Answer::Refused(refusal, place) = answer else {
+    let Err(
+        Refused {
+            why: refusal,
+            place,
+        },
+    ) = answer
+    else {
         return;
     };
     let words = part(text, at, end);
@@ -88,10 +93,9 @@ fn sheet_line(err: Stderr, place: usize) {
 
 // Whether a place is behind the lines of a sheet: there it shows that the sheet has too few.
 fn is_behind(words: &[u8], place: usize) -> bool {
-    let count = whole_in(words, 1, b"");
-    match count {
-        Digits::Value(n) => n < place as u64,
-        Digits::Bad => false,
+    match whole_in(words, 1, b"") {
+        Some(n) => n < place as u64,
+        None => false,
     }
 }
 
@@ -124,7 +128,13 @@ pub(crate) fn answered_sample(
     line: usize,
 ) -> io::Result<()> {
     show_reply(out, Reply::Of(answer), line)?;
-    let Answer::Refused(refusal, place) = answer else {
+    let Err(
+        Refused {
+            why: refusal,
+            place,
+        },
+    ) = answer
+    else {
         return Ok(());
     };
     head(err, line, refusal);
@@ -144,7 +154,13 @@ pub(crate) fn answered_run(
     line: usize,
 ) -> io::Result<()> {
     show_reply(out, Reply::Of(answer), line)?;
-    let Answer::Refused(refusal, place) = answer else {
+    let Err(
+        Refused {
+            why: refusal,
+            place,
+        },
+    ) = answer
+    else {
         return Ok(());
     };
     if place < starts.len() {
@@ -161,25 +177,22 @@ pub(crate) fn answered_run(
 
 // Of a swap.
 fn is_first_known(t: Tables, words: &[u8]) -> bool {
-    let first = name_in(words, 1, b"a=");
-    match first {
-        Called::Name(n) => is_known(t, n),
-        Called::Bad => true,
+    match name_in(words, 1, b"a=") {
+        Some(n) => is_known(t, n),
+        None => true,
     }
 }
 
 // The number of the line that begins at a place.
 fn line_at(text: &[u8], at: usize) -> usize {
     let mut n: usize = 1;
-    let mut k: usize = 0;
-    while k < text.len() {
+    for k in 0..text.len() {
         if at <= k {
             return n;
         }
         if text[k] == b'\n' {
             n = std::num::wrapping_add_usize(n, 1);
         }
-        k += 1;
     }
     n
 }

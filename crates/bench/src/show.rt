@@ -2,12 +2,10 @@
 ghost use Rattle.std.specs.Prelude.{◌≤◌, length};
 
 use super::say::fail;
-use super::state::least;
 use decimal::print::{pattern, put_double};
 use fields::words::is_word;
-use job_sheet::Inset;
 use naming::Name;
-use quant::refusal::{Answer, number};
+use quant::refusal::{Answer, Refused, number};
 use std::io;
 use std::io::{Stderr, Stdout};
 use tables::{Channel, Tables};
@@ -40,8 +38,8 @@ pub(crate) fn lost(err: Stderr, error: io::Error) {
 
 fn show_answer(out: Stdout, a: Answer) -> io::Result<()> {
     match a {
-        Answer::Done(count) => println!(out; "ok {count}"),
-        Answer::Refused(why, place) => println!(out; "refused {} {place}", number(why)),
+        Ok(count) => println!(out; "ok {count}"),
+        Err(Refused { why, place }) => println!(out; "refused {} {place}", number(why)),
     }
 }
 
@@ -55,11 +53,11 @@ fn show_syntax(out: Stdout, line: usize) -> io::Result<()> {
 
 // The reply to a line is that of the state or, where it has none, of the rows. Of a line of a sheet it is the sheet's, and `syntax` where it has none:
 // fewer lines are behind it than it says, or it cannot be read itself.
-pub(crate) fn reply_with(line: &[u8], first: Reply, inset: Inset, second: Reply) -> Reply {
+pub(crate) fn reply_with(line: &[u8], first: Reply, inset: Option<Answer>, second: Reply) -> Reply {
     if is_word(line, 0, b"sheet") {
         return match inset {
-            Inset::Sheet(answer) => Reply::Of(answer),
-            Inset::Fewer => Reply::Syntax,
+            Some(answer) => Reply::Of(answer),
+            None => Reply::Syntax,
         };
     }
     match first {
@@ -70,7 +68,7 @@ pub(crate) fn reply_with(line: &[u8], first: Reply, inset: Inset, second: Reply)
 
 fn reply_if(written: io::Result<()>) -> Reply {
     match written {
-        Ok(()) => Reply::Of(Answer::Done(0)),
+        Ok(()) => Reply::Of(Ok(0)),
         Err(error) => Reply::Lost(error),
     }
 }
@@ -81,11 +79,8 @@ pub(crate) fn show_states(out: Stdout, t: Tables) -> Reply {
 
 // The channels in order of first adding.
 fn each_state(out: Stdout, t: Tables) -> io::Result<()> {
-    let count = least(t.count, 8);
-    let mut k: usize = 0;
-    while k < count {
-        show_state(out, t.channels[k])?;
-        k += 1;
+    for c in &t.channels[..t.count.min(8)] {
+        show_state(out, *c)?;
     }
     Ok(())
 }
@@ -103,7 +98,7 @@ fn show_state(out: Stdout, c: Channel) -> io::Result<()> {
 fn show_name(out: Stdout, n: Name) -> io::Result<()> {
     let mut bytes = [0u8; 16];
     naming::write(n, &mut bytes, 0);
-    out.write_all(&bytes[..least(n.len, 16)])
+    out.write_all(&bytes[..n.len.min(16)])
 }
 
 fn show_double(out: Stdout, x: f64) -> io::Result<()> {
@@ -126,12 +121,9 @@ fn each_row(out: Stdout, rows: usize, i: &[f64], q: &[f64]) -> io::Result<()> {
 fn show_row(out: Stdout, r: usize, row: &[f64]) -> io::Result<()> {
     print!(out; "row {r}")?;
     let mut text = [b' '; 4352];
-    let mut at: usize = 0;
-    while at < row.len() {
-        let n = least(row.len() - at, 256);
-        fill(&row[at..at + n], &mut text);
-        out.write_all(&text[..17 * n])?;
-        at += n;
+    for part in row.chunks(256) {
+        fill(part, &mut text);
+        out.write_all(&text[..17 * part.len()])?;
     }
     println!(out)
 }
@@ -140,9 +132,7 @@ fn show_row(out: Stdout, r: usize, row: &[f64]) -> io::Result<()> {
 fn fill(part: &[f64], out: &mut [u8])
     requires { length part.now ≤ 256 }
 {
-    let mut k: usize = 0;
-    while k < part.len() {
-        put_double(part[k], out, 17 * k + 1);
-        k += 1;
+    for (k, x) in part.iter().enumerate() {
+        put_double(*x, out, 17 * k + 1);
     }
 }

@@ -5,7 +5,7 @@ ghost use Rattle.bench.specs.Sheet.{with_crosstalk};
 use super::show::{Reply, show_states};
 use commands::command::Arranged;
 use crosstalk::names::Crosstalk;
-use fields::value::{Called, name_in};
+use fields::value::name_in;
 use job::line::Line;
 use naming::Name;
 use numbers::numbers;
@@ -64,13 +64,10 @@ pub(crate) fn after(
         Line::Spline(name, degree, controls, knots) => {
             tabled(s, spline(t, name, degree, controls, knots, line, splines))
         }
-        Line::Command(_) => with_reply(
-            with_gathered(s, least(s.gathered, 1024) + 1),
-            Reply::Nothing,
-        ),
+        Line::Command(_) => with_reply(with_gathered(s, s.gathered.min(1024) + 1), Reply::Nothing),
         Line::Run => unless_too_many(s),
         Line::States => with_reply(s, show_states(out, t)),
-        Line::Crosstalk(n) => with_reply(with_names(s, n, line), Reply::Of(Answer::Done(0))),
+        Line::Crosstalk(n) => with_reply(with_names(s, n, line), Reply::Of(Ok(0))),
         Line::Rows(n, length) => with_rows(s, n, length),
         _ => with_reply(s, Reply::Nothing),
     }
@@ -81,7 +78,7 @@ fn with_reply(state: State, reply: Reply) -> Changed {
 }
 
 fn wrong_size() -> Reply {
-    Reply::Of(Answer::Refused(Refusal::WrongSize, 0))
+    Reply::Of(Err(Refusal::WrongSize.at(0)))
 }
 
 // The numbers of a spline stand from word 5 on; a job has not as many bytes as 131,072 of them.
@@ -95,7 +92,7 @@ fn spline(
     splines: &mut [[f64; 72]],
 ) -> Tabled {
     let mut given = [0.0; 131072];
-    let many = least(numbers(line, 5, &mut given), 131072);
+    let many = numbers(line, 5, &mut given).min(131072);
     let first = fewer(controls, many);
     let end = first + fewer(knots, many - first);
     add(t, name, degree as usize, &given[..end], first, splines)
@@ -125,17 +122,14 @@ fn add(
 fn fewer(n: u64, most: usize) -> usize
     ensures { result ≤ most }
 {
-    if n < most as u64 {
-        return n as usize;
-    }
-    most
+    n.min(most as u64) as usize
 }
 
 fn renewed(s: State, made: Tabled) -> Changed {
     let answer = made.answer;
     match answer {
-        Answer::Done(_) => with_reply(with_gathered(with_tables(s, made), 0), Reply::Of(answer)),
-        Answer::Refused(_, _) => with_reply(s, Reply::Of(answer)),
+        Ok(_) => with_reply(with_gathered(with_tables(s, made), 0), Reply::Of(answer)),
+        Err(_) => with_reply(s, Reply::Of(answer)),
     }
 }
 
@@ -145,21 +139,14 @@ fn tabled(s: State, made: Tabled) -> Changed {
 }
 
 fn with_tables(s: State, made: Tabled) -> State {
-    let tables = made.tables;
-    let crosstalk = s.crosstalk;
     State {
-        tables,
-        rows: s.rows,
-        length: s.length,
-        gathered: s.gathered,
-        crosstalk,
+        tables: made.tables,
+        ..s
     }
 }
 
 fn with_gathered(s: State, n: usize) -> State {
-    let mut u = s;
-    u.gathered = n;
-    u
+    State { gathered: n, ..s }
 }
 
 // More than 1,024 commands are not run; they are forgotten as those that ran.
@@ -173,73 +160,53 @@ fn unless_too_many(s: State) -> Changed {
 // The names of a line; of more than 8 only the count is kept, and sampling refuses it.
 fn with_names(s: State, n: u64, line: &[u8]) -> State {
     let count = at_most_511(n);
-    let names = names_in(line, least(count, 8));
-    let crosstalk = Crosstalk { count, names };
-    let tables = s.tables;
+    let names = names_in(line, count.min(8));
     State {
-        tables,
-        rows: s.rows,
-        length: s.length,
-        gathered: s.gathered,
-        crosstalk,
+        crosstalk: Crosstalk { count, names },
+        ..s
     }
 }
 
 pub(crate) fn with_crosstalk(s: State, c: Crosstalk) -> State
     ensures { result ≡ with_crosstalk s c }
 {
-    let mut u = s;
-    u.crosstalk = c;
-    u
+    State { crosstalk: c, ..s }
 }
 
 fn names_in(line: &[u8], count: usize) -> [Name; 8]
     requires { count ≤ 8 }
 {
     let mut names = [blank(); 8];
-    let mut k: usize = 0;
-    while k < count {
+    for k in 0..count {
         names[k] = name_at(line, k + 2);
-        k += 1;
     }
     names
 }
 
 fn name_at(line: &[u8], k: usize) -> Name {
-    let named = name_in(line, k, b"");
-    match named {
-        Called::Name(n) => n,
-        Called::Bad => blank(),
-    }
+    name_in(line, k, b"").unwrap_or(blank())
 }
 
 fn with_rows(s: State, n: u64, length: u64) -> Changed {
     if !size_fits(n, length) {
         return with_reply(s, wrong_size());
     }
-    let mut u = s;
-    u.rows = n as usize;
-    u.length = length as usize;
-    with_reply(u, Reply::Of(Answer::Done(0)))
+    let state = State {
+        rows: n as usize,
+        length: length as usize,
+        ..s
+    };
+    with_reply(state, Reply::Of(Ok(0)))
 }
 
 // One or two rows of at most 65,536 samples.
 pub(crate) fn size_fits(n: u64, length: u64) -> bool {
-    if n < 1 {
-        return false;
-    }
-    if 2 < n {
-        return false;
-    }
-    length <= 65536
+    (1..=2).contains(&n) && length <= 65536
 }
 
 // How long the second row is: one row has none.
 pub(crate) fn second(s: State) -> usize {
-    if s.rows == 2 {
-        return s.length;
-    }
-    0
+    if s.rows == 2 { s.length } else { 0 }
 }
 
 // The command that a line is, in place of what stood there; any other line leaves it.
@@ -251,17 +218,11 @@ pub(crate) fn kept(said: Line, before: Arranged) -> Arranged {
 }
 
 pub(crate) fn is_run(said: Line, gathered: usize) -> bool {
-    match said {
-        Line::Run => gathered <= 1024,
-        _ => false,
-    }
+    matches!(said, Line::Run) && gathered <= 1024
 }
 
 pub(crate) fn is_sample(said: Line) -> bool {
-    match said {
-        Line::Sample(_) => true,
-        _ => false,
-    }
+    matches!(said, Line::Sample(_))
 }
 
 // What a run came to; its commands are forgotten.
@@ -271,18 +232,13 @@ pub(crate) fn ran(s: State, tabled: Tabled) -> State {
 
 pub(crate) fn request(said: Line, rows: usize) -> Request {
     match said {
-        Line::Sample(a) => {
-            let channel = a.channel;
-            let rate = a.rate;
-            let delay = a.delay;
-            Request {
-                channel,
-                rate,
-                delay,
-                level: a.level,
-                rows,
-            }
-        }
+        Line::Sample(a) => Request {
+            channel: a.channel,
+            rate: a.rate,
+            delay: a.delay,
+            level: a.level,
+            rows,
+        },
         _ => Request {
             channel: blank(),
             rate: Frequency(0.0),
@@ -296,14 +252,5 @@ pub(crate) fn request(said: Line, rows: usize) -> Request {
 pub(crate) fn at_most_511(n: u64) -> usize
     ensures { result ≤ 511 }
 {
-    if n < 511 {
-        return n as usize;
-    }
-    511
-}
-
-pub(crate) fn least(a: usize, b: usize) -> usize
-    ensures { result ≡ min a b }
-{
-    if a < b { a } else { b }
+    n.min(511) as usize
 }

@@ -5,7 +5,7 @@ ghost use Rattle.bench.specs.Sheet.{Leaves, TookBy, Tells};
 
 use super::say::part;
 use super::show::{Reply, reply_with, show_rows};
-use super::state::{State, after, at_most_511, least, second, size_fits, with_crosstalk};
+use super::state::{State, after, at_most_511, second, size_fits, with_crosstalk};
 use crosstalk::names::Crosstalk;
 use fir::fir;
 use iir::iir;
@@ -23,14 +23,6 @@ pub struct Told {
     pub reply: Reply,
     pub lines: usize,
     pub next: usize,
-}
-
-// The steps on rows that have numbers.
-#[derive(Clone, Copy)]
-pub enum RowStep {
-    Mixer,
-    Iir,
-    Fir,
 }
 
 // The line from `at` to `end`.
@@ -54,7 +46,7 @@ pub(crate) fn tell(
     let first = changed.reply;
     take_factors(said, &text[at..end], factors);
     let past = end + 1;
-    let behind = least(past, text.len());
+    let behind = past.min(text.len());
     let before = s.crosstalk;
     let c = u.crosstalk;
     let taken = sheet_behind(said, before, c, &text[behind..], factors);
@@ -100,8 +92,8 @@ fn sheet_behind(
 
 // The state is that after the line: a line of rows has set their sizes. Steps on rows and prints have a reply here.
 fn on_rows(out: Stdout, said: Line, s: State, line: &[u8], i: &mut [f64], q: &mut [f64]) -> Reply {
-    let n = least(s.length, i.len());
-    let m = least(second(s), q.len());
+    let n = s.length.min(i.len());
+    let m = second(s).min(q.len());
     on_parts(out, said, s.rows, line, &mut i[..n], &mut q[..m])
 }
 
@@ -116,44 +108,37 @@ fn on_parts(
     match said {
         Line::Rows(n, length) => {
             if size_fits(n, length) {
-                clear(i);
-                clear(q);
+                i.fill(0.0);
+                q.fill(0.0);
             }
             Reply::Nothing
         }
         Line::Print => show_rows(out, rows, i, q),
-        Line::Mixer => step(RowStep::Mixer, rows, line, 1, i, q),
-        Line::Iir(_) => step(RowStep::Iir, rows, line, 2, i, q),
-        Line::Fir(_) => step(RowStep::Fir, rows, line, 2, i, q),
+        Line::Mixer => step(by_mixer, rows, line, 1, i, q),
+        Line::Iir(_) => step(iir, rows, line, 2, i, q),
+        Line::Fir(_) => step(fir, rows, line, 2, i, q),
         _ => Reply::Nothing,
     }
 }
 
 // A step's numbers begin at word k; one more than the longest step has is enough to be refused.
-fn step(which: RowStep, rows: usize, line: &[u8], k: usize, i: &mut [f64], q: &mut [f64]) -> Reply {
+fn step<F: FnOnce(usize, &mut [f64], &mut [f64], &[f64]) -> Answer>(
+    step: F,
+    rows: usize,
+    line: &[u8],
+    k: usize,
+    i: &mut [f64],
+    q: &mut [f64],
+) -> Reply
+    requires { F.IsAlwaysCallable step }
+{
     let mut given = [0.0; 257];
-    let n = least(numbers(line, k, &mut given), 257);
-    Reply::Of(stepped(which, rows, i, q, &given[..n]))
-}
-
-fn stepped(which: RowStep, rows: usize, i: &mut [f64], q: &mut [f64], given: &[f64]) -> Answer {
-    match which {
-        RowStep::Mixer => by_mixer(rows, i, q, given),
-        RowStep::Iir => iir(rows, i, q, given),
-        RowStep::Fir => fir(rows, i, q, given),
-    }
+    let n = numbers(line, k, &mut given).min(257);
+    Reply::Of(step(rows, i, q, &given[..n]))
 }
 
 // The matrix has the first four numbers, the offsets the others.
 fn by_mixer(rows: usize, i: &mut [f64], q: &mut [f64], given: &[f64]) -> Answer {
-    let n = least(4, given.len());
+    let n = given.len().min(4);
     mixer(rows, i, q, &given[..n], &given[n..])
-}
-
-fn clear(row: &mut [f64]) {
-    let mut k: usize = 0;
-    while k < row.len() {
-        row[k] = 0.0;
-        k += 1;
-    }
 }

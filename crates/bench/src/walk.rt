@@ -4,7 +4,7 @@ ghost use Rattle.std.specs.Prelude.{◌<◌, ◌≤◌, length};
 use super::fault::is_returned;
 use super::say::part;
 use super::sentence::{answered, answered_run, answered_sample};
-use super::state::{is_run, is_sample, kept, least, ran, request, second, start};
+use super::state::{is_run, is_sample, kept, ran, request, second, start};
 use super::steps::tell;
 use commands::command::{Arranged, Command};
 use crosstalk::names::Crosstalk;
@@ -13,8 +13,6 @@ use lines::text::line_end;
 use owned::execute_owned;
 use owned_sampler::sample_owned;
 use pulse::list::Pulse;
-use quant::complex::Complex;
-use quant::judge::both;
 use quant::quantity::Time;
 use quant::refusal::Answer;
 use sampler::Request;
@@ -26,7 +24,7 @@ use tables::Tables;
 pub(crate) fn each(out: Stdout, err: Stderr, text: &[u8]) -> io::Result<()> {
     let mut commands = [idle(); 1024];
     let mut starts = [0usize; 1025];
-    let mut pulses = [no_pulse(); 8192];
+    let mut pulses = [Pulse::default(); 8192];
     let mut bins = [[0.0; 77]; 512];
     let mut splines = [[0.0; 72]; 8];
     let mut i = [0.0; 65536];
@@ -39,14 +37,15 @@ pub(crate) fn each(out: Stdout, err: Stderr, text: &[u8]) -> io::Result<()> {
     let mut warned = false;
     let mut number: usize = 0;
     let mut at: usize = 0;
+    // Kept: bytes have no `split`, and a text parted in two at each line feed is no plainer.
     while at < text.len() {
         let end = end_of(text, at);
         let said = read(&text[at..end]);
         number += 1;
-        let slot = least(s.gathered, 1023);
+        let slot = s.gathered.min(1023);
         commands[slot] = kept(said, commands[slot]);
         // Where the line begins stays beside the command that it is; any other line's is written over.
-        let place = least(s.gathered, 1024);
+        let place = s.gathered.min(1024);
         starts[place] = at;
         let runs = is_run(said, s.gathered);
         let told = tell(
@@ -65,17 +64,8 @@ pub(crate) fn each(out: Stdout, err: Stderr, text: &[u8]) -> io::Result<()> {
         let reply = told.reply;
         // That lines end in carriage returns is said once.
         let returned = is_returned(reply, part(text, at, end));
-        answered(
-            out,
-            err,
-            reply,
-            both(returned, warned),
-            text,
-            at,
-            end,
-            number,
-        )?;
-        warned = either(returned, warned);
+        answered(out, err, reply, returned && warned, text, at, end, number)?;
+        warned = returned || warned;
         let from = at;
         let line = number;
         number += told.lines;
@@ -128,8 +118,8 @@ fn sample_line(
     work: &mut [[f64; 5]],
     marks: &mut [usize],
 ) -> Answer {
-    let n = least(first, i.len());
-    let m = least(second, q.len());
+    let n = first.min(i.len());
+    let m = second.min(q.len());
     sample_owned(
         t,
         r,
@@ -145,13 +135,6 @@ fn sample_line(
     )
 }
 
-fn either(x: bool, y: bool) -> bool {
-    if x {
-        return true;
-    }
-    y
-}
-
 // Where the line at a place ends, within its text.
 pub(crate) fn end_of(text: &[u8], at: usize) -> usize
     requires { at < length text.now }
@@ -165,15 +148,5 @@ fn idle() -> Arranged {
         start: Time(0.0),
         span: Time(0.0),
         command: Command::Barrier,
-    }
-}
-
-fn no_pulse() -> Pulse {
-    let nought = Complex { re: 0.0, im: 0.0 };
-    Pulse {
-        bin: 0,
-        time: Time(0.0),
-        amp: nought,
-        drag: nought,
     }
 }

@@ -2,14 +2,13 @@
 use super::say::{behind, part, quote, quote_name, quote_value, row_for, say, say_number};
 use crosstalk::names::Crosstalk;
 use decimal::digits::place;
-use decimal::number::Number;
 use fields::value::number_in;
-use fields::words::{Span, is_word, value_at};
+use fields::words::{is_word, value_at};
 use lines::text::line_end;
-use naming::{Name, Naming, from_bytes, is_name};
+use naming::{Name, from_bytes, is_name};
 use quant::refusal::{Refusal, number};
 use std::io::Stderr;
-use tables::{Found, Tables, find};
+use tables::{Tables, find};
 
 // Of a job's line, a command's or a sheet's: the words for the number, and what they are about. Of a swap it is told whether its first channel is
 // known.
@@ -87,10 +86,7 @@ pub(crate) fn why_sampled(err: Stderr, refusal: Refusal, place: usize, line: &[u
 }
 
 fn pulse(err: Stderr, n: usize, place: usize) {
-    if n < 8 {
-        return;
-    }
-    if 12 < n {
+    if !(8..=12).contains(&n) {
         return;
     }
     say(err, b"pulse ");
@@ -161,40 +157,29 @@ fn is_misnamed(err: Stderr, line: &[u8]) -> bool {
 }
 
 fn is_named(line: &[u8]) -> bool {
-    if is_word(line, 0, b"channel") {
-        return true;
-    }
-    if is_word(line, 0, b"shape") {
-        return true;
-    }
-    is_word(line, 0, b"spline")
+    is_word(line, 0, b"channel") || is_word(line, 0, b"shape") || is_word(line, 0, b"spline")
 }
 
 // Says so where what is behind a key in word k is no name.
 fn is_no_name(err: Stderr, line: &[u8], k: usize, key: &[u8]) -> bool {
-    let value = value_at(line, k, key);
-    let Span::At(from, to) = value else {
+    let Some(value) = value_at(line, k, key) else {
         return false;
     };
-    let named = from_bytes(part(line, from, to));
-    match named {
-        Naming::Named(_) => false,
-        Naming::Bad => {
-            say(
-                err,
-                b"a name is 1 to 16 printable characters, no blank and no = among them: ",
-            );
-            quote_value(err, line, k, key);
-            true
-        }
+    if from_bytes(part(line, value.from, value.to)).is_some() {
+        return false;
     }
+    say(
+        err,
+        b"a name is 1 to 16 printable characters, no blank and no = among them: ",
+    );
+    quote_value(err, line, k, key);
+    true
 }
 
 fn is_narrow(line: &[u8]) -> bool {
-    let width = number_in(line, 4, b"width=");
-    match width {
-        Number::Double(x) => x < 0.0,
-        Number::Bad => false,
+    match number_in(line, 4, b"width=") {
+        Some(x) => x < 0.0,
+        None => false,
     }
 }
 
@@ -215,22 +200,19 @@ fn malformed_sampling(err: Stderr, line: &[u8], c: Crosstalk) {
 
 // The place of the first name that breaks the rule.
 fn misnamed(c: Crosstalk) -> usize {
-    let mut k: usize = 0;
-    while k < 8 {
+    for k in 0..8 {
         if !is_name(c.names[k]) {
             return k;
         }
-        k += 1;
     }
-    k
+    8
 }
 
 // The channel or the shape that a line is about.
 fn own_name(err: Stderr, line: &[u8]) {
-    let value = value_at(line, 1, b"ch=");
-    match value {
-        Span::At(from, to) => quote(err, part(line, from, to)),
-        Span::Missing => quote_value(err, line, 1, b""),
+    match value_at(line, 1, b"ch=") {
+        Some(value) => quote(err, part(line, value.from, value.to)),
+        None => quote_value(err, line, 1, b""),
     }
 }
 
@@ -247,10 +229,7 @@ fn unknown(err: Stderr, line: &[u8], known: bool) {
 }
 
 pub(crate) fn is_known(t: Tables, n: Name) -> bool {
-    match find(t, n) {
-        Found::At(_) => true,
-        Found::Nowhere => false,
-    }
+    find(t, n).is_some()
 }
 
 // 17 and 18: the place is the name's position, from 1.

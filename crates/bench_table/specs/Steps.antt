@@ -1,10 +1,9 @@
 -- The bench examples B5, B7, B8 and B9: a filtered row, a fused sum, a summed list and an oscillator's commands, and what a line claims of each.
 -- Definitions only.
-use Rattle.std.specs.Prelude.{ℕ, ◌≡◌, false, List, [], ◌∷◌, map, pos, Float, length, replicate}
+use Rattle.std.specs.Prelude.{ℕ, ◌≡◌, false, List, [], ◌∷◌, map, pos, Float, length, replicate, Ok}
 use Rattle.std.specs.Float.{binary64}
 use Rattle.fma.specs.Fused.{fma}
 use Rattle.quant.specs.declared.complex.Complex.{Complex}
-use Rattle.quant.specs.declared.refusal.Answer.TheVariants.{Done}
 use Rattle.iir.specs.Iir.{Iir}
 use Rattle.pulse.specs.declared.envelope.Shape.TheVariants.{Plain}
 use Rattle.pulse.specs.declared.list.Pulse.{Pulse}
@@ -35,7 +34,7 @@ pub record Filtering : Type 0 where
 
 -- what `iir` answers and leaves
 abbrev pub Filters : Filtering → Type 0
-Filters l = Iir 1 l.row [] l.section (Done 0) l.gives []
+Filters l = Iir 1 l.row [] l.section (Ok 0) l.gives []
 
 -- ---- B7: fused x*y + z
 
@@ -73,7 +72,7 @@ module _ (bin : ℕ) (amp drag : Float → Complex) where
 -- what a channel's list is summed to; and `sample` adds as many pulses as are kept
 pub record Merges (l : Merging) : Type 0 where
   pub sum : (bin : ℕ) (amp drag : Float → Complex) → summed l.tolerance (map (weighted bin amp drag) l.times) ≡ joined bin amp drag l.kept
-  pub sample : (sampled_on l.tolerance (bin_with Plain (whole 0) (whole 1)) (map pulse_at l.times) (pos 0) 16).answer ≡ Done (length l.kept)
+  pub sample : (sampled_on l.tolerance (bin_with Plain (whole 0) (whole 1)) (map pulse_at l.times) (pos 0) 16).answer ≡ Ok (length l.kept)
 
 -- ---- B9: commands one after another, each at its time, and the phase after each
 

@@ -21,8 +21,7 @@ use Rattle.sheet_laws.proofs.Arranged.{fine}
 use Rattle.sheet_laws.proofs.Factors.{rows_long, wide}
 use Rattle.tables.specs.declared.Tables.{Tables}
 use Rattle.crosstalk.specs.declared.names.Crosstalk.{Crosstalk}
-use Rattle.crosstalk.specs.declared.parts.Plan.{Plan}
-use Rattle.crosstalk.specs.Crosstalk.{all_names}
+use Rattle.crosstalk.specs.Crosstalk.{Plan, is_refused, all_names}
 use Rattle.crosstalk.proofs.Laws.{Passes, passed-all, accepted-is}
 use Rattle.by_name.specs.Words.{Given, Planned, AllKnown}
 use Rattle.by_name.proofs.Finding.{all_one, one-all}
@@ -79,7 +78,7 @@ module _ (text : List ℕ) (before : List Float) (s : Sheet) (c : Crosstalk) (fa
       }
 
   pub accepts-known : AllKnown s t r → Planned t r c factors
-  accepts-known k = ap (λ (x : Plan). x.refused) (accepted-is t r c factors (passes k))
+  accepts-known k = ap (λ (x : Plan). is_refused x) (accepted-is t r c factors (passes k))
 
   pub accepted-knows : Planned t r c factors → AllKnown s t r
   accepted-knows e =

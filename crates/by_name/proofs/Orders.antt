@@ -1,12 +1,11 @@
 -- Entries in another order: those that count, their parts and their pairs are the same in another order. Assumes nothing.
+use Rattle.std.specs.Prelude.{Option, Some, None, ℕ}
 use mathlib.Core.Bool.{Bool, true, false, cond}
 use mathlib.Core.List.{List, ◌∷◌}
 use lib.Ieee.{Float, binary64, of_bits, eq}
 use Rattle.exact.specs.Doubles.{nought}
 use Rattle.sheet_laws.specs.Words.{Permuted, nil, keep, swap, then, Entry}
 use Rattle.sheet_laws.proofs.Rows.{self}
-use Rattle.tables.specs.declared.Found.{Found}
-use Rattle.tables.specs.declared.Found.TheVariants.{At, Nowhere}
 use Rattle.tables.specs.declared.Tables.{Tables}
 use Rattle.tables.specs.Tables.{found}
 use Rattle.merge.specs.Taking.{Part}
@@ -45,16 +44,16 @@ module _ (t : Tables) where
   placed-order nil = nil
   placed-order (keep {a = e} {l = es} {m = ds} p) = go (found t e.column) (of_bits binary64 e.bits) (placed-order p)
     where
-      go : (f : Found) (x : Float) → Permuted (placed t es) (placed t ds) → Permuted (part_of f x (placed t es)) (part_of f x (placed t ds))
-      go (At i) x h = keep h
-      go Nowhere x h = h
+      go : (f : Option ℕ) (x : Float) → Permuted (placed t es) (placed t ds) → Permuted (part_of f x (placed t es)) (part_of f x (placed t ds))
+      go (Some i) x h = keep h
+      go None x h = h
   placed-order (swap {a = e} {b = d} {l = es}) = go (found t e.column) (found t d.column) (of_bits binary64 e.bits) (of_bits binary64 d.bits)
     where
-      go : (f g : Found) (x y : Float) → Permuted (part_of f x (part_of g y (placed t es))) (part_of g y (part_of f x (placed t es)))
-      go (At i) (At j) x y = swap
-      go (At i) Nowhere x y = self (part_of (At i) x (placed t es))
-      go Nowhere (At j) x y = self (part_of (At j) y (placed t es))
-      go Nowhere Nowhere x y = self (placed t es)
+      go : (f g : Option ℕ) (x y : Float) → Permuted (part_of f x (part_of g y (placed t es))) (part_of g y (part_of f x (placed t es)))
+      go (Some i) (Some j) x y = swap
+      go (Some i) None x y = self (part_of (Some i) x (placed t es))
+      go None (Some j) x y = self (part_of (Some j) y (placed t es))
+      go None None x y = self (placed t es)
   placed-order (then p q) = then (placed-order p) (placed-order q)
 
 -- ---- their pairs

@@ -1,4 +1,5 @@
 -- The parts of a row: those of its entries that count, each once and at its column's place; and their pairs. Assumes nothing.
+use Rattle.std.specs.Prelude.{Option, Some, None}
 use Prim.Native.Nat.{ℕ, ◌^◌}
 use mathlib.Core.Path.{◌≡◌, refl, ap, subst, ◌∙◌}
 use mathlib.Core.Bool.{Bool, true, false, ◌&&◌, cond}
@@ -15,8 +16,6 @@ use Rattle.sheet.specs.Sheet.{doubles, single, finite_bits}
 use Rattle.sheet_laws.specs.Words.{In, here, there, AtColumn, first, later, Entry, entries}
 use Rattle.sheet_laws.proofs.Factors.{column_in, entry_at}
 use Rattle.sheet_laws.proofs.Names.{single-first, single-rest}
-use Rattle.tables.specs.declared.Found.{Found}
-use Rattle.tables.specs.declared.Found.TheVariants.{At, Nowhere}
 use Rattle.tables.specs.declared.Tables.{Tables}
 use Rattle.tables.specs.Tables.{found}
 use Rattle.merge.specs.Taking.{Part, part}
@@ -109,7 +108,7 @@ module _ (t : Tables) where
   pub record OfEntry (p : Part) (es : List Entry) : Type 0 where
     pub entry : Entry
     pub listed : In entry es
-    pub place : found t entry.column ≡ At p.place
+    pub place : found t entry.column ≡ Some p.place
     pub factor : p.factor ≡ of_bits binary64 entry.bits
 
   pub of_entry : (p : Part) (es : List Entry) → In p (placed t es) → OfEntry p es
@@ -119,13 +118,13 @@ module _ (t : Tables) where
       further : (p : Part) → OfEntry p es → OfEntry p (e ∷ es)
       further p r = record { entry = r.entry; listed = there r.listed; place = r.place; factor = r.factor }
 
-      go : (f : Found) → found t e.column ≡ f → (p : Part) → In p (part_of f (of_bits binary64 e.bits) (placed t es)) → (In p (placed t es) → OfEntry p es) → OfEntry p (e ∷ es)
-      go (At i) s p here rest = record { entry = e; listed = here; place = s; factor = refl }
-      go (At i) s p (there h) rest = further p (rest h)
-      go Nowhere s p h rest = further p (rest h)
+      go : (f : Option ℕ) → found t e.column ≡ f → (p : Part) → In p (part_of f (of_bits binary64 e.bits) (placed t es)) → (In p (placed t es) → OfEntry p es) → OfEntry p (e ∷ es)
+      go (Some i) s p here rest = record { entry = e; listed = here; place = s; factor = refl }
+      go (Some i) s p (there h) rest = further p (rest h)
+      go None s p h rest = further p (rest h)
   of_entry p [] h = elim h [ ]
 
-  pub once : {es : List Entry} → Apart es → (e : Entry) → In e es → (i : ℕ) → found t e.column ≡ At i → OnceAt i (of_bits binary64 e.bits) (placed t es)
+  pub once : {es : List Entry} → Apart es → (e : Entry) → In e es → (i : ℕ) → found t e.column ≡ Some i → OnceAt i (of_bits binary64 e.bits) (placed t es)
   unfolding placed part_of
   once (more {e = d} {es = es} out rest) e here i s =
       record {
@@ -134,14 +133,14 @@ module _ (t : Tables) where
         split = rw s;
         no_other = λ p h same.
             let r = of_entry p es h in
-            out r.entry r.listed (one_name t r.entry.column d.column i (r.place ∙ ap At same) s);
+            out r.entry r.listed (one_name t r.entry.column d.column i (r.place ∙ ap Some same) s);
       }
   once (more {e = d} {es = es} out rest) e (there h) i s = go (found t d.column) refl (once rest e h i s)
     where
-      go : (f : Found) → found t d.column ≡ f → OnceAt i (of_bits binary64 e.bits) (placed t es)
+      go : (f : Option ℕ) → found t d.column ≡ f → OnceAt i (of_bits binary64 e.bits) (placed t es)
           → OnceAt i (of_bits binary64 e.bits) (part_of f (of_bits binary64 d.bits) (placed t es))
-      go Nowhere k o = o
-      go (At j) k o =
+      go None k o = o
+      go (Some j) k o =
           record {
             earlier = part j (of_bits binary64 d.bits) ∷ o.earlier;
             later = o.later;
@@ -150,7 +149,7 @@ module _ (t : Tables) where
           }
         where
           other : (o : OnceAt i (of_bits binary64 e.bits) (placed t es)) (p : Part) → In p (part j (of_bits binary64 d.bits) ∷ (o.earlier ++ o.later)) → p.place ≡ i → ⊥
-          other o p here same = out e h (one_name t e.column d.column i s (k ∙ ap At same))
+          other o p here same = out e h (one_name t e.column d.column i s (k ∙ ap Some same))
           other o p (there l) same = o.no_other p l same
   once none e x5 i s = elim x5 [ ]
 

@@ -1,5 +1,6 @@
 -- What the sampling call finds in what was read: the names are the columns, and a column's row holds the doubles of its own block.
 -- Assumes nothing.
+use Rattle.std.specs.Prelude.{Some, None}
 use Prim.Native.Nat.{ℕ, zero, suc, ◌+◌, ◌-◌, ◌*◌, ◌≤◌}
 use native.Mathlib.Omega.{arith}
 use mathlib.Core.Path.{◌≡◌, refl, sym, ap, subst, ◌∙◌}
@@ -17,7 +18,6 @@ use Rattle.sheet.proofs.Each.{same_self}
 use Rattle.sheet.proofs.Filling.{doubles-long}
 use Rattle.sheet_laws.specs.Words.{In, here, there, contents, count_in}
 use Rattle.sheet_laws.proofs.Factors.{place-below, eight_are, rows_long, under_at, wide}
-use Rattle.tables.specs.declared.Found.TheVariants.{At, Nowhere}
 use Rattle.crosstalk.specs.declared.names.Crosstalk.{Crosstalk}
 use Rattle.crosstalk.specs.Crosstalk.{names_in, row_from, row_of, row_at}
 use Rattle.crosstalk.proofs.Fitting.{row_within}
@@ -45,22 +45,22 @@ doubles-drop (suc n) (b ∷ l) = doubles-drop n l
 
 -- ---- a row's place
 
-row_from_lem : (k : ℕ) (r : Name) (ns : List Name) → In r ns → row_from k r ns ≡ At (k + position r ns)
+row_from_lem : (k : ℕ) (r : Name) (ns : List Name) → In r ns → row_from k r ns ≡ Some (k + position r ns)
 unfolding row_from position
-row_from_lem k r (m ∷ ms) here = rw (same_self r) (ap At (omega arith))
+row_from_lem k r (m ∷ ms) here = rw (same_self r) (ap Some (omega arith))
 row_from_lem k r (m ∷ ms) (there h) = go (same_name m r) (row_from_lem (suc k) r ms h)
   where
-    go : (b : Bool) → row_from (suc k) r ms ≡ At (suc k + position r ms) → cond b (At k) (row_from (suc k) r ms) ≡ At (k + cond b 0 (suc (position r ms)))
-    go true e = ap At (omega arith)
-    go false e = e ∙ ap At (omega arith)
+    go : (b : Bool) → row_from (suc k) r ms ≡ Some (suc k + position r ms) → cond b (Some k) (row_from (suc k) r ms) ≡ Some (k + cond b 0 (suc (position r ms)))
+    go true e = ap Some (omega arith)
+    go false e = e ∙ ap Some (omega arith)
 row_from_lem k r [] x' = elim x' [ ]
 
-row-nowhere : (k : ℕ) (r : Name) (ns : List Name) → (In r ns → ⊥) → row_from k r ns ≡ Nowhere
+row-nowhere : (k : ℕ) (r : Name) (ns : List Name) → (In r ns → ⊥) → row_from k r ns ≡ None
 unfolding row_from
 row-nowhere k r [] out = refl
 row-nowhere k r (m ∷ ms) out = go (same_name m r) refl (row-nowhere (suc k) r ms (λ h. out (there h)))
   where
-    go : (b : Bool) → same_name m r ≡ b → row_from (suc k) r ms ≡ Nowhere → cond b (At k) (row_from (suc k) r ms) ≡ Nowhere
+    go : (b : Bool) → same_name m r ≡ b → row_from (suc k) r ms ≡ None → cond b (Some k) (row_from (suc k) r ms) ≡ None
     go true s e = absurd (out (subst (λ (x : Name). In x (m ∷ ms)) ((same-exactly m r).0 s) here))
     go false s e = e
 
@@ -96,10 +96,10 @@ module _ (text : List ℕ) (before : List Float) (s : Sheet) (c : Crosstalk) (fa
       let handed : take (N * N) factors ≡ take (N * N) (matrix_of (accepts (contents s)) before) = rw (count-is, g.reads.answered) at g.handed.numbers in
       handed ∙ take_at (doubles rows) (drop (N * N) before) (N * N) long
 
-  pub row-place : (r : Name) → In r s.columns → row_of r (names_in c) ≡ At (position r s.columns)
-  row-place r h = rw names-are (row_from_lem 0 r s.columns h ∙ ap At (omega arith))
+  pub row-place : (r : Name) → In r s.columns → row_of r (names_in c) ≡ Some (position r s.columns)
+  row-place r h = rw names-are (row_from_lem 0 r s.columns h ∙ ap Some (omega arith))
 
-  pub no_row : (r : Name) → (In r s.columns → ⊥) → row_of r (names_in c) ≡ Nowhere
+  pub no_row : (r : Name) → (In r s.columns → ⊥) → row_of r (names_in c) ≡ None
   no_row r out = rw names-are (row-nowhere 0 r s.columns out)
 
   pub row-numbers : (r : Name) → In r s.columns → row_at (position r s.columns) c.count factors ≡ doubles (under (contents s) r)

@@ -1,5 +1,6 @@
 -- The parts of an accepted plan of what was read: of a channel that the sheet names, its own block's entries that count; of another, its
 -- own list alone. Assumes nothing.
+use Rattle.std.specs.Prelude.{Some}
 use Prim.Native.Nat.{ℕ}
 use mathlib.Core.Path.{◌≡◌, sym, ap, subst, ◌∙◌}
 use mathlib.Core.Bool.{true, true≢false}
@@ -14,7 +15,6 @@ use Rattle.sheet_laws.proofs.Arranged.{fine}
 use Rattle.sheet_laws.proofs.Factors.{at_entry, entry_at}
 use Rattle.sheet_laws.proofs.Laws.{no-other-stands}
 use Rattle.sheet_laws.proofs.Rows.{block-for, under-own}
-use Rattle.tables.specs.declared.Found.TheVariants.{At}
 use Rattle.tables.specs.declared.Tables.{Tables}
 use Rattle.tables.specs.Tables.{found}
 use Rattle.merge.specs.Taking.{Part}
@@ -73,7 +73,7 @@ module _ (text : List ℕ) (before : List Float) (s : Sheet) (c : Crosstalk) (fa
       record { place = k.place; found_at = k.is; once = rw (block-parts h st.block st.listed st.named) only }
 
   zero-skips : In r s.columns → (d : Name) (bits : ℕ) → Stands s r d bits → eq (of_bits binary64 bits) nought ≡ true
-      → (p : Part) → In p (parts t r c factors) → found t d ≡ At p.place → ⊥
+      → (p : Part) → In p (parts t r c factors) → found t d ≡ Some p.place → ⊥
   zero-skips h d bits st zero p listed at =
       let f = from-sheet h p listed in
       let same = one_name t f.column d p.place f.place at in

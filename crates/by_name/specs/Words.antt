@@ -1,6 +1,6 @@
 -- The words of the law from a sheet's text to a sampling's lists: what is handed over, and which lists take part with which factors.
 -- Definitions only.
-use Rattle.std.specs.Prelude.{ℕ, ◌*◌, true, false, cond, ◌≡◌, List, [], ◌∷◌, ◌++◌, Float, length, take}
+use Rattle.std.specs.Prelude.{ℕ, ◌*◌, true, false, cond, ◌≡◌, List, [], ◌∷◌, ◌++◌, Float, length, take, Some}
 use Rattle.std.specs.Float.{binary64}
 use Rattle.std.specs.Float.Ieee.{of_bits, to_bits, eq}
 use Rattle.exact.specs.Doubles.{nought, one}
@@ -8,12 +8,11 @@ use Rattle.naming.specs.declared.Name.{Name}
 use Rattle.naming.specs.Name.{is_name}
 use Rattle.sheet.specs.Sheet.{outcome, answer_of, names_of, matrix_of, Sheet}
 use Rattle.sheet_laws.specs.Words.{In, Reads, Stands, count_in, Entry}
-use Rattle.tables.specs.declared.Found.TheVariants.{At}
 use Rattle.tables.specs.declared.Tables.{Tables}
 use Rattle.tables.specs.Tables.{found, channel_at}
 use Rattle.merge.specs.Taking.{Part, part, parts_in}
 use Rattle.crosstalk.specs.declared.names.Crosstalk.{Crosstalk}
-use Rattle.crosstalk.specs.Crosstalk.{is_known, part_of, planned}
+use Rattle.crosstalk.specs.Crosstalk.{is_known, part_of, planned, is_refused, taking_of}
 
 -- ---- from the reader to the sampling call
 
@@ -30,11 +29,11 @@ pub record Given (text : List ℕ) (before : List Float) (s : Sheet) (c : Crosst
 
 -- the plan for the channel r is not refused
 abbrev pub Planned : Tables → Name → Crosstalk → List Float → Type 0
-Planned t r c factors = (planned t r c factors).refused ≡ false
+Planned t r c factors = (is_refused (planned t r c factors)) ≡ false
 
 -- the lists that take part in a sampling of the channel r, each with its factor
 abbrev pub parts : Tables → Name → Crosstalk → List Float → List Part
-parts t r c factors = parts_in (planned t r c factors).taking
+parts t r c factors = parts_in (taking_of (planned t r c factors))
 
 -- the channel's name is a good one, and the tables have it and every column of the sheet
 pub record AllKnown (s : Sheet) (t : Tables) (r : Name) : Type 0 where
@@ -54,7 +53,7 @@ pub record FromColumn (s : Sheet) (t : Tables) (r : Name) (p : Part) : Type 0 wh
   pub column : Name
   pub bits : ℕ
   pub stands : Stands s r column bits
-  pub place : found t column ≡ At p.place
+  pub place : found t column ≡ Some p.place
   pub named : (channel_at t p.place).name ≡ column
   pub factor : to_bits binary64 p.factor ≡ bits
   pub counts : Counts bits
@@ -69,19 +68,19 @@ pub record OnceAt (place : ℕ) (factor : Float) (ps : List Part) : Type 0 where
 -- a column has its part, once, at its place in the tables
 pub record HasPart (t : Tables) (column : Name) (bits : ℕ) (ps : List Part) : Type 0 where
   pub place : ℕ
-  pub found_at : found t column ≡ At place
+  pub found_at : found t column ≡ Some place
   pub once : OnceAt place (of_bits binary64 bits) ps
 
 -- the parts are the columns whose factor under the row r is not zero: each part is such a column's, and each such column has one, once
 pub record TakesRow (s : Sheet) (t : Tables) (r : Name) (ps : List Part) : Type 0 where
   pub from-sheet : (p : Part) → In p ps → FromColumn s t r p
   pub each-column : (c : Name) (bits : ℕ) → Stands s r c bits → Counts bits → HasPart t c bits ps
-  pub zero-skips : (c : Name) (bits : ℕ) → Stands s r c bits → eq (of_bits binary64 bits) nought ≡ true → (p : Part) → In p ps → found t c ≡ At p.place → ⊥
+  pub zero-skips : (c : Name) (bits : ℕ) → Stands s r c bits → eq (of_bits binary64 bits) nought ≡ true → (p : Part) → In p ps → found t c ≡ Some p.place → ⊥
 
 -- ---- a channel that it does not name: its own list alone, with factor 1
 pub record TakesOwn (t : Tables) (r : Name) (ps : List Part) : Type 0 where
   pub place : ℕ
-  pub found_at : found t r ≡ At place
+  pub found_at : found t r ≡ Some place
   pub alone : ps ≡ part place one ∷ []
 
 -- ---- the parts in the order of the columns

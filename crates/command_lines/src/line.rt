@@ -12,11 +12,19 @@ pub(crate) enum Line {
     Channel(Name, OscState),
     Shape(Name),
     Command(Arranged),
-    Call(u8),
+    Call(Call),
     Named(Name),
     Factor(f64),
     Sampling(Ask),
-    Unreadable,
+}
+
+// `x`, `X`, `r`, `y`: what is told of a call, and what it leaves.
+#[derive(Clone, Copy)]
+pub(crate) enum Call {
+    Whole,
+    WithoutRows,
+    Answer,
+    Again,
 }
 
 // A sampling: what is asked for, the lengths and the samples of what is lent, and where the rows are printed from.
@@ -31,15 +39,13 @@ pub(crate) struct Ask {
     pub(crate) from: usize,
 }
 
-pub(crate) fn read(line: &[u8]) -> Line {
-    if line.len() < 1 {
-        return Line::Unreadable;
-    }
-    let letter = line[0];
+// None: the line cannot be read.
+pub(crate) fn read(line: &[u8]) -> Option<Line> {
+    let letter = *line.first()?;
     if !readable(line, words_of(letter)) {
-        return Line::Unreadable;
+        return None;
     }
-    match letter {
+    let said = match letter {
         b't' => Line::Tables(
             Amplitude(float(line, 0)),
             Time(float(line, 1)),
@@ -47,13 +53,35 @@ pub(crate) fn read(line: &[u8]) -> Line {
         ),
         b'c' => Line::Channel(name(line, 0), osc_of(line)),
         b's' => Line::Shape(name(line, 0)),
-        b'p' | b'h' | b'H' | b'f' | b'F' | b'w' | b'b' => Line::Command(arranged_of(letter, line)),
-        b'x' | b'X' | b'r' | b'y' => Line::Call(letter),
+        b'p' => arranged(line, Command::Play(play_of(line))),
+        b'h' => arranged(
+            line,
+            Command::ShiftPhase(name(line, 2), Phase(float(line, 5))),
+        ),
+        b'H' => arranged(
+            line,
+            Command::SetPhase(name(line, 2), Phase(float(line, 5))),
+        ),
+        b'f' => arranged(
+            line,
+            Command::ShiftFreq(name(line, 2), Frequency(float(line, 5))),
+        ),
+        b'F' => arranged(
+            line,
+            Command::SetFreq(name(line, 2), Frequency(float(line, 5))),
+        ),
+        b'w' => arranged(line, Command::SwapPhase(name(line, 2), name(line, 5))),
+        b'b' => arranged(line, Command::Barrier),
+        b'x' => Line::Call(Call::Whole),
+        b'X' => Line::Call(Call::WithoutRows),
+        b'r' => Line::Call(Call::Answer),
+        b'y' => Line::Call(Call::Again),
         b'n' => Line::Named(name(line, 0)),
         b'v' => Line::Factor(float(line, 0)),
         b'm' => Line::Sampling(ask_of(line)),
-        _ => Line::Unreadable,
-    }
+        _ => return None,
+    };
+    Some(said)
 }
 
 fn words_of(letter: u8) -> u8 {
@@ -77,34 +105,22 @@ fn osc_of(line: &[u8]) -> OscState {
     }
 }
 
-// A letter that is no command's stands for a barrier.
-pub(crate) fn arranged_of(letter: u8, line: &[u8]) -> Arranged {
-    let command = command_of(letter, line);
-    Arranged {
+fn arranged(line: &[u8], command: Command) -> Line {
+    Line::Command(Arranged {
         start: Time(float(line, 0)),
         span: Time(float(line, 1)),
         command,
-    }
-}
-
-fn command_of(letter: u8, line: &[u8]) -> Command {
-    match letter {
-        b'p' => Command::Play(play_of(line)),
-        b'h' => Command::ShiftPhase(name(line, 2), Phase(float(line, 5))),
-        b'H' => Command::SetPhase(name(line, 2), Phase(float(line, 5))),
-        b'f' => Command::ShiftFreq(name(line, 2), Frequency(float(line, 5))),
-        b'F' => Command::SetFreq(name(line, 2), Frequency(float(line, 5))),
-        b'w' => Command::SwapPhase(name(line, 2), name(line, 5)),
-        _ => Command::Barrier,
-    }
+    })
 }
 
 fn play_of(line: &[u8]) -> Play {
-    let channel = name(line, 2);
-    let shape = name(line, 6);
+    let shape = if choice(line, 5) {
+        Some(name(line, 6))
+    } else {
+        None
+    };
     Play {
-        channel,
-        shaped: choice(line, 5),
+        channel: name(line, 2),
         shape,
         amplitude: Amplitude(float(line, 9)),
         width: Time(float(line, 10)),
@@ -117,9 +133,8 @@ fn play_of(line: &[u8]) -> Play {
 }
 
 fn ask_of(line: &[u8]) -> Ask {
-    let channel = name(line, 0);
     let request = Request {
-        channel,
+        channel: name(line, 0),
         rate: Frequency(float(line, 3)),
         delay: Time(float(line, 4)),
         level: level(line, 5, 30),

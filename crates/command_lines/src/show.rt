@@ -1,52 +1,48 @@
 // What a call or a sampling came to, printed.
-ghost use Rattle.std.specs.Prelude.{◌<◌, ◌≤◌};
+ghost use Rattle.std.specs.Prelude.{◌≤◌};
 
-use super::state::least;
+use super::line::Call;
 use decimal::print::pattern;
 use owned::Executed;
 use pulse::list::Pulse;
-use quant::refusal::{Answer, number};
+use quant::refusal::{Answer, Refused, number};
 use std::io;
 use std::io::Write;
 use tables::Channel;
 
 // A call's answer, and for `x` and `X` all that it leaves.
 pub(crate) fn show<W: Write>(
-    letter: u8,
-    e: Executed,
+    call: Call,
+    e: &Executed,
     bins: &[[f64; 77]],
     out: &mut W,
 ) -> io::Result<()> {
-    let tabled = e.tabled;
-    let pulses = e.pulses;
-    let answer = tabled.answer;
-    let t = tabled.tables;
-    show_answer(b"x", answer, out)?;
-    let count = shown(letter, t.count);
-    let mut i: usize = 0;
-    while i < count {
+    let t = e.tabled.tables;
+    show_answer(b"x", e.tabled.answer, out)?;
+    for i in 0..shown(call, t.count) {
         let c = t.channels[i];
+        let from = (64 * i).min(bins.len());
+        let end = (64 * i + c.bins.min(64)).min(bins.len());
         show_channel(c, out)?;
-        show_bins(bins, 64 * i, least(c.bins, 64), out)?;
-        show_pulses(pulses, 1024 * i, least(c.pulses, 1024), out)?;
-        i += 1;
+        show_bins(&bins[from..end], out)?;
+        show_pulses(&e.pulses[1024 * i..1024 * i + c.pulses.min(1024)], out)?;
     }
     Ok(())
 }
 
 // How many of the channels are told.
-fn shown(letter: u8, count: usize) -> usize
+fn shown(call: Call, count: usize) -> usize
     ensures { result ≤ 8 }
 {
-    match letter {
-        b'x' | b'X' => least(count, 8),
-        _ => 0,
+    match call {
+        Call::Whole | Call::WithoutRows => count.min(8),
+        Call::Answer | Call::Again => 0,
     }
 }
 
 // The number of an addition that is refused.
 pub(crate) fn show_refused<W: Write>(a: Answer, out: &mut W) -> io::Result<()> {
-    if let Answer::Refused(why, _) = a {
+    if let Err(Refused { why, .. }) = a {
         out.write_all(b"a")?;
         print_word(number(why) as u64, out)?;
         out.write_all(b"\n")?;
@@ -56,8 +52,8 @@ pub(crate) fn show_refused<W: Write>(a: Answer, out: &mut W) -> io::Result<()> {
 
 pub(crate) fn show_answer<W: Write>(letter: &[u8], a: Answer, out: &mut W) -> io::Result<()> {
     match a {
-        Answer::Done(count) => show_two(letter, 0, count as u64, out),
-        Answer::Refused(why, count) => show_two(letter, number(why) as u64, count as u64, out),
+        Ok(count) => show_two(letter, 0, count as u64, out),
+        Err(Refused { why, place }) => show_two(letter, number(why) as u64, place as u64, out),
     }
 }
 
@@ -79,48 +75,29 @@ fn show_channel<W: Write>(c: Channel, out: &mut W) -> io::Result<()> {
     out.write_all(b"\n")
 }
 
-fn show_bins<W: Write>(bins: &[[f64; 77]], from: usize, count: usize, out: &mut W) -> io::Result<()>
-    requires { (from ≤ 512) × (count ≤ 64) }
-{
-    let mut i: usize = 0;
-    while i < count {
-        let at = from + i;
-        if bins.len() <= at {
-            return Ok(());
-        }
-        show_bin(bins[at], out)?;
-        i += 1;
+fn show_bins<W: Write>(bins: &[[f64; 77]], out: &mut W) -> io::Result<()> {
+    for row in bins {
+        show_bin(row, out)?;
     }
     Ok(())
 }
 
-fn show_bin<W: Write>(row: [f64; 77], out: &mut W) -> io::Result<()> {
+fn show_bin<W: Write>(row: &[f64; 77], out: &mut W) -> io::Result<()> {
     out.write_all(b"b")?;
-    print_float(row[0], out)?;
-    print_float(row[1], out)?;
-    print_float(row[2], out)?;
-    print_float(row[3], out)?;
-    print_float(row[4], out)?;
+    for x in &row[..5] {
+        print_float(*x, out)?;
+    }
     out.write_all(b"\n")
 }
 
-fn show_pulses<W: Write>(
-    pulses: [Pulse; 8192],
-    from: usize,
-    count: usize,
-    out: &mut W,
-) -> io::Result<()>
-    requires { (from ≤ 7168) × (count ≤ 1024) }
-{
-    let mut i: usize = 0;
-    while i < count {
-        show_pulse(pulses[from + i], out)?;
-        i += 1;
+fn show_pulses<W: Write>(pulses: &[Pulse], out: &mut W) -> io::Result<()> {
+    for p in pulses {
+        show_pulse(p, out)?;
     }
     Ok(())
 }
 
-fn show_pulse<W: Write>(p: Pulse, out: &mut W) -> io::Result<()> {
+fn show_pulse<W: Write>(p: &Pulse, out: &mut W) -> io::Result<()> {
     out.write_all(b"r")?;
     print_word(p.bin as u64, out)?;
     print_float(p.time.0, out)?;
@@ -140,12 +117,10 @@ pub(crate) fn show_row<W: Write>(
     out: &mut W,
 ) -> io::Result<()> {
     out.write_all(letter)?;
-    let n = least(count, row.len());
-    let mut i = least(from, n);
-    let end = i + least(n - i, 256);
-    while i < end {
-        print_float(row[i], out)?;
-        i += 1;
+    let n = count.min(row.len());
+    let from = from.min(n);
+    for x in &row[from..from + (n - from).min(256)] {
+        print_float(*x, out)?;
     }
     out.write_all(b"\n")
 }

@@ -1,7 +1,5 @@
 // What is known between two lines, but for the arrays: the tables, how many commands are gathered, and the crosstalk.
-ghost use Rattle.std.specs.Prelude.{◌≡◌, min};
-
-use super::line::Line;
+use super::line::{Call, Line};
 use super::show::show_refused;
 use commands::command::Arranged;
 use crosstalk::names::Crosstalk;
@@ -30,19 +28,19 @@ fn fresh(tables: Tables) -> State {
         second: 0,
         len: 0,
     };
-    let names = [none; 8];
-    let cross = Crosstalk { count: 0, names };
-    let factors = [0.0; 64];
     State {
         tables,
         count: 0,
-        cross,
-        factors,
+        cross: Crosstalk {
+            count: 0,
+            names: [none; 8],
+        },
+        factors: [0.0; 64],
         lent: 0,
     }
 }
 
-// What a line does to the state, but for a call. A write that fails changes nothing of it.
+// What a line does to the state, but for a call, a sampling and a command. A write that fails changes nothing of it.
 pub(crate) fn after<W: Write>(
     s: State,
     said: Line,
@@ -52,47 +50,33 @@ pub(crate) fn after<W: Write>(
     let t = s.tables;
     match said {
         Line::Tables(amp, time, oversize) => fresh(told(tables::make(amp, time, oversize), out)),
-        Line::Channel(name, osc) => with_tables(s, told(tables::add_channel(t, name, osc), out)),
-        Line::Shape(name) => with_tables(s, told(tables::add_shape(t, name, splines), out)),
-        Line::Command(_) => with_count(s, least(s.count, 1023) + 1),
+        Line::Channel(name, osc) => State {
+            tables: told(tables::add_channel(t, name, osc), out),
+            ..s
+        },
+        Line::Shape(name) => State {
+            tables: told(tables::add_shape(t, name, splines), out),
+            ..s
+        },
         Line::Named(name) => with_name(s, name),
         Line::Factor(x) => with_factor(s, x),
-        Line::Unreadable => {
-            let _ = out.write_all(b"?\n");
-            s
-        }
         _ => s,
     }
 }
 
 fn told<W: Write>(t: Tabled, out: &mut W) -> Tables {
-    let answer = t.answer;
-    let _ = show_refused(answer, out);
+    let _ = show_refused(t.answer, out);
     t.tables
-}
-
-fn with_tables(s: State, tables: Tables) -> State {
-    let mut u = s;
-    u.tables = tables;
-    u
-}
-
-fn with_count(s: State, count: usize) -> State {
-    let mut u = s;
-    u.count = count;
-    u
 }
 
 // A ninth name has no place and is only counted.
 fn with_name(s: State, name: Name) -> State {
     let mut u = s;
-    let mut c = s.cross;
-    let at = least(c.count, 8);
+    let at = s.cross.count.min(8);
     if at < 8 {
-        c.names[at] = name;
+        u.cross.names[at] = name;
     }
-    c.count = at + 1;
-    u.cross = c;
+    u.cross.count = at + 1;
     u
 }
 
@@ -107,33 +91,24 @@ fn with_factor(s: State, x: f64) -> State {
     u
 }
 
-// The command that a line is, in place of what stood there; any other line leaves it. Of more than 1,024 the last takes the last place.
-pub(crate) fn kept(said: Line, before: Arranged) -> Arranged {
-    match said {
-        Line::Command(a) => a,
-        _ => before,
+// One command more. Of more than 1,024 the last takes the last place.
+pub(crate) fn with_command(s: State, a: Arranged, commands: &mut [Arranged; 1024]) -> State {
+    let slot = s.count.min(1023);
+    commands[slot] = a;
+    State {
+        count: slot + 1,
+        ..s
     }
 }
 
-// A call's letter, `m` for a sampling, `?` for any other line.
-pub(crate) fn letter_of(said: Line) -> u8 {
-    match said {
-        Line::Call(letter) => letter,
-        Line::Sampling(_) => b'm',
-        _ => b'?',
+// What a call leaves: its commands are forgotten. After `y` all is as before.
+pub(crate) fn ran(s: State, call: Call, tables: Tables) -> State {
+    match call {
+        Call::Again => s,
+        _ => State {
+            tables,
+            count: 0,
+            ..s
+        },
     }
-}
-
-// What a call leaves: its commands are forgotten. After `y`, as after a sampling, all is as before.
-pub(crate) fn ran(s: State, letter: u8, t: Tabled) -> State {
-    match letter {
-        b'm' | b'y' => s,
-        _ => with_count(with_tables(s, t.tables), 0),
-    }
-}
-
-pub(crate) fn least(a: usize, b: usize) -> usize
-    ensures { result ≡ min a b }
-{
-    if a < b { a } else { b }
 }

@@ -2,89 +2,85 @@
 ghost use Rattle.std.specs.Prelude.{◌≡◌, ◌≤◌, length};
 ghost use Rattle.lines.specs.Text.{lines_of};
 
-use super::line::{Ask, Line, arranged_of, read};
+use super::line::{Ask, Call, Line, read};
 use super::show::{show, show_answer, show_row};
-use super::state::{State, after, kept, least, letter_of, ran, start};
-use commands::command::Arranged;
-use crosstalk::names::Crosstalk;
+use super::state::{State, after, ran, start, with_command};
+use commands::command::{Arranged, Command};
 use owned::{Executed, execute_owned};
 use owned_sampler::sample_owned;
 use pulse::list::Pulse;
-use quant::complex::Complex;
 use quant::quantity::Time;
 use quant::refusal::Answer;
-use sampler::Request;
 use std::io;
 use std::io::Write;
-use tables::{Tabled, Tables};
 use words::end_of;
 
 // Answers go to a writer, and one that cannot be written is passed over. Every line is gone through once: the count is the lines'.
 pub fn walk<W: Write>(text: &[u8], out: &mut W) -> usize
     ensures { result ≡ length (lines_of text.now) }
 {
-    let mut commands = [arranged_of(b'b', b""); 1024];
-    let mut pulses = [no_pulse(); 8192];
+    let barrier = Arranged {
+        start: Time(0.0),
+        span: Time(0.0),
+        command: Command::Barrier,
+    };
+    let mut commands = [barrier; 1024];
+    let mut pulses = [Pulse::default(); 8192];
     let mut bins = [[0.0; 77]; 512];
     let mut splines = [[0.0; 72]; 8];
     let mut s = start();
     let mut lines: usize = 0;
     let mut at: usize = 0;
+    // Kept: bytes have no `split`, and a text parted in two at each line feed is no plainer.
     while at < text.len() {
         let end = end_of(text, at);
-        let next = end + 1;
-        let said = read(&text[at..end]);
         lines += 1;
-        let slot = least(s.count, 1023);
-        commands[slot] = kept(said, commands[slot]);
-        s = after(s, said, &mut splines, out);
-        let letter = letter_of(said);
-        if letter != b'?' {
-            let e = called(s, said, letter, &splines, commands, &mut bins, pulses, out);
-            pulses = e.pulses;
-            s = ran(s, letter, e.tabled);
+        match read(&text[at..end]) {
+            Some(Line::Command(a)) => s = with_command(s, a, &mut commands),
+            Some(Line::Call(call)) => {
+                let e = called(s, call, &splines, commands, &mut bins, pulses, out);
+                pulses = e.pulses;
+                s = ran(s, call, e.tabled.tables);
+            }
+            Some(Line::Sampling(ask)) => {
+                let _ = sampled(s, ask, &bins, pulses, out);
+            }
+            Some(said) => s = after(s, said, &mut splines, out),
+            None => {
+                let _ = out.write_all(b"?\n");
+            }
         }
-        at = next;
+        at = end + 1;
     }
     lines
 }
 
-// A sampling leaves all as it was; `X` lends no row.
+// A call without rows lends none for the bins.
 fn called<W: Write>(
     s: State,
-    said: Line,
-    letter: u8,
+    call: Call,
     splines: &[[f64; 72]],
     commands: [Arranged; 1024],
     bins: &mut [[f64; 77]],
     pulses: [Pulse; 8192],
     out: &mut W,
 ) -> Executed {
-    let t = s.tables;
-    if let Line::Sampling(ask) = said {
-        let _ = sampled(s, ask, bins, pulses, out);
-        return unchanged(t, pulses);
-    }
-    let n = rows_of(letter, bins.len());
-    let e = execute_owned(t, splines, commands, s.count, &mut bins[..n], pulses);
-    let _ = show(letter, e, bins, out);
+    let n = rows_of(call, bins.len());
+    let e = execute_owned(s.tables, splines, commands, s.count, &mut bins[..n], pulses);
+    let _ = show(call, &e, bins, out);
     e
 }
 
-fn rows_of(letter: u8, rows: usize) -> usize
+fn rows_of(call: Call, rows: usize) -> usize
     ensures { result ≤ rows }
 {
-    if letter == b'X' { 0 } else { rows }
+    match call {
+        Call::WithoutRows => 0,
+        _ => rows,
+    }
 }
 
-fn unchanged(tables: Tables, pulses: [Pulse; 8192]) -> Executed {
-    let tabled = Tabled {
-        answer: Answer::Done(0),
-        tables,
-    };
-    Executed { tabled, pulses }
-}
-
+// A sampling leaves the state as it was.
 fn sampled<W: Write>(
     s: State,
     ask: Ask,
@@ -92,29 +88,19 @@ fn sampled<W: Write>(
     pulses: [Pulse; 8192],
     out: &mut W,
 ) -> io::Result<()> {
-    let t = s.tables;
-    let r = ask.request;
-    let c = s.cross;
-    let factors = s.factors;
     let mut i = [ask.first; 65537];
     let mut q = [ask.second; 65537];
     let mut scratch = [0.0; 65537];
     let mut work = [[0.0; 5]; 8192];
     let mut marks = [0; 8192];
     let a = on_rows(
-        t,
-        r,
-        c,
-        &factors,
-        s.lent,
+        s,
+        ask,
         bins,
         pulses,
         &mut i,
-        ask.i,
         &mut q,
-        ask.q,
         &mut scratch,
-        ask.scratch,
         &mut work,
         &mut marks,
     );
@@ -125,31 +111,25 @@ fn sampled<W: Write>(
 
 // On the first factors, and the first samples of each row and of the scratch: as many as are given, or all.
 fn on_rows(
-    t: Tables,
-    r: Request,
-    c: Crosstalk,
-    factors: &[f64],
-    nf: usize,
+    s: State,
+    ask: Ask,
     bins: &[[f64; 77]],
     pulses: [Pulse; 8192],
     i: &mut [f64],
-    ni: usize,
     q: &mut [f64],
-    nq: usize,
     scratch: &mut [f64],
-    ns: usize,
     work: &mut [[f64; 5]],
     marks: &mut [usize],
 ) -> Answer {
-    let f = least(nf, factors.len());
-    let a = least(ni, i.len());
-    let b = least(nq, q.len());
-    let d = least(ns, scratch.len());
+    let factors = s.lent.min(64);
+    let a = ask.i.min(i.len());
+    let b = ask.q.min(q.len());
+    let d = ask.scratch.min(scratch.len());
     sample_owned(
-        t,
-        r,
-        c,
-        &factors[..f],
+        s.tables,
+        ask.request,
+        s.cross,
+        &s.factors[..factors],
         bins,
         pulses,
         &mut i[..a],
@@ -158,14 +138,4 @@ fn on_rows(
         work,
         marks,
     )
-}
-
-fn no_pulse() -> Pulse {
-    let nought = Complex { re: 0.0, im: 0.0 };
-    Pulse {
-        bin: 0,
-        time: Time(0.0),
-        amp: nought,
-        drag: nought,
-    }
 }

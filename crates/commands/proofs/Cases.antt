@@ -1,5 +1,6 @@
 -- A step refuses, or goes on with nothing to store, or stores a pulse for which there is room. So a refused step
 -- changes nothing, and what a step writes lies within what is lent. Assumes nothing.
+use Rattle.std.specs.Prelude.{Option, Some, None}
 use Prim.Native.Nat.{ℕ, ◌+◌, ◌*◌, ◌≤◌, ◌<◌}
 use native.Mathlib.Omega.{arith}
 use mathlib.Core.Path.{◌≡◌, refl, sym, ap, ◌∙◌}
@@ -22,14 +23,10 @@ use Rattle.pulse.specs.declared.envelope.Shape.{Shape}
 use Rattle.pulse.specs.declared.envelope.Shape.TheVariants.{Plain}
 use Rattle.pulse.specs.declared.list.Pulse.{Pulse}
 use Rattle.pulse.specs.declared.weight.Weight.{Weight}
-use Rattle.pulse.specs.declared.weight.Weighed.{Weighed}
-use Rattle.pulse.specs.declared.weight.Weighed.TheVariants.{Fine, Overflow}
 use Rattle.pulse.specs.Bin.{head_of, kind_of, place_of}
 use Rattle.pulse.specs.Weight.{negligible, weighed_of}
 use Rattle.pulse.proofs.Place.{place-first}
 use Rattle.tables.specs.declared.Tables.{Tables}
-use Rattle.tables.specs.declared.Found.{Found}
-use Rattle.tables.specs.declared.Found.TheVariants.{At, Nowhere}
 use Rattle.tables.specs.Tables.{found, shape_found, channel_at}
 use Rattle.tables.proofs.Finding.{found-eight}
 use Rattle.commands.specs.declared.command.Play.{Play}
@@ -39,7 +36,7 @@ use Rattle.commands.specs.declared.command.Arranged.{Arranged}
 use Rattle.commands.specs.declared.step.Step.{Step}
 use Rattle.commands.specs.Command.{good, well_formed, too_long, named, is_swap}
 use Rattle.commands.specs.Step.{no_spline, numbers_at, stops, goes_on, bins_after, pulses_after, with_osc, turned, moved_by, turned_at, swapped_to, swapped_at, swapped_between}
-use Rattle.commands.specs.Play.{rows_of, is_new, is_full, stores, stored_at, stored_with, plateau_of, bin_for, spline_for, pushed, played_at, played_as, played_by, played}
+use Rattle.commands.specs.Play.{rows_of, is_new, is_full, stores, stored_at, stored_with, plateau_of, bin_for, spline_for, pushed, played_at, played_as, played_by, played, played_with}
 use Rattle.commands.specs.Run.{acted, step_of}
 use Rattle.commands.proofs.Rows.{not_full}
 
@@ -48,9 +45,9 @@ use Rattle.commands.proofs.Rows.{not_full}
 pub data Kind (t : Tables) (bins : List (List Float)) (c : Command) : Step → Type 0 where
   refuses : (r : Refusal) → Kind t bins c (stops t r)
   goes : Kind t bins c (goes_on t)
-  turns : (i : ℕ) (o : OscState) → found t (named c) ≡ At i → Kind t bins c (goes_on (with_osc t i o))
+  turns : (i : ℕ) (o : OscState) → found t (named c) ≡ Some i → Kind t bins c (goes_on (with_osc t i o))
   swaps : (i j : ℕ) (o q : OscState) → is_swap c ≡ true → Kind t bins c (goes_on (with_osc (with_osc t i o) j q))
-  puts : (i place : ℕ) (new : Bool) (start : Float) (w : Weight) (head : List Float) (spline : ℕ) → found t (named c) ≡ At i → finite start ≡ true
+  puts : (i place : ℕ) (new : Bool) (start : Float) (w : Weight) (head : List Float) (spline : ℕ) → found t (named c) ≡ Some i → finite start ≡ true
       → place ≤ (channel_at t i).bins → (new ≡ false → place < (channel_at t i).bins) → (new ≡ true → (channel_at t i).bins < 64)
       → (new ≡ true → length (rows_of t bins i) ≤ place) → (channel_at t i).pulses < 1024 → Kind t bins c (stores t i place new start w head spline)
 
@@ -61,25 +58,25 @@ module _ (t : Tables) (bins : List (List Float)) (c : Command) where
   one_of true x y h k = h refl
   one_of false x y h k = k refl
 
-  turned-kind : (i : ℕ) (m : Moved) → found t (named c) ≡ At i → Kind t bins c (turned t i m)
+  turned-kind : (i : ℕ) (m : Moved) → found t (named c) ≡ Some i → Kind t bins c (turned t i m)
   turned-kind i m there =
       one_of m.refused (stops t NotFinite) (goes_on (with_osc t i m.osc)) (λ _. refuses NotFinite) (λ _. turns i m.osc there)
 
-  turned-at-kind : (f : Found) → found t (named c) ≡ f → (time : Float) → Kind t bins c (turned_at t f c time)
+  turned-at-kind : (f : Option ℕ) → found t (named c) ≡ f → (time : Float) → Kind t bins c (turned_at t f c time)
   unfolding turned_at
-  turned-at-kind Nowhere e time = refuses UnknownChannel
-  turned-at-kind (At i) e time = turned-kind i (moved_by c time (channel_at t i).osc) e
+  turned-at-kind None e time = refuses UnknownChannel
+  turned-at-kind (Some i) e time = turned-kind i (moved_by c time (channel_at t i).osc) e
 
   module _ (swap : is_swap c ≡ true) where
     swapped-to-kind : (i j : ℕ) (s : Swapped) → Kind t bins c (swapped_to t i j s)
     swapped-to-kind i j s =
         one_of s.refused (stops t NotFinite) (goes_on (with_osc (with_osc t i s.one) j s.two)) (λ _. refuses NotFinite) (λ _. swaps i j s.one s.two swap)
 
-    swapped-at-kind : (f g : Found) (time : Float) → Kind t bins c (swapped_at t f g time)
+    swapped-at-kind : (f g : Option ℕ) (time : Float) → Kind t bins c (swapped_at t f g time)
     unfolding swapped_at
-    swapped-at-kind Nowhere g time = refuses UnknownChannel
-    swapped-at-kind (At i) Nowhere time = refuses UnknownChannel
-    swapped-at-kind (At i) (At j) time = swapped-to-kind i j (swapped_phases (channel_at t i).osc (channel_at t j).osc time)
+    swapped-at-kind None g time = refuses UnknownChannel
+    swapped-at-kind (Some i) None time = refuses UnknownChannel
+    swapped-at-kind (Some i) (Some j) time = swapped-to-kind i j (swapped_phases (channel_at t i).osc (channel_at t j).osc time)
 
     swapped-kind : (n m : Name) (time : Float) → Kind t bins c (swapped_between t n m time)
     swapped-kind n m time =
@@ -87,7 +84,7 @@ module _ (t : Tables) (bins : List (List Float)) (c : Command) where
         one_of (same_name n m) (goes_on t) s (λ _. goes) (λ _. swapped-at-kind (found t n) (found t m) time)
 
   module _ (splines : List (List Float)) (start : Float) (known : finite start ≡ true) where
-    module _ (i : ℕ) (there : found t (named c) ≡ At i) (head : List Float) (spline : ℕ) where
+    module _ (i : ℕ) (there : found t (named c) ≡ Some i) (head : List Float) (spline : ℕ) where
       abbrev row : List Float
       row = head ++ numbers_at splines spline
 
@@ -108,13 +105,13 @@ module _ (t : Tables) (bins : List (List Float)) (c : Command) where
           let few = few-rows in
           puts i place new start w head spline there known (omega arith) (λ old. let under = leb-false (length (rows_of t bins i)) place old in omega arith) room.0 (leb-true (length (rows_of t bins i)) place) room.1)
 
-      stored-with-kind : (w : Weighed) → Kind t bins c (stored_with t splines bins i start w head spline)
+      stored-with-kind : (w : Option Weight) → Kind t bins c (stored_with t splines bins i start w head spline)
       unfolding stored_with
-      stored-with-kind Overflow = refuses NotFinite
-      stored-with-kind (Fine w) = stored-kind w
+      stored-with-kind None = refuses NotFinite
+      stored-with-kind (Some w) = stored-kind w
 
     module _ (span : Float) (p : Play) (is : named c ≡ p.channel) where
-      pushed-kind : (kind : Shape) (k i : ℕ) → found t p.channel ≡ At i → Kind t bins c (pushed t splines bins i start p (bin_for t i kind p span) k)
+      pushed-kind : (kind : Shape) (k i : ℕ) → found t p.channel ≡ Some i → Kind t bins c (pushed t splines bins i start p (bin_for t i kind p span) k)
       pushed-kind kind k i there =
           let b = bin_for t i kind p span in
           let w = weighed_of p.amplitude.0 p.phase.0 p.drag in
@@ -125,10 +122,10 @@ module _ (t : Tables) (bins : List (List Float)) (c : Command) where
           (λ _. one_of quiet (goes_on t) storing (λ _. goes) (λ _. stored-with-kind i (ap (found t) is ∙ there) (head_of b) spline w))
           (λ _. refuses NotFinite)
 
-      played-at-kind : (kind : Shape) (k : ℕ) (f : Found) → found t p.channel ≡ f → Kind t bins c (played_at t splines bins f start span p kind k)
+      played-at-kind : (kind : Shape) (k : ℕ) (f : Option ℕ) → found t p.channel ≡ f → Kind t bins c (played_at t splines bins f start span p kind k)
       unfolding played_at
-      played-at-kind kind k Nowhere e = refuses UnknownChannel
-      played-at-kind kind k (At i) e = pushed-kind kind k i e
+      played-at-kind kind k None e = refuses UnknownChannel
+      played-at-kind kind k (Some i) e = pushed-kind kind k i e
 
       played_as_kind : (kind : Shape) (k : ℕ) → Kind t bins c (played_as t splines bins start span p kind k)
       played_as_kind kind k =
@@ -137,17 +134,17 @@ module _ (t : Tables) (bins : List (List Float)) (c : Command) where
           (λ _. refuses NegativePlateau)
           (λ _. played-at-kind kind k f refl)
 
-      played-by-kind : (f : Found) → Kind t bins c (played_by t splines bins f start span p)
+      played-by-kind : (f : Option ℕ) → Kind t bins c (played_by t splines bins f start span p)
       unfolding played_by
-      played-by-kind Nowhere = refuses UnknownShape
-      played-by-kind (At k) = played_as_kind (kind_of (numbers_at splines k)) k
+      played-by-kind None = refuses UnknownShape
+      played-by-kind (Some k) = played_as_kind (kind_of (numbers_at splines k)) k
 
       played-kind : Kind t bins c (played t splines bins start span p)
-      played-kind =
-          let f = shape_found t p.shape in
-          one_of p.shaped (played_by t splines bins f start span p) (played_as t splines bins start span p Plain no_spline)
-          (λ _. played-by-kind f)
-          (λ _. played_as_kind Plain no_spline)
+      played-kind = by p.shape
+        where
+          by : (n : Option Name) → Kind t bins c (played_with t splines bins n start span p)
+          by None = played_as_kind Plain no_spline
+          by (Some n) = played-by-kind (shape_found t n)
 
 module _ (t : Tables) (splines bins : List (List Float)) where
   acted-kind : (start : Float) → finite start ≡ true → (span : Float) (c : Command) → Kind t bins c (acted t splines bins start span c)

@@ -2,6 +2,7 @@
 -- Assumes nothing.
 use Prim.Native.Nat.{ℕ, ◌+◌, ◌<◌, ◌≤◌}
 use native.Mathlib.Numerals.{add-one}
+use native.Mathlib.Omega.{arith}
 use mathlib.Core.Path.{◌≡◌, sym}
 use mathlib.Core.Bool.{true, false, cond}
 use mathlib.Core.List.{List}
@@ -20,9 +21,11 @@ module _ (cs : List Arranged) (k : ℕ) (u : Tables) (splines bins : List (List 
   abbrev pub still : Ran
   still = ran k u splines (drop k cs) bins pulses
 
-  pub at-end : length cs ≤ k → ran_to (done_at u k) bins pulses ≡ still
+  pub at-end : k ≡ length cs → ran_to (done_at u (length cs)) bins pulses ≡ still
   unfolding ran
-  at-end h = rw (drop_of_length-le cs h)
+  at-end e =
+      let past : length cs ≤ k = omega arith in
+      rw (drop_of_length-le cs past, sym e)
 
   -- `none` is what would be read past the end
   module _ (none : Arranged) (more : k < length cs) where

@@ -1,6 +1,6 @@
 -- Document 01: what a command carries and how long it takes. "2: a number in a command is not finite; width below 0; a name breaks the
 -- rule"; "Required is width for a flexible play, width + plateau for another, 0 for the rest". Definitions only.
-use Rattle.std.specs.Prelude.{Bool, true, false, ◌&&◌, ◌||◌, not, cond, Float}
+use Rattle.std.specs.Prelude.{Bool, true, false, ◌&&◌, not, cond, Float, Option, Some, None}
 use Rattle.std.specs.Float.{binary64}
 use Rattle.std.specs.Float.Ieee.{add, lt}
 use Rattle.std.specs.Float.Ieee.Scale.{finite}
@@ -14,9 +14,14 @@ use Rattle.commands.specs.declared.command.Command.{Command}
 use Rattle.commands.specs.declared.command.Command.TheVariants as C
 use Rattle.commands.specs.declared.command.Arranged.{Arranged}
 
--- the names of a play; where it has no shape, the shape's name is not read
+-- the name of a shape, where there is one
+abbrev pub good_shape : Option Name → Bool
+good_shape None = true
+good_shape (Some n) = is_name n
+
+-- the names of a play
 abbrev pub good_names : Play → Bool
-good_names p = is_name p.channel && (not p.shaped || is_name p.shape)
+good_names p = is_name p.channel && good_shape p.shape
 
 -- the numbers of a play, the plateau of a flexible one too
 abbrev pub good_numbers : Play → Bool

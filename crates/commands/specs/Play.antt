@@ -1,6 +1,7 @@
 -- Document 01, "Oscillators" and "Lists and merging": a play. Its checks in order: 5, 6, 7, 8, 3. "A play that stores nothing meets no 3,
 -- and 8 only for its total frequency and envelope." Definitions only.
-use Rattle.std.specs.Prelude.{ℕ, ◌+◌, ◌*◌, Bool, true, false, ◌&&◌, ◌||◌, cond, List, ◌++◌, leb, Float, length, take, drop}
+use Rattle.naming.specs.declared.Name.{Name}
+use Rattle.std.specs.Prelude.{ℕ, ◌+◌, ◌*◌, Bool, true, false, ◌&&◌, ◌||◌, cond, List, ◌++◌, leb, Float, length, take, drop, Option, Some, None}
 use Rattle.std.specs.Float.{binary64}
 use Rattle.std.specs.Float.Ieee.{sub, lt}
 use Rattle.std.specs.Float.Ieee.Scale.{finite}
@@ -14,15 +15,11 @@ use Rattle.pulse.specs.declared.envelope.Shape.{Shape}
 use Rattle.pulse.specs.declared.envelope.Shape.TheVariants.{Plain, Hann, Spline}
 use Rattle.pulse.specs.declared.list.Pulse.{Pulse}
 use Rattle.pulse.specs.declared.weight.Weight.{Weight}
-use Rattle.pulse.specs.declared.weight.Weighed.{Weighed}
-use Rattle.pulse.specs.declared.weight.Weighed.TheVariants.{Fine, Overflow}
 use Rattle.pulse.specs.Envelope.{envelope_of}
 use Rattle.pulse.specs.Bin.{head_of, kind_of, place_of}
 use Rattle.pulse.specs.Weight.{negligible, weighed_of}
 use Rattle.tables.specs.declared.Channel.{Channel}
 use Rattle.tables.specs.declared.Tables.{Tables}
-use Rattle.tables.specs.declared.Found.{Found}
-use Rattle.tables.specs.declared.Found.TheVariants.{At, Nowhere}
 use Rattle.tables.specs.Tables.{found, shape_found, channel_at, with_channel}
 use Rattle.commands.specs.declared.command.Play.{Play}
 use Rattle.commands.specs.declared.step.Step.{Step}
@@ -71,9 +68,9 @@ stored_at t splines bins i start w head spline =
     cond (is_full t bins i place) (stops t Full) (stores t i place (is_new t bins i place) start w head spline)
 
 -- 8 of a play that stores
-unfoldable pub stored_with : Tables → List (List Float) → List (List Float) → ℕ → Float → Weighed → List Float → ℕ → Step
-stored_with t splines bins i start Overflow head spline = stops t NotFinite
-stored_with t splines bins i start (Fine w) head spline = stored_at t splines bins i start w head spline
+unfoldable pub stored_with : Tables → List (List Float) → List (List Float) → ℕ → Float → Option Weight → List Float → ℕ → Step
+stored_with t splines bins i start None head spline = stops t NotFinite
+stored_with t splines bins i start (Some w) head spline = stored_at t splines bins i start w head spline
 
 -- "Play: a flexible plateau is span - width"
 abbrev pub plateau_of : Play → Float → Float
@@ -104,9 +101,9 @@ pushed t splines bins i start p b k =
     (stops t NotFinite)
 
 -- 7
-unfoldable pub played_at : Tables → List (List Float) → List (List Float) → Found → Float → Float → Play → Shape → ℕ → Step
-played_at t splines bins Nowhere start span p kind k = stops t UnknownChannel
-played_at t splines bins (At i) start span p kind k = pushed t splines bins i start p (bin_for t i kind p span) k
+unfoldable pub played_at : Tables → List (List Float) → List (List Float) → Option ℕ → Float → Float → Play → Shape → ℕ → Step
+played_at t splines bins None start span p kind k = stops t UnknownChannel
+played_at t splines bins (Some i) start span p kind k = pushed t splines bins i start p (bin_for t i kind p span) k
 
 -- 6
 abbrev pub played_as : Tables → List (List Float) → List (List Float) → Float → Float → Play → Shape → ℕ → Step
@@ -114,10 +111,13 @@ played_as t splines bins start span p kind k =
     cond (lt (plateau_of p span) nought) (stops t NegativePlateau) (played_at t splines bins (found t p.channel) start span p kind k)
 
 -- 5; "a play looks the name up when it runs"
-unfoldable pub played_by : Tables → List (List Float) → List (List Float) → Found → Float → Float → Play → Step
-played_by t splines bins Nowhere start span p = stops t UnknownShape
-played_by t splines bins (At k) start span p = played_as t splines bins start span p (kind_of (numbers_at splines k)) k
+unfoldable pub played_by : Tables → List (List Float) → List (List Float) → Option ℕ → Float → Float → Play → Step
+played_by t splines bins None start span p = stops t UnknownShape
+played_by t splines bins (Some k) start span p = played_as t splines bins start span p (kind_of (numbers_at splines k)) k
+
+abbrev pub played_with : Tables → List (List Float) → List (List Float) → Option Name → Float → Float → Play → Step
+played_with t splines bins None start span p = played_as t splines bins start span p Plain no_spline
+played_with t splines bins (Some n) start span p = played_by t splines bins (shape_found t n) start span p
 
 abbrev pub played : Tables → List (List Float) → List (List Float) → Float → Float → Play → Step
-played t splines bins start span p =
-    cond p.shaped (played_by t splines bins (shape_found t p.shape) start span p) (played_as t splines bins start span p Plain no_spline)
+played t splines bins start span p = played_with t splines bins p.shape start span p

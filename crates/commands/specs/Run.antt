@@ -1,7 +1,7 @@
 -- Document 01: the order for a command, "2, 4, 5, 6, 7, 8, 3", and a list of commands: "A list over 1,024 commands: 13 before any"; "Only
 -- earlier commands of the same call remain"; the place of a refusal and the count of an acceptance are the commands run. Definitions only.
-use Rattle.std.specs.Prelude.{ℕ, suc, Bool, ◌&&◌, cond, List, [], ◌∷◌, leb, eqb, Float, length}
-use Rattle.quant.specs.declared.refusal.Answer.TheVariants.{Done, Refused}
+use Rattle.quant.specs.Refusal.{refuse}
+use Rattle.std.specs.Prelude.{ℕ, suc, Bool, ◌&&◌, cond, List, [], ◌∷◌, leb, eqb, Float, length, Ok}
 use Rattle.quant.specs.declared.refusal.Refusal.{Refusal}
 use Rattle.quant.specs.declared.refusal.Refusal.TheVariants.{Malformed, Oversize, WrongSize}
 use Rattle.pulse.specs.declared.list.Pulse.{Pulse}
@@ -43,10 +43,10 @@ abbrev pub ran_to : Tabled → List (List Float) → List Pulse → Ran
 ran_to r bins pulses = record { result = r; bins = bins; pulses = pulses }
 
 abbrev pub done_at : Tables → ℕ → Tabled
-done_at t k = record { answer = Done k; tables = t }
+done_at t k = record { answer = Ok k; tables = t }
 
 abbrev pub refused_at : Tables → Refusal → ℕ → Tabled
-refused_at t r k = record { answer = Refused r k; tables = t }
+refused_at t r k = record { answer = refuse r k; tables = t }
 
 -- commands in turn, of which k have run, up to the first that is refused
 unfoldable pub ran : ℕ → Tables → List (List Float) → List Arranged → List (List Float) → List Pulse → Ran

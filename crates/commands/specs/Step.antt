@@ -1,6 +1,6 @@
 -- What one command comes to: it stops the run, or it goes on with other tables, with or without a pulse to store. Document 01,
 -- "Oscillators": what each command does to its channel. Definitions only.
-use Rattle.std.specs.Prelude.{ℕ, Bool, true, false, cond, List, ◌++◌, Float, get_or, replicate, set}
+use Rattle.std.specs.Prelude.{ℕ, Bool, true, false, cond, List, ◌++◌, Float, get_or, replicate, set, Option, Some, None}
 use Rattle.exact.specs.Doubles.{nought}
 use Rattle.naming.specs.declared.Name.{Name}
 use Rattle.quant.specs.declared.refusal.Refusal.{Refusal}
@@ -14,8 +14,6 @@ use Rattle.pulse.specs.declared.list.Pulse.{Pulse}
 use Rattle.pulse.specs.List.{stored}
 use Rattle.pulse.specs.Bin.{no_numbers}
 use Rattle.tables.specs.declared.Tables.{Tables}
-use Rattle.tables.specs.declared.Found.{Found}
-use Rattle.tables.specs.declared.Found.TheVariants.{At, Nowhere}
 use Rattle.tables.specs.Tables.{found, channel_at, with_channel}
 use Rattle.commands.specs.declared.command.Command.{Command}
 use Rattle.commands.specs.declared.command.Command.TheVariants as C
@@ -79,9 +77,9 @@ moved_by (C.SwapPhase n m) time o = unmoved o
 moved_by C.Barrier time o = unmoved o
 
 -- 7, then 8
-unfoldable pub turned_at : Tables → Found → Command → Float → Step
-turned_at t Nowhere c time = stops t UnknownChannel
-turned_at t (At i) c time = turned t i (moved_by c time (channel_at t i).osc)
+unfoldable pub turned_at : Tables → Option ℕ → Command → Float → Step
+turned_at t None c time = stops t UnknownChannel
+turned_at t (Some i) c time = turned t i (moved_by c time (channel_at t i).osc)
 
 -- ---- two oscillators
 
@@ -89,10 +87,10 @@ abbrev pub swapped_to : Tables → ℕ → ℕ → Swapped → Step
 swapped_to t i j s = unless_refused s.refused t (with_osc (with_osc t i s.one) j s.two)
 
 -- "One missing: 7"
-unfoldable pub swapped_at : Tables → Found → Found → Float → Step
-swapped_at t Nowhere b time = stops t UnknownChannel
-swapped_at t (At i) Nowhere time = stops t UnknownChannel
-swapped_at t (At i) (At j) time = swapped_to t i j (swapped_phases (channel_at t i).osc (channel_at t j).osc time)
+unfoldable pub swapped_at : Tables → Option ℕ → Option ℕ → Float → Step
+swapped_at t None b time = stops t UnknownChannel
+swapped_at t (Some i) None time = stops t UnknownChannel
+swapped_at t (Some i) (Some j) time = swapped_to t i j (swapped_phases (channel_at t i).osc (channel_at t j).osc time)
 
 -- "Equal names: accepted after 2 and 4, even if unknown"
 abbrev pub swapped_between : Tables → Name → Name → Float → Step

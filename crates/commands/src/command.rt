@@ -1,19 +1,16 @@
 // Commands by value. The Rust's `ElementVariant` and its cases in src/schedule; `Arranged` has the start and the span beside it.
 ghost use Rattle.std.specs.Prelude.{◌≡◌};
-ghost use Rattle.commands.specs.Command.{good_names, good_numbers, good, well_formed, required, too_long};
+ghost use Rattle.commands.specs.Command.{good_names, good_shape, good_numbers, good, well_formed, required, too_long};
 
 use ieee::finite::is_finite;
 use naming::{Name, is_name};
-use quant::judge::both;
-use quant::quantity::{Amplitude, Frequency, Phase, Time};
+use quant::quantity::{Amplitude, Frequency, Phase, Quantity, Time};
 use tables::Tables;
 
-// Without a shape, `shaped` is false and the shape's name is not read.
 #[derive(Clone, Copy)]
 pub struct Play {
     pub channel: Name,
-    pub shaped: bool,
-    pub shape: Name,
+    pub shape: Option<Name>,
     pub amplitude: Amplitude,
     pub width: Time,
     pub plateau: Time,
@@ -45,21 +42,18 @@ pub struct Arranged {
 pub(crate) fn well_formed(a: Arranged) -> bool
     ensures { result ≡ well_formed a }
 {
-    let command = a.command;
-    let times = both(is_finite(a.start.0), is_finite(a.span.0));
-    both(times, is_good(command))
+    is_finite(a.start.0) && is_finite(a.span.0) && is_good(a.command)
 }
 
+#[tactic(auto, unfolding(crate::specs::Command::good))]
 fn is_good(c: Command) -> bool
     ensures { result ≡ good c }
 {
     match c {
-        Command::Play(p) => both(has_good_names(p), has_good_numbers(p)),
-        Command::ShiftPhase(n, x) => both(is_name(n), is_finite(x.0)),
-        Command::SetPhase(n, x) => both(is_name(n), is_finite(x.0)),
-        Command::ShiftFreq(n, x) => both(is_name(n), is_finite(x.0)),
-        Command::SetFreq(n, x) => both(is_name(n), is_finite(x.0)),
-        Command::SwapPhase(n, m) => both(is_name(n), is_name(m)),
+        Command::Play(p) => has_good_names(p) && has_good_numbers(p),
+        Command::ShiftPhase(n, x) | Command::SetPhase(n, x) => is_name(n) && is_finite(x.0),
+        Command::ShiftFreq(n, x) | Command::SetFreq(n, x) => is_name(n) && is_finite(x.0),
+        Command::SwapPhase(n, m) => is_name(n) && is_name(m),
         Command::Barrier => true,
     }
 }
@@ -67,55 +61,35 @@ fn is_good(c: Command) -> bool
 fn has_good_names(p: Play) -> bool
     ensures { result ≡ good_names p }
 {
-    let channel = p.channel;
-    let shape = p.shape;
-    if p.shaped {
-        return both(is_name(channel), is_name(shape));
-    }
-    is_name(channel)
+    is_name(p.channel) && p.shape.is_none_or(is_name)
 }
 
 fn has_good_numbers(p: Play) -> bool
     ensures { result ≡ good_numbers p }
 {
-    let sizes = both(
-        both(is_finite(p.amplitude.0), is_finite(p.width.0)),
-        is_finite(p.plateau.0),
-    );
-    let others = both(
-        both(both(sizes, is_finite(p.drag)), is_finite(p.frequency.0)),
-        is_finite(p.phase.0),
-    );
-    both(others, !(p.width.0 < 0.0))
+    is_finite(p.amplitude.0)
+        && is_finite(p.width.0)
+        && is_finite(p.plateau.0)
+        && is_finite(p.drag)
+        && is_finite(p.frequency.0)
+        && is_finite(p.phase.0)
+        && !(p.width.0 < 0.0)
 }
 
 // Whether a command takes longer than its span and the tolerance.
 pub(crate) fn is_too_long(t: Tables, a: Arranged) -> bool
     ensures { result ≡ too_long t a }
 {
-    if t.oversize {
-        return false;
-    }
-    let command = a.command;
-    a.span.0 + t.time.0 < required(command).0
+    !t.oversize && a.span.0 + t.time.0 < required(a.command).0
 }
 
+#[tactic(auto, unfolding(crate::specs::Command::required))]
 fn required(c: Command) -> Time
     ensures { result.0 ≡ required c }
 {
     match c {
-        Command::Play(p) => {
-            let width = p.width;
-            if p.flexible {
-                return width;
-            }
-            width.add(p.plateau)
-        }
-        Command::ShiftPhase(_, _) => Time(0.0),
-        Command::SetPhase(_, _) => Time(0.0),
-        Command::ShiftFreq(_, _) => Time(0.0),
-        Command::SetFreq(_, _) => Time(0.0),
-        Command::SwapPhase(_, _) => Time(0.0),
-        Command::Barrier => Time(0.0),
+        Command::Play(p) if p.flexible => p.width,
+        Command::Play(p) => p.width.add(p.plateau),
+        _ => Time(0.0),
     }
 }

@@ -6,7 +6,6 @@ ghost use Rattle.commands.specs.Run.{ran_to, executed, sizes_fit, done_at, refus
 use super::command::Arranged;
 use super::run::act;
 use pulse::list::{Pulse, store};
-use quant::judge::both;
 use quant::refusal::{Answer, Refusal};
 use tables::{Tabled, Tables};
 
@@ -25,10 +24,8 @@ pub fn execute(
         return misfit(t);
     }
     let mut u = t;
-    let mut k: usize = 0;
-    while k < commands.len() {
-        let c = commands[k];
-        let s = act(u, splines, bins, c);
+    for (k, c) in commands.iter().enumerate() {
+        let s = act(u, splines, bins, *c);
         if s.stop {
             return refused(u, s.why, k);
         }
@@ -36,16 +33,14 @@ pub fn execute(
             store(pulses, s.from, s.count, s.pulse);
         }
         u = s.tables;
-        k += 1;
     }
-    done(u, k)
+    done(u, commands.len())
 }
 
 pub(crate) fn sizes_fit(commands: usize, splines: usize, bins: usize, pulses: usize) -> bool
     ensures { result ≡ sizes_fit commands splines bins pulses }
 {
-    let tables = both(both(commands <= 1024, splines == 8), bins == 512);
-    both(tables, pulses == 8192)
+    commands <= 1024 && splines == 8 && bins == 512 && pulses == 8192
 }
 
 // The three ways to end.
@@ -53,7 +48,7 @@ pub(crate) fn done(t: Tables, run: usize) -> Tabled
     ensures { result ≡ done_at t run }
 {
     Tabled {
-        answer: Answer::Done(run),
+        answer: Ok(run),
         tables: t,
     }
 }
@@ -62,7 +57,7 @@ pub(crate) fn refused(t: Tables, why: Refusal, run: usize) -> Tabled
     ensures { result ≡ refused_at t why run }
 {
     Tabled {
-        answer: Answer::Refused(why, run),
+        answer: Err(why.at(run)),
         tables: t,
     }
 }

@@ -1,7 +1,7 @@
 // A play, and the pulse that it stores. The Rust's `execute_play`, `add_pulse` and `ListBuilder::push`.
 ghost use Rattle.std.specs.Prelude.{◌≡◌, ◌+◌, ◌*◌, ◌<◌, ◌≤◌, true, ◌&&◌, ◌||◌, cond, ◌++◌, leb, ltb, length};
 ghost use Rattle.tables.specs.Tables.{channel_at};
-ghost use Rattle.commands.specs.Play.{grown, stores, stored_at, plateau_of, envelope_for, bin_with, spline_for, pushed, played_as, played};
+ghost use Rattle.commands.specs.Play.{grown, stores, stored_at, plateau_of, envelope_for, bin_with, spline_for, pushed, played_as, played, played_with};
 ghost use Rattle.commands.specs.Step.{numbers_at};
 ghost use Rattle.pulse.specs.Bin.{kind_of, place_of};
 
@@ -12,13 +12,13 @@ use ieee::finite::is_finite;
 use pulse::bin::{Bin, head_of, kind_of, place};
 use pulse::envelope::{Envelope, Shape};
 use pulse::list::Pulse;
-use pulse::weight::{Weighed, Weight, is_negligible, weigh};
-use quant::judge::both;
-use quant::quantity::Time;
+use pulse::weight::{Weight, is_negligible, weigh};
+use quant::quantity::{Quantity, Time};
 use quant::refusal::Refusal;
-use tables::{Channel, Found, Tables, find, find_shape, with_channel};
+use tables::{Channel, Tables, find, find_shape, with_channel};
 
 // Refusals 5, 6, 7, 8, 3. The bins are 64 rows a channel, and each of eight names of shapes has a row of numbers.
+#[tactic(auto, unfolding(crate::specs::Play::played_by))]
 pub(crate) fn play(
     t: Tables,
     splines: &[[f64; 72]],
@@ -30,14 +30,13 @@ pub(crate) fn play(
     requires { (length splines.now ≡ 8) × (length bins.now ≡ 512) }
     ensures { result ≡ played t splines.now bins.now start.0 span.0 p }
 {
-    if p.shaped {
-        let shape = p.shape;
-        return match find_shape(t, shape) {
-            Found::At(k) => play_as(t, splines, bins, start, span, p, kind_at(splines, k), k),
-            Found::Nowhere => stops(t, Refusal::UnknownShape),
-        };
-    }
-    play_as(t, splines, bins, start, span, p, Shape::Plain, 8)
+    let Some(name) = p.shape else {
+        return play_as(t, splines, bins, start, span, p, Shape::Plain, 8);
+    };
+    let Some(k) = find_shape(t, name) else {
+        return stops(t, Refusal::UnknownShape);
+    };
+    play_as(t, splines, bins, start, span, p, kind_at(splines, k), k)
 }
 
 // What the name at a place stands for.
@@ -49,6 +48,7 @@ fn kind_at(splines: &[[f64; 72]], k: usize) -> Shape
 }
 
 // With the shape, and the place of its name.
+#[tactic(auto, unfolding(crate::specs::Play::played_at))]
 fn play_as(
     t: Tables,
     splines: &[[f64; 72]],
@@ -65,17 +65,14 @@ fn play_as(
     if plateau_of(p, span).0 < 0.0 {
         return stops(t, Refusal::NegativePlateau);
     }
-    let channel = p.channel;
-    match find(t, channel) {
-        Found::At(i) => {
-            let c = t.channels[i];
-            push(t, splines, bins, i, c, start, span, p, kind, k)
-        }
-        Found::Nowhere => stops(t, Refusal::UnknownChannel),
-    }
+    let Some(i) = find(t, p.channel) else {
+        return stops(t, Refusal::UnknownChannel);
+    };
+    push(t, splines, bins, i, t.channels[i], start, span, p, kind, k)
 }
 
 // The pulse gets the oscillator's frequency, and the play's own phase. The channel at the place i is handed on, so that it is copied once.
+#[tactic(auto, unfolding(crate::specs::Play::stored_with))]
 fn push(
     t: Tables,
     splines: &[[f64; 72]],
@@ -92,39 +89,36 @@ fn push(
     requires c_value { c ≡ channel_at t i }
     ensures { result ≡ pushed t splines.now bins.now i start.0 p (bin_with c.osc kind p span.0) k }
 {
-    let osc = c.osc;
-    let b = bin_with(osc, kind, p, span);
-    let e = b.envelope;
-    if !both(is_finite(b.global.0), is_finite(e.plateau.0)) {
+    let b = bin_with(c.osc, kind, p, span);
+    if !(is_finite(b.global.0) && is_finite(b.envelope.plateau.0)) {
         return stops(t, Refusal::NotFinite);
     }
     if is_negligible(p.amplitude, t.amp) {
         return goes_on(t);
     }
-    let shape = e.shape;
-    match weigh(p.amplitude, p.phase, p.drag) {
-        Weighed::Fine(w) => store_at(
-            t,
-            splines,
-            bins,
-            i,
-            c,
-            start,
-            w,
-            head_of(b),
-            spline_for(shape, k),
-        ),
-        Weighed::Overflow => stops(t, Refusal::NotFinite),
-    }
+    let Some(w) = weigh(p.amplitude, p.phase, p.drag) else {
+        return stops(t, Refusal::NotFinite);
+    };
+    store_at(
+        t,
+        splines,
+        bins,
+        i,
+        c,
+        start,
+        w,
+        head_of(b),
+        spline_for(b.envelope.shape, k),
+    )
 }
 
 // The place of the numbers that go along with a bin: those of a spline.
+#[tactic(auto, unfolding(crate::specs::Play::spline_for))]
 fn spline_for(shape: Shape, k: usize) -> usize
     ensures { result ≡ spline_for shape k }
 {
     match shape {
-        Shape::Plain => 8,
-        Shape::Hann => 8,
+        Shape::Plain | Shape::Hann => 8,
         Shape::Spline => k,
     }
 }
@@ -144,7 +138,7 @@ fn store_at(
     requires c_value { c ≡ channel_at t i }
     ensures { result ≡ stored_at t splines.now bins.now i start.0 w head spline }
 {
-    let many = at_most_64(c.bins);
+    let many = c.bins.min(64);
     let first = 64 * i;
     let at = place_with(splines, spline, head, &bins[first..first + many]);
     let new = many <= at;
@@ -171,29 +165,14 @@ pub(crate) fn numbers_at(splines: &[[f64; 72]], k: usize) -> [f64; 72]
     requires { length splines.now ≡ 8 }
     ensures { result ≡ numbers_at splines.now k }
 {
-    if k < 8 {
-        return splines[k];
-    }
-    [0.0; 72]
-}
-
-fn at_most_64(n: usize) -> usize
-    ensures { result ≡ cond (ltb n 64) n 64 }
-{
-    if n < 64 {
-        return n;
-    }
-    64
+    if k < 8 { splines[k] } else { [0.0; 72] }
 }
 
 // A 65th bin, or a 1,025th pulse.
 fn is_full(new: bool, bins: usize, pulses: usize) -> bool
     ensures { result ≡ ((new && leb 64 bins) || leb 1024 pulses) }
 {
-    if both(new, 64 <= bins) {
-        return true;
-    }
-    1024 <= pulses
+    (new && 64 <= bins) || 1024 <= pulses
 }
 
 fn stores(
@@ -212,15 +191,13 @@ fn stores(
     requires bins_bound { (new ≡ true → c.bins < 64) × (c.pulses < 1024) }
     ensures { result ≡ stores t i at new start.0 w head spline }
 {
-    let amp = w.amp;
-    let drag = w.drag;
+    let Weight { amp, drag } = w;
     let pulse = Pulse {
         bin: at,
         time: start,
         amp,
         drag,
     };
-    let tables = with_channel(t, i, grown(c, new));
     Step {
         stop: false,
         why: Refusal::Unfit,
@@ -232,7 +209,7 @@ fn stores(
         at: 64 * i + at,
         head,
         spline,
-        tables,
+        tables: with_channel(t, i, grown(c, new)),
     }
 }
 
@@ -241,41 +218,35 @@ fn grown(c: Channel, new: bool) -> Channel
     requires { (new ≡ true → c.bins < 64) × (c.pulses < 1024) }
     ensures { result ≡ grown c new }
 {
-    let mut d = c;
-    d.pulses = c.pulses + 1;
-    if new {
-        d.bins = c.bins + 1;
-        return d;
+    Channel {
+        bins: if new { c.bins + 1 } else { c.bins },
+        pulses: c.pulses + 1,
+        ..c
     }
-    d
 }
 
 fn bin_with(osc: OscState, kind: Shape, p: Play, span: Time) -> Bin
     ensures { result ≡ bin_with osc kind p span.0 }
 {
-    let envelope = envelope_for(kind, p, span);
-    let global = osc.total_freq();
-    let local = p.frequency;
     Bin {
-        envelope,
-        global,
-        local,
+        envelope: envelope_for(kind, p, span),
+        global: osc.total_freq(),
+        local: p.frequency,
     }
 }
 
 fn envelope_for(kind: Shape, p: Play, span: Time) -> Envelope
     ensures { result ≡ envelope_for kind p span.0 }
 {
-    let width = p.width;
-    let plateau = plateau_of(p, span);
-    Envelope::new(kind, width, plateau)
+    Envelope::new(kind, p.width, plateau_of(p, span))
 }
 
 fn plateau_of(p: Play, span: Time) -> Time
     ensures { result.0 ≡ plateau_of p span.0 }
 {
     if p.flexible {
-        return span.sub(p.width);
+        span.sub(p.width)
+    } else {
+        p.plateau
     }
-    p.plateau
 }

@@ -19,11 +19,7 @@ pub(crate) fn act(t: Tables, splines: &[[f64; 72]], bins: &mut [[f64; 77]], a: A
 {
     let s = step(t, splines, bins, a);
     if s.opens {
-        let at = s.at;
-        let numbers = numbers_at(splines, s.spline);
-        let head = s.head;
-        bins[at] = row_of(head, numbers);
-        return s;
+        bins[s.at] = row_of(s.head, numbers_at(splines, s.spline));
     }
     s
 }
@@ -39,10 +35,10 @@ fn step(t: Tables, splines: &[[f64; 72]], bins: &[[f64; 77]], a: Arranged) -> St
     if is_too_long(t, a) {
         return stops(t, Refusal::Oversize);
     }
-    let command = a.command;
-    carry_out(t, splines, bins, a.start, a.span, command)
+    carry_out(t, splines, bins, a.start, a.span, a.command)
 }
 
+#[tactic(auto, unfolding(crate::specs::Run::acted))]
 fn carry_out(
     t: Tables,
     splines: &[[f64; 72]],
@@ -56,10 +52,8 @@ fn carry_out(
 {
     match c {
         Command::Play(p) => play(t, splines, bins, start, span, p),
-        Command::ShiftPhase(n, _) => turn(t, n, c, start),
-        Command::SetPhase(n, _) => turn(t, n, c, start),
-        Command::ShiftFreq(n, _) => turn(t, n, c, start),
-        Command::SetFreq(n, _) => turn(t, n, c, start),
+        Command::ShiftPhase(n, _) | Command::SetPhase(n, _) => turn(t, n, c, start),
+        Command::ShiftFreq(n, _) | Command::SetFreq(n, _) => turn(t, n, c, start),
         Command::SwapPhase(n, m) => swap(t, n, m, start),
         Command::Barrier => goes_on(t),
     }

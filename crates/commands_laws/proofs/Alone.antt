@@ -1,5 +1,6 @@
 -- Channels do not meet, second half: a command for a channel goes by what that channel sees alone; so a list of commands without swaps
 -- leaves each channel as its own commands do. Assumes nothing.
+use Rattle.std.specs.Prelude.{Some}
 use Prim.Native.Nat.{ℕ, suc, ◌+◌, ◌*◌, ◌≤◌, ◌<◌}
 use native.Mathlib.Omega.{arith}
 use native.Mathlib.Numerals.{add-one}
@@ -21,7 +22,6 @@ use Rattle.pulse.specs.List.{placed, stored}
 use Rattle.pulse.proofs.Stored.{stored-list}
 use Rattle.tables.specs.declared.Channel.{Channel}
 use Rattle.tables.specs.declared.Tables.{Tables}
-use Rattle.tables.specs.declared.Found.TheVariants.{At}
 use Rattle.tables.specs.Tables.{found, no_name, no_channel, channel_at, with_channel}
 use Rattle.tables.proofs.Finding.{found-eight}
 use Rattle.commands.specs.declared.command.Command.{Command}
@@ -49,10 +49,10 @@ record PutFacts (t : Tables) (bins : List (List Float)) (i : ℕ) (s : Step) : T
   last : s.opens ≡ true → length (rows_of t bins i) ≤ s.pulse.bin
   few : (channel_at t i).pulses < 1024
 
-at-inj : {i j : ℕ} → At i ≡ At j → i ≡ j
+at-inj : {i j : ℕ} → Some i ≡ Some j → i ≡ j
 at-inj e = cc
 
-put-facts : (t : Tables) (bins : List (List Float)) (c : Command) (i : ℕ) (s : Step) → Kind t bins c s → found t (named c) ≡ At i → s.put ≡ true → PutFacts t bins i s
+put-facts : (t : Tables) (bins : List (List Float)) (c : Command) (i : ℕ) (s : Step) → Kind t bins c s → found t (named c) ≡ Some i → s.put ≡ true → PutFacts t bins i s
 put-facts t bins c i _ (Cases.refuses r) e f = absurd (true≢false (sym f))
 put-facts t bins c i _ Cases.goes e f = absurd (true≢false (sym f))
 put-facts t bins c i _ (Cases.turns j o there) e f = absurd (true≢false (sym f))
@@ -63,7 +63,7 @@ put-facts t bins c i _ (Cases.puts j place new time w head spline there known mo
 
 -- ---- one channel after its own step
 
-module _ (n : Name) (i : ℕ) (t : Tables) (bins : List (List Float)) (pulses : List Pulse) (h : Sound t bins pulses) (here : found t n ≡ At i) where
+module _ (n : Name) (i : ℕ) (t : Tables) (bins : List (List Float)) (pulses : List Pulse) (h : Sound t bins pulses) (here : found t n ≡ Some i) where
   under : i < 8
   under = found-eight t n i h.eight here
 
@@ -178,8 +178,8 @@ module _ (n : Name) (i : ℕ) (t u : Tables) (splines bins rows : List (List Flo
 
   own-alike : (a : Arranged) → is_swap a.command ≡ false → named a.command ≡ n → Alongside (step_of t splines bins a) (step_of u splines rows a)
   own-alike a single is =
-      let at-t : found t (named a.command) ≡ At i = ap (found t) is ∙ s.here in
-      let at-u : found u (named a.command) ≡ At i = ap (found u) is ∙ s.there in
+      let at-t : found t (named a.command) ≡ Some i = ap (found t) is ∙ s.here in
+      let at-u : found u (named a.command) ≡ Some i = ap (found u) is ∙ s.there in
       let x = own (view_of t splines bins i) a in
       let theirs : own (view_of u splines rows i) a ≡ x = ap (λ (v : View). own v a) (sym view-same) in
       alongside x (step_of t splines bins a) (step_of u splines rows a) (own-step t splines bins i a single at-t) (own-step u splines rows i a single at-u ∙ ap (realize u i) theirs)
@@ -291,7 +291,7 @@ few-for n (a ∷ more) = go (is_for n a.command) (few-for n more)
 -- Where a call without swaps is done, a call with only the commands for the channel n and the same shapes' rows is done too, and the channel's
 -- state and counts, its bins' rows and its records are the same after both.
 pub channels_apart : (n : Name) (i : ℕ) (t : Tables) (splines : List (List Float)) (commands : List Arranged) (bins : List (List Float)) (pulses : List Pulse) → is_name n ≡ true
-    → found t n ≡ At i → Sound t bins pulses → length splines ≡ 8 → length commands ≤ 1024 → no_swaps commands ≡ true → is_done (executed t splines commands bins pulses).result.answer ≡ true
+    → found t n ≡ Some i → Sound t bins pulses → length splines ≡ 8 → length commands ≤ 1024 → no_swaps commands ≡ true → is_done (executed t splines commands bins pulses).result.answer ≡ true
     → EndAlike n i (executed t splines commands bins pulses) (executed t splines (only_for n commands) bins pulses)
 channels_apart n i t splines commands bins pulses good here h shapes few free done =
     let whole = fits splines commands bins pulses t few shapes h.rows h.records in

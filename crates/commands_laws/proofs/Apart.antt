@@ -1,5 +1,6 @@
 -- Channels do not meet: where a list of commands without swaps is carried out, each channel ends as it does where only its own commands
 -- are. A command for another channel leaves what this one sees; a command for this one goes by what it sees alone. Assumes nothing.
+use Rattle.std.specs.Prelude.{Some}
 use Prim.Native.Nat.{ℕ, zero, suc, ◌+◌, ◌-◌, ◌*◌, ◌≤◌, ◌<◌}
 use native.Mathlib.Omega.{arith}
 use mathlib.Core.Path.{◌≡◌, refl, sym, ap, ◌∙◌}
@@ -17,11 +18,9 @@ use Rattle.pulse.specs.declared.list.Pulse.{Pulse}
 use Rattle.pulse.specs.List.{stored}
 use Rattle.tables.specs.declared.Channel.{Channel}
 use Rattle.tables.specs.declared.Tables.{Tables}
-use Rattle.tables.specs.declared.Found.TheVariants.{At}
 use Rattle.tables.specs.Tables.{channels_in, found_from, found, no_channel, channel_at, with_channel}
 use Rattle.tables.proofs.Finding.{found-under}
 use Rattle.commands.specs.declared.command.Command.{Command}
-use Rattle.commands.specs.declared.command.Command.TheVariants as C
 use Rattle.commands.specs.declared.step.Step.{Step}
 use Rattle.commands.specs.Step.{numbers_at, bins_after, pulses_after}
 use Rattle.commands.specs.Play.{grown, pulse_at}
@@ -34,13 +33,13 @@ use Rattle.commands.proofs.Cases.{Kind, refuses, goes, turns, swaps, puts}
 -- ---- names
 
 -- a channel that is found has the name
-found-named : (k : ℕ) (n : Name) (cs : List Channel) (i : ℕ) → found_from k n cs ≡ At i → (k ≤ i) × (same_name (get_or cs (i - k) no_channel).name n ≡ true)
+found-named : (k : ℕ) (n : Name) (cs : List Channel) (i : ℕ) → found_from k n cs ≡ Some i → (k ≤ i) × (same_name (get_or cs (i - k) no_channel).name n ≡ true)
 unfolding found_from
 found-named k n [] i e = let z : ◌≡◌ {A = ℕ} 0 1 = cc in absurd (omega arith)
 found-named k n (c ∷ cs) i e = go (same_name c.name n) refl e (found-named (suc k) n cs i)
   where
-    go : (b : Bool) → same_name c.name n ≡ b → cond b (At k) (found_from (suc k) n cs) ≡ At i
-        → (found_from (suc k) n cs ≡ At i → (suc k ≤ i) × (same_name (get_or cs (i - suc k) no_channel).name n ≡ true))
+    go : (b : Bool) → same_name c.name n ≡ b → cond b (Some k) (found_from (suc k) n cs) ≡ Some i
+        → (found_from (suc k) n cs ≡ Some i → (suc k ≤ i) × (same_name (get_or cs (i - suc k) no_channel).name n ≡ true))
         → (k ≤ i) × (same_name (get_or (c ∷ cs) (i - k) no_channel).name n ≡ true)
     go true s f later = let is : k ≡ i = cc in let nought : i - k ≡ 0 = omega arith in (omega arith, rw nought s)
     go false s f later =
@@ -48,7 +47,7 @@ found-named k n (c ∷ cs) i e = go (same_name c.name n) refl e (found-named (su
         let next : i - k ≡ suc (i - suc k) = omega (arith, h.0) in
         (omega (arith, h.0), rw next h.1)
 
-module _ (t : Tables) (n : Name) (i : ℕ) (e : found t n ≡ At i) where
+module _ (t : Tables) (n : Name) (i : ℕ) (e : found t n ≡ Some i) where
   pub present : i < t.count
   present =
       let u = found-under 0 n (channels_in t) i e in
@@ -63,7 +62,7 @@ module _ (t : Tables) (n : Name) (i : ℕ) (e : found t n ≡ At i) where
       (same-exactly (channel_at t i).name n).0 (rw (at, read) at h.1)
 
 -- names that differ stand at places that differ
-other_place : (t : Tables) (n m : Name) (i j : ℕ) → found t n ≡ At i → found t m ≡ At j → same_name m n ≡ false → i ≡ j → ⊥
+other_place : (t : Tables) (n m : Name) (i j : ℕ) → found t n ≡ Some i → found t m ≡ Some j → same_name m n ≡ false → i ≡ j → ⊥
 other_place t n m i j e f apart same =
     let one = has-name t n i e in
     let two = has-name t m j f in
@@ -99,7 +98,7 @@ found-stays t j c e n =
 
 -- ---- what looks the same
 
-pub same-to : (n : Name) (i : ℕ) (t : Tables) (bins : List (List Float)) (pulses : List Pulse) → found t n ≡ At i → SameTo n i t t bins bins pulses pulses
+pub same-to : (n : Name) (i : ℕ) (t : Tables) (bins : List (List Float)) (pulses : List Pulse) → found t n ≡ Some i → SameTo n i t t bins bins pulses pulses
 same-to n i t bins pulses e =
     record { here = e; there = e; amp = refl; time = refl; oversize = refl; shapes = refl; channel = refl; its-rows = refl; its-list = refl }
 
@@ -120,7 +119,7 @@ same_then n i t u v a b c p q r h k =
 
 -- ---- a command for another channel
 
-module _ (n : Name) (i : ℕ) (t : Tables) (bins : List (List Float)) (pulses : List Pulse) (h : Sound t bins pulses) (e : found t n ≡ At i) where
+module _ (n : Name) (i : ℕ) (t : Tables) (bins : List (List Float)) (pulses : List Pulse) (h : Sound t bins pulses) (e : found t n ≡ Some i) where
   -- another channel's record, and rows and records that agree where this one's stand
   with-other : (j : ℕ) (c : Channel) (rows : List (List Float)) (records : List Pulse) → (i ≡ j → ⊥) → c.name ≡ (channel_at t j).name
       → take 64 (drop (64 * i) rows) ≡ take 64 (drop (64 * i) bins)

@@ -1,5 +1,8 @@
 -- Laws of the command call: two calls one after the other are one call; what a refused call leaves is what its accepted commands leave
 -- alone; no call changes a size. By the commands in turn. Assumes nothing.
+use Rattle.quant.specs.Refusal.{Answer, refuse}
+use Rattle.quant.proofs.Refusals.{same-why, same-place}
+use Rattle.std.specs.Prelude.{Ok, Err}
 use Prim.Native.Nat.{ℕ, zero, suc, ◌+◌, ◌≤◌}
 use native.Mathlib.Omega.{arith}
 use native.Mathlib.Nat.{add-suc, add-zero}
@@ -9,8 +12,6 @@ use mathlib.Core.List.{List, [], ◌∷◌, ◌++◌}
 use borrow.Author.Tests.{le-leb, eq-eqb}
 use lib.Ieee.{Float}
 use lib.ListN.{length, take, set, length-append, length-set, length-take}
-use Rattle.quant.specs.declared.refusal.Answer.{Answer}
-use Rattle.quant.specs.declared.refusal.Answer.TheVariants.{Done, Refused}
 use Rattle.quant.specs.declared.refusal.Refusal.{Refusal}
 use Rattle.pulse.specs.declared.list.Pulse.{Pulse}
 use Rattle.pulse.specs.List.{stored}
@@ -81,8 +82,8 @@ ran-counted n k t splines (a ∷ more) bins pulses =
 
 -- the commands of a second list, from where the first run ended
 abbrev on : Answer → Ran → List (List Float) → List Arranged → Ran
-on (Refused r k) first splines commands = first
-on (Done n) first splines commands = ran n first.result.tables splines commands first.bins first.pulses
+on (Err e) first splines commands = first
+on (Ok n) first splines commands = ran n first.result.tables splines commands first.bins first.pulses
 
 ran_on : (k : ℕ) (t : Tables) (splines : List (List Float)) (xs ys : List Arranged) (bins : List (List Float)) (pulses : List Pulse)
     → let first = ran k t splines xs bins pulses in ran k t splines (xs ++ ys) bins pulses ≡ on first.result.answer first splines ys
@@ -120,8 +121,8 @@ module _ (t : Tables) (splines : List (List Float)) (xs ys : List Arranged) (bin
       rw (fits splines (xs ++ ys) bins pulses t few shapes rows records, fits splines xs bins pulses t (omega arith) shapes rows records) (ran_on 0 t splines xs ys bins pulses ∙ go first.result.answer first (ran-sizes 0 t splines xs bins pulses))
     where
       go : (a : Answer) (first : Ran) → Sizes first bins pulses → on a first splines ys ≡ second_call a first splines ys
-      go (Refused r k) first h = refl
-      go (Done n) first h =
+      go (Err e) first h = refl
+      go (Ok n) first h =
           let long = length-append xs ys in
           let u = first.result.tables in
           rw (fits splines ys first.bins first.pulses u (omega arith) shapes (h.rows ∙ rows) (h.records ∙ records))
@@ -133,19 +134,19 @@ module _ (t : Tables) (splines : List (List Float)) (xs ys : List Arranged) (bin
 abbrev pub as_done : ℕ → Ran → Ran
 as_done m r = ran_to (done_at r.result.tables m) r.bins r.pulses
 
-done-not : {k n : ℕ} {r : Refusal} → Done k ≡ Refused r n → ⊥
+done-not : {k n : ℕ} {r : Refusal} → Ok k ≡ refuse r n → ⊥
 done-not e = let z : ◌≡◌ {A = ℕ} 0 1 = cc in omega arith
 
 -- an answer counted one further
 data Earlier (r : Refusal) (m : ℕ) (a : Answer) : Type 0 where
-  earlier : (j : ℕ) → m ≡ suc j → a ≡ Refused r j → Earlier r m a
+  earlier : (j : ℕ) → m ≡ suc j → a ≡ refuse r j → Earlier r m a
 
-one_earlier : (a : Answer) (r : Refusal) (m : ℕ) → further 1 a ≡ Refused r m → Earlier r m a
-one_earlier (Done k) r m e = absurd (done-not e)
-one_earlier (Refused q k) r m e = let place : 1 + k ≡ m = cc in let why : q ≡ r = cc in earlier k (omega arith) (ap (λ (x : Refusal). Refused x k) why)
+one_earlier : (a : Answer) (r : Refusal) (m : ℕ) → further 1 a ≡ refuse r m → Earlier r m a
+one_earlier (Ok k) r m e = absurd (done-not e)
+one_earlier (Err w) r m e = let place : 1 + w.place ≡ m = same-place _ _ _ _ e in let why : w.why ≡ r = same-why _ _ _ _ e in earlier w.place (omega arith) (ap (λ (x : Refusal). refuse x w.place) why)
 
 ran-refused : (t : Tables) (splines : List (List Float)) (commands : List Arranged) (bins : List (List Float)) (pulses : List Pulse) (r : Refusal) (m : ℕ)
-    → (ran 0 t splines commands bins pulses).result.answer ≡ Refused r m
+    → (ran 0 t splines commands bins pulses).result.answer ≡ refuse r m
     → ran 0 t splines (take m commands) bins pulses ≡ as_done m (ran 0 t splines commands bins pulses)
 unfolding ran
 ran-refused t splines [] bins pulses r m e = absurd (done-not e)
@@ -164,7 +165,7 @@ ran-refused t splines (a ∷ more) bins pulses r m e = go s.stop refl m e (ran-r
     one_more l = ran-counted 1 0 s.tables splines l (bins_after s splines bins) (pulses_after s pulses)
 
     step : (n : ℕ) → s.stop ≡ false → Earlier r n (later 0 more).result.answer
-        → ((j : ℕ) → (later 0 more).result.answer ≡ Refused r j → later 0 (take j more) ≡ as_done j (later 0 more))
+        → ((j : ℕ) → (later 0 more).result.answer ≡ refuse r j → later 0 (take j more) ≡ as_done j (later 0 more))
         → ran 0 t splines (take n (a ∷ more)) bins pulses ≡ as_done n (later 1 more)
     step n goes_on (earlier j is e') before =
         let next : 1 + j ≡ suc j = omega arith in
@@ -174,18 +175,18 @@ ran-refused t splines (a ∷ more) bins pulses r m e = go s.stop refl m e (ran-r
         ∙ ap (λ (k : ℕ). as_done k (later 0 more)) next
         ∙ sym (ap (as_done (suc j)) (one_more more)))
 
-    go : (b : Bool) → s.stop ≡ b → (n : ℕ) → (cond b ended (later 1 more)).result.answer ≡ Refused r n
-        → ((j : ℕ) → (later 0 more).result.answer ≡ Refused r j → later 0 (take j more) ≡ as_done j (later 0 more))
+    go : (b : Bool) → s.stop ≡ b → (n : ℕ) → (cond b ended (later 1 more)).result.answer ≡ refuse r n
+        → ((j : ℕ) → (later 0 more).result.answer ≡ refuse r j → later 0 (take j more) ≡ as_done j (later 0 more))
         → ran 0 t splines (take n (a ∷ more)) bins pulses ≡ as_done n (cond b ended (later 1 more))
     go true stops zero f before = refl
-    go true stops (suc n) f before = let place : ◌≡◌ {A = ℕ} 0 (suc n) = cc in absurd (omega arith)
+    go true stops (suc n) f before = let place : ◌≡◌ {A = ℕ} 0 (suc n) = same-place _ _ _ _ f in absurd (omega arith)
     go false goes_on n f before =
         let counted = ap (λ (x : Ran). x.result.answer) (sym (one_more more)) in
         step n goes_on (one_earlier (later 0 more).result.answer r n (counted ∙ f)) before
 
 -- what a refused call leaves is what its commands before the refused one leave by themselves: they are as many as its place says
 pub refused-call : (t : Tables) (splines : List (List Float)) (commands : List Arranged) (bins : List (List Float)) (pulses : List Pulse) (r : Refusal) (m : ℕ)
-    → length commands ≤ 1024 → length splines ≡ 8 → length bins ≡ 512 → length pulses ≡ 8192 → (executed t splines commands bins pulses).result.answer ≡ Refused r m
+    → length commands ≤ 1024 → length splines ≡ 8 → length bins ≡ 512 → length pulses ≡ 8192 → (executed t splines commands bins pulses).result.answer ≡ refuse r m
     → executed t splines (take m commands) bins pulses ≡ as_done m (executed t splines commands bins pulses)
 refused-call t splines commands bins pulses r m few shapes rows records e =
     let short : length (take m commands) ≤ 1024 = rw length-take (omega arith) in

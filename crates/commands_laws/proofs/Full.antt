@@ -1,5 +1,6 @@
 -- Refusal 3 of a command: given exactly where a play would store a pulse, all else being in order, and its bin is new and meets a full
 -- table, or its pulse does. By the checks of a step, from the first to the last. Assumes nothing.
+use Rattle.std.specs.Prelude.{Option, Some, None}
 use Prim.Native.Nat.{ℕ}
 use native.Mathlib.Omega.{arith}
 use mathlib.Core.Path.{◌≡◌, refl, sym, ap, ◌∙◌}
@@ -20,13 +21,9 @@ use Rattle.pulse.specs.declared.bin.Bin.{Bin}
 use Rattle.pulse.specs.declared.envelope.Shape.{Shape}
 use Rattle.pulse.specs.declared.envelope.Shape.TheVariants.{Plain}
 use Rattle.pulse.specs.declared.weight.Weight.{Weight}
-use Rattle.pulse.specs.declared.weight.Weighed.{Weighed}
-use Rattle.pulse.specs.declared.weight.Weighed.TheVariants.{Fine, Overflow}
 use Rattle.pulse.specs.Bin.{head_of, row_of, kind_of, place_of}
 use Rattle.pulse.specs.Weight.{negligible, weighed_of}
 use Rattle.tables.specs.declared.Tables.{Tables}
-use Rattle.tables.specs.declared.Found.{Found}
-use Rattle.tables.specs.declared.Found.TheVariants.{At, Nowhere}
 use Rattle.tables.specs.Tables.{found, shape_found, channel_at}
 use Rattle.commands.specs.declared.command.Play.{Play}
 use Rattle.commands.specs.declared.command.Command.{Command}
@@ -35,13 +32,13 @@ use Rattle.commands.specs.declared.command.Arranged.{Arranged}
 use Rattle.commands.specs.declared.step.Step.{Step}
 use Rattle.commands.specs.Command.{well_formed, too_long}
 use Rattle.commands.specs.Step.{no_spline, numbers_at, stops, goes_on, with_osc, moved_by, turned_at, swapped_to, swapped_at, swapped_between}
-use Rattle.commands.specs.Play.{rows_of, is_new, is_full, stores, stored_at, stored_with, plateau_of, bin_for, spline_for, played_at, played_as, played_by, played}
+use Rattle.commands.specs.Play.{rows_of, is_new, is_full, stores, stored_at, stored_with, plateau_of, bin_for, spline_for, played_at, played_as, played_by, played, played_with}
 use Rattle.commands.specs.Run.{acted, step_of}
 
 -- the shape that a play goes by, and the place of its name: none where 5 refuses it
 pub data Shaped (t : Tables) (splines : List (List Float)) (p : Play) : Shape → ℕ → Type 0 where
-  plain : p.shaped ≡ false → Shaped t splines p Plain no_spline
-  by_name : (k : ℕ) → p.shaped ≡ true → shape_found t p.shape ≡ At k → Shaped t splines p (kind_of (numbers_at splines k)) k
+  plain : p.shape ≡ None → Shaped t splines p Plain no_spline
+  by_name : (n : Name) (k : ℕ) → p.shape ≡ Some n → shape_found t n ≡ Some k → Shaped t splines p (kind_of (numbers_at splines k)) k
 
 -- the row and the place of the bin of a play
 abbrev pub spline_of : Tables → ℕ → Shape → ℕ → Play → Float → ℕ
@@ -61,10 +58,10 @@ pub record Storing (t : Tables) (splines : List (List Float)) (a : Arranged) (p 
   pub plays : a.command ≡ C.Play p
   pub shaped : Shaped t splines p kind k
   pub plateau : lt (plateau_of p a.span.0) nought ≡ false
-  pub channel : found t p.channel ≡ At i
+  pub channel : found t p.channel ≡ Some i
   pub finite-bin : (finite (bin_for t i kind p a.span.0).global.0 && finite (bin_for t i kind p a.span.0).envelope.plateau.0) ≡ true
   pub heard : negligible p.amplitude.0 t.amp.0 ≡ false
-  pub weight : weighed_of p.amplitude.0 p.phase.0 p.drag ≡ Fine w
+  pub weight : weighed_of p.amplitude.0 p.phase.0 p.drag ≡ Some w
 
 -- ---- a storing play: full, or stored
 
@@ -73,7 +70,7 @@ pub played-as : (t : Tables) (splines bins : List (List Float)) (start span : Fl
     → played t splines bins start span p ≡ played_as t splines bins start span p kind k
 unfolding played_by
 played-as t splines bins start span p _ _ (plain e) = rw e
-played-as t splines bins start span p _ _ (by_name k e there) = rw (e, there)
+played-as t splines bins start span p _ _ (by_name n k e there) = rw (e, there)
 
 module _ (t : Tables) (splines bins : List (List Float)) (a : Arranged) (p : Play) (kind : Shape) (k i : ℕ) (w : Weight) (h : Storing t splines a p kind k i w) where
   abbrev span : Float
@@ -116,10 +113,10 @@ goes-not t h = true≢false (sym h.stop)
 stops-not : (t : Tables) (r : Refusal) (n : ℕ) → number_of r ≡ n → (n ≡ 3 → ⊥) → ByFull (stops t r) → ⊥
 stops-not t r n e other h = other (sym e ∙ ap number_of h.why)
 
-turned-not : (t : Tables) (f : Found) (c : Command) (time : Float) → ByFull (turned_at t f c time) → ⊥
+turned-not : (t : Tables) (f : Option ℕ) (c : Command) (time : Float) → ByFull (turned_at t f c time) → ⊥
 unfolding turned_at
-turned-not t Nowhere c time h = stops-not t UnknownChannel 7 refl (λ e. omega arith) h
-turned-not t (At i) c time h = go m.refused h
+turned-not t None c time h = stops-not t UnknownChannel 7 refl (λ e. omega arith) h
+turned-not t (Some i) c time h = go m.refused h
   where
     m : Moved
     m = moved_by c time (channel_at t i).osc
@@ -135,11 +132,11 @@ swapped-to-not t i j s h = go s.refused h
     go true k = stops-not t NotFinite 8 refl (λ e. omega arith) k
     go false k = goes-not (with_osc (with_osc t i s.one) j s.two) k
 
-swapped-at-not : (t : Tables) (f g : Found) (time : Float) → ByFull (swapped_at t f g time) → ⊥
+swapped-at-not : (t : Tables) (f g : Option ℕ) (time : Float) → ByFull (swapped_at t f g time) → ⊥
 unfolding swapped_at
-swapped-at-not t Nowhere g time h = stops-not t UnknownChannel 7 refl (λ e. omega arith) h
-swapped-at-not t (At i) Nowhere time h = stops-not t UnknownChannel 7 refl (λ e. omega arith) h
-swapped-at-not t (At i) (At j) time h = swapped-to-not t i j (swapped_phases (channel_at t i).osc (channel_at t j).osc time) h
+swapped-at-not t None g time h = stops-not t UnknownChannel 7 refl (λ e. omega arith) h
+swapped-at-not t (Some i) None time h = stops-not t UnknownChannel 7 refl (λ e. omega arith) h
+swapped-at-not t (Some i) (Some j) time h = swapped-to-not t i j (swapped_phases (channel_at t i).osc (channel_at t j).osc time) h
 
 swapped-not : (t : Tables) (n m : Name) (time : Float) → ByFull (swapped_between t n m time) → ⊥
 swapped-not t n m time h = go (same_name n m) h
@@ -156,7 +153,7 @@ module _ (t : Tables) (splines bins : List (List Float)) (a : Arranged) (formed 
   wide = a.span.0
 
   module _ (p : Play) (plays : a.command ≡ C.Play p) (kind : Shape) (k : ℕ) (shaped : Shaped t splines p kind k) where
-    module _ (plateau : lt (plateau_of p wide) nought ≡ false) (i : ℕ) (channel : found t p.channel ≡ At i) where
+    module _ (plateau : lt (plateau_of p wide) nought ≡ false) (i : ℕ) (channel : found t p.channel ≡ Some i) where
       abbrev bin : Bin
       bin = bin_for t i kind p wide
 
@@ -166,7 +163,7 @@ module _ (t : Tables) (splines bins : List (List Float)) (a : Arranged) (formed 
       abbrev quiet : Bool
       quiet = negligible p.amplitude.0 t.amp.0
 
-      abbrev weighed : Weighed
+      abbrev weighed : Option Weight
       weighed = weighed_of p.amplitude.0 p.phase.0 p.drag
 
       abbrev spline : ℕ
@@ -175,7 +172,7 @@ module _ (t : Tables) (splines bins : List (List Float)) (a : Arranged) (formed 
       abbrev at : ℕ
       at = place_for t splines bins i kind k p wide
 
-      stored-full : sound ≡ true → quiet ≡ false → (w : Weight) → weighed ≡ Fine w → ByFull (stored_at t splines bins i start w (head_of bin) spline) → FullAt t splines bins a
+      stored-full : sound ≡ true → quiet ≡ false → (w : Weight) → weighed ≡ Some w → ByFull (stored_at t splines bins i start w (head_of bin) spline) → FullAt t splines bins a
       stored-full s q w e h = go (is_full t bins i at) refl h
         where
           go : (b : Bool) → is_full t bins i at ≡ b → ByFull (cond b (stops t Full) (stores t i at (is_new t bins i at) start w (head_of bin) spline)) → FullAt t splines bins a
@@ -191,10 +188,10 @@ module _ (t : Tables) (splines bins : List (List Float)) (a : Arranged) (formed 
               }
           go false f h = absurd (true≢false (sym h.stop))
 
-      weighed-full : sound ≡ true → quiet ≡ false → (w : Weighed) → weighed ≡ w → ByFull (stored_with t splines bins i start w (head_of bin) spline) → FullAt t splines bins a
+      weighed-full : sound ≡ true → quiet ≡ false → (w : Option Weight) → weighed ≡ w → ByFull (stored_with t splines bins i start w (head_of bin) spline) → FullAt t splines bins a
       unfolding stored_with
-      weighed-full s q Overflow e h = absurd (stops-not t NotFinite 8 refl (λ e. omega arith) h)
-      weighed-full s q (Fine w) e h = stored-full s q w e h
+      weighed-full s q None e h = absurd (stops-not t NotFinite 8 refl (λ e. omega arith) h)
+      weighed-full s q (Some w) e h = stored-full s q w e h
 
       quiet-full : sound ≡ true → (b : Bool) → quiet ≡ b → ByFull (cond b (goes_on t) (stored_with t splines bins i start weighed (head_of bin) spline)) → FullAt t splines bins a
       quiet-full s true q h = absurd (goes-not t h)
@@ -204,10 +201,10 @@ module _ (t : Tables) (splines bins : List (List Float)) (a : Arranged) (formed 
       pushed-full true s h = quiet-full s quiet refl h
       pushed-full false s h = absurd (stops-not t NotFinite 8 refl (λ e. omega arith) h)
 
-    channel-full : lt (plateau_of p wide) nought ≡ false → (f : Found) → found t p.channel ≡ f → ByFull (played_at t splines bins f start wide p kind k) → FullAt t splines bins a
+    channel-full : lt (plateau_of p wide) nought ≡ false → (f : Option ℕ) → found t p.channel ≡ f → ByFull (played_at t splines bins f start wide p kind k) → FullAt t splines bins a
     unfolding played_at
-    channel-full low Nowhere e h = absurd (stops-not t UnknownChannel 7 refl (λ e. omega arith) h)
-    channel-full low (At i) e h = pushed-full low i e (sound low i e) refl h
+    channel-full low None e h = absurd (stops-not t UnknownChannel 7 refl (λ e. omega arith) h)
+    channel-full low (Some i) e h = pushed-full low i e (sound low i e) refl h
 
     plateau-full : (b : Bool) → lt (plateau_of p wide) nought ≡ b
         → ByFull (cond b (stops t NegativePlateau) (played_at t splines bins (found t p.channel) start wide p kind k)) → FullAt t splines bins a
@@ -218,19 +215,18 @@ module _ (t : Tables) (splines bins : List (List Float)) (a : Arranged) (formed 
     as_full h = plateau-full (lt (plateau_of p wide) nought) refl h
 
   module _ (p : Play) (plays : a.command ≡ C.Play p) where
-    by-full : p.shaped ≡ true → (f : Found) → shape_found t p.shape ≡ f → ByFull (played_by t splines bins f start wide p) → FullAt t splines bins a
+    by-full : (n : Name) → p.shape ≡ Some n → (f : Option ℕ) → shape_found t n ≡ f → ByFull (played_by t splines bins f start wide p) → FullAt t splines bins a
     unfolding played_by
-    by-full e Nowhere there h = absurd (stops-not t UnknownShape 5 refl (λ e. omega arith) h)
-    by-full e (At k) there h = as_full p plays (kind_of (numbers_at splines k)) k (by_name k e there) h
+    by-full n e None there h = absurd (stops-not t UnknownShape 5 refl (λ e. omega arith) h)
+    by-full n e (Some k) there h = as_full p plays (kind_of (numbers_at splines k)) k (by_name n k e there) h
 
-    shape-full : (b : Bool) → p.shaped ≡ b
-        → ByFull (cond b (played_by t splines bins (shape_found t p.shape) start wide p) (played_as t splines bins start wide p Plain no_spline)) → FullAt t splines bins a
-    shape-full true e h = by-full e (shape_found t p.shape) refl h
-    shape-full false e h = as_full p plays Plain no_spline (plain e) h
+    shape-full : (n : Option Name) → p.shape ≡ n → ByFull (played_with t splines bins n start wide p) → FullAt t splines bins a
+    shape-full None e h = as_full p plays Plain no_spline (plain e) h
+    shape-full (Some n) e h = by-full n e (shape_found t n) refl h
 
   acted-full : (c : Command) → a.command ≡ c → ByFull (acted t splines bins start wide c) → FullAt t splines bins a
   unfolding acted
-  acted-full (C.Play p) e h = shape-full p e p.shaped refl h
+  acted-full (C.Play p) e h = shape-full p e p.shape refl h
   acted-full (C.ShiftPhase n x) e h = absurd (turned-not t (found t n) (C.ShiftPhase n x) start h)
   acted-full (C.SetPhase n x) e h = absurd (turned-not t (found t n) (C.SetPhase n x) start h)
   acted-full (C.ShiftFreq n x) e h = absurd (turned-not t (found t n) (C.ShiftFreq n x) start h)

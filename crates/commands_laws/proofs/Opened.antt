@@ -1,5 +1,7 @@
 -- A bin that a command opens is good: a malformed number and a width below 0 are refused by 2, a plateau below 0 by 6, a total or a plateau that is
 -- not finite by 8, before anything is stored. Read off a step, check by check. Assumes nothing.
+use Rattle.std.specs.Prelude.{Option, Some, None}
+use Rattle.pulse.specs.declared.weight.Weight.{Weight}
 use Prim.Native.Nat.{ℕ, ◌+◌, ◌-◌, ◌*◌, ◌^◌, ◌<◌, compare, Ordering}
 use native.Mathlib.Omega.{arith}
 use native.Mathlib.Nat.{mul-pos, zero-mul, zero-lt-suc}
@@ -29,15 +31,11 @@ use Rattle.pulse.specs.declared.bin.Bin.{Bin}
 use Rattle.pulse.specs.declared.envelope.Envelope.{Envelope}
 use Rattle.pulse.specs.declared.envelope.Shape.{Shape}
 use Rattle.pulse.specs.declared.envelope.Shape.TheVariants.{Plain}
-use Rattle.pulse.specs.declared.weight.Weighed.{Weighed}
-use Rattle.pulse.specs.declared.weight.Weighed.TheVariants.{Fine, Overflow}
 use Rattle.pulse.specs.Bin.{head_of, bin_of, kind_of, place_of, GoodBin}
 use Rattle.pulse.specs.Envelope.{parts, is_shaped, envelope_of}
 use Rattle.pulse.specs.Weight.{negligible, weighed_of}
 use Rattle.pulse.proofs.Rows.{bin-again}
 use Rattle.tables.specs.declared.Tables.{Tables}
-use Rattle.tables.specs.declared.Found.{Found}
-use Rattle.tables.specs.declared.Found.TheVariants.{At, Nowhere}
 use Rattle.tables.specs.Tables.{found, shape_found, channel_at}
 use Rattle.commands.specs.declared.command.Play.{Play}
 use Rattle.commands.specs.declared.command.Command.{Command}
@@ -46,7 +44,7 @@ use Rattle.commands.specs.declared.command.Arranged.{Arranged}
 use Rattle.commands.specs.declared.step.Step.{Step}
 use Rattle.commands.specs.Command.{good_names, good_numbers, good, well_formed, too_long}
 use Rattle.commands.specs.Step.{no_spline, numbers_at, stops, goes_on, with_osc, moved_by, turned_at, swapped_at, swapped_between}
-use Rattle.commands.specs.Play.{rows_of, is_new, is_full, stores, stored_with, plateau_of, bin_for, spline_for, played_at, played_as, played_by, played}
+use Rattle.commands.specs.Play.{rows_of, is_new, is_full, stores, stored_with, plateau_of, bin_for, spline_for, played_at, played_as, played_by, played, played_with}
 use Rattle.commands.specs.Run.{acted, step_of}
 
 -- ---- a sum of two numbers that are not below 0 is not below 0
@@ -192,16 +190,16 @@ one_of true x y h k = h refl
 one_of false x y h k = k refl
 
 module _ (t : Tables) where
-  turned-opens : (f : Found) (c : Command) (time : Float) → Opens (turned_at t f c time)
+  turned-opens : (f : Option ℕ) (c : Command) (time : Float) → Opens (turned_at t f c time)
   unfolding turned_at
-  turned-opens Nowhere c time = none
-  turned-opens (At i) c time = let m = moved_by c time (channel_at t i).osc in one_of m.refused (stops t NotFinite) (goes_on (with_osc t i m.osc)) (λ _. none) (λ _. none)
+  turned-opens None c time = none
+  turned-opens (Some i) c time = let m = moved_by c time (channel_at t i).osc in one_of m.refused (stops t NotFinite) (goes_on (with_osc t i m.osc)) (λ _. none) (λ _. none)
 
-  swapped-at-opens : (f g : Found) (time : Float) → Opens (swapped_at t f g time)
+  swapped-at-opens : (f g : Option ℕ) (time : Float) → Opens (swapped_at t f g time)
   unfolding swapped_at
-  swapped-at-opens Nowhere g time = none
-  swapped-at-opens (At i) Nowhere time = none
-  swapped-at-opens (At i) (At j) time =
+  swapped-at-opens None g time = none
+  swapped-at-opens (Some i) None time = none
+  swapped-at-opens (Some i) (Some j) time =
       let x = swapped_phases (channel_at t i).osc (channel_at t j).osc time in
       one_of x.refused (stops t NotFinite) (goes_on (with_osc (with_osc t i x.one) j x.two)) (λ _. none) (λ _. none)
 
@@ -211,20 +209,20 @@ module _ (t : Tables) where
       one_of (same_name n m) (goes_on t) x (λ _. none) (λ _. swapped-at-opens (found t n) (found t m) time)
 
   module _ (splines bins : List (List Float)) where
-    stored-opens : (i : ℕ) (start : Float) (w : Weighed) (b : Bin) (spline : ℕ) → GoodBin b → Opens (stored_with t splines bins i start w (head_of b) spline)
+    stored-opens : (i : ℕ) (start : Float) (w : Option Weight) (b : Bin) (spline : ℕ) → GoodBin b → Opens (stored_with t splines bins i start w (head_of b) spline)
     unfolding stored_with
-    stored-opens i start Overflow b spline h = none
-    stored-opens i start (Fine w) b spline h =
+    stored-opens i start None b spline h = none
+    stored-opens i start (Some w) b spline h =
         let place = place_of (head_of b ++ numbers_at splines spline) (rows_of t bins i) in
         one_of (is_full t bins i place) (stops t Full) (stores t i place (is_new t bins i place) start w (head_of b) spline)
         (λ _. none)
         (λ _ _ numbers. subst GoodBin (sym (bin-again b numbers)) h)
 
     module _ (start span : Float) (p : Play) (numbers : good_numbers p ≡ true) where
-      played-at-opens : (kind : Shape) (k : ℕ) → lt (plateau_of p span) nought ≡ false → (f : Found) → Opens (played_at t splines bins f start span p kind k)
+      played-at-opens : (kind : Shape) (k : ℕ) → lt (plateau_of p span) nought ≡ false → (f : Option ℕ) → Opens (played_at t splines bins f start span p kind k)
       unfolding played_at
-      played-at-opens kind k low Nowhere = none
-      played-at-opens kind k low (At i) =
+      played-at-opens kind k low None = none
+      played-at-opens kind k low (Some i) =
           let b = bin_for t i kind p span in
           let w = weighed_of p.amplitude.0 p.phase.0 p.drag in
           let spline = spline_for b.envelope.shape k in
@@ -241,17 +239,17 @@ module _ (t : Tables) where
           (λ _. none)
           (λ e. played-at-opens kind k e f)
 
-      played-by-opens : (f : Found) → Opens (played_by t splines bins f start span p)
+      played-by-opens : (f : Option ℕ) → Opens (played_by t splines bins f start span p)
       unfolding played_by
-      played-by-opens Nowhere = none
-      played-by-opens (At k) = played_as_opens (kind_of (numbers_at splines k)) k
+      played-by-opens None = none
+      played-by-opens (Some k) = played_as_opens (kind_of (numbers_at splines k)) k
 
       played-opens : Opens (played t splines bins start span p)
-      played-opens =
-          let f = shape_found t p.shape in
-          one_of p.shaped (played_by t splines bins f start span p) (played_as t splines bins start span p Plain no_spline)
-          (λ _. played-by-opens f)
-          (λ _. played_as_opens Plain no_spline)
+      played-opens = by p.shape
+        where
+          by : (n : Option Name) → Opens (played_with t splines bins n start span p)
+          by None = played_as_opens Plain no_spline
+          by (Some n) = played-by-opens (shape_found t n)
 
     acted-opens : (start span : Float) (c : Command) → good c ≡ true → Opens (acted t splines bins start span c)
     unfolding acted good

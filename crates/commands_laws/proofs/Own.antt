@@ -1,5 +1,6 @@
 -- What a command to one channel comes to, worked out from that channel alone: its record, its bins' rows, and the tolerances, the choice
 -- and the shapes with their rows. A step is this, carried over to the tables. Assumes nothing.
+use Rattle.std.specs.Prelude.{Option, Some, None}
 use Prim.Native.Nat.{ℕ}
 use mathlib.Core.Path.{◌≡◌, refl}
 use mathlib.Core.Bool.{Bool, true, false, ◌&&◌, ◌||◌, not, cond, true≢false}
@@ -17,14 +18,10 @@ use Rattle.executor.specs.declared.osc.Moved.{Moved}
 use Rattle.pulse.specs.declared.envelope.Shape.{Shape}
 use Rattle.pulse.specs.declared.envelope.Shape.TheVariants.{Plain}
 use Rattle.pulse.specs.declared.weight.Weight.{Weight}
-use Rattle.pulse.specs.declared.weight.Weighed.{Weighed}
-use Rattle.pulse.specs.declared.weight.Weighed.TheVariants.{Fine, Overflow}
 use Rattle.pulse.specs.Bin.{head_of, kind_of, place_of}
 use Rattle.pulse.specs.Weight.{negligible, weighed_of}
 use Rattle.tables.specs.declared.Channel.{Channel}
 use Rattle.tables.specs.declared.Tables.{Tables}
-use Rattle.tables.specs.declared.Found.{Found}
-use Rattle.tables.specs.declared.Found.TheVariants.{At, Nowhere}
 use Rattle.tables.specs.Tables.{shapes_in, found, shape_from, shape_found, channel_at}
 use Rattle.commands.specs.declared.command.Play.{Play}
 use Rattle.commands.specs.declared.command.Command.{Command}
@@ -33,7 +30,7 @@ use Rattle.commands.specs.declared.command.Arranged.{Arranged}
 use Rattle.commands.specs.declared.step.Step.{Step}
 use Rattle.commands.specs.Command.{well_formed, required, too_long}
 use Rattle.commands.specs.Step.{no_spline, numbers_at, stops, goes_on, with_osc, moved_by, turned_at}
-use Rattle.commands.specs.Play.{rows_of, stores, stored_with, plateau_of, bin_with, spline_for, played_at, played_as, played_by, played}
+use Rattle.commands.specs.Play.{rows_of, stores, stored_with, plateau_of, bin_with, spline_for, played_at, played_as, played_by, played, played_with}
 use Rattle.commands.specs.Run.{acted, step_of}
 use Rattle.commands.specs.Command.{named, is_swap}
 
@@ -86,9 +83,9 @@ own_store v start w head spline =
     let place = place_of (head ++ numbers_at v.splines spline) v.rows in
     cond (own_full v place) (refuses Full) (puts place (leb (length v.rows) place) start w head spline)
 
-abbrev own_weighed : View → Float → Weighed → List Float → ℕ → Own
-own_weighed v start Overflow head spline = refuses NotFinite
-own_weighed v start (Fine w) head spline = own_store v start w head spline
+abbrev own_weighed : View → Float → Option Weight → List Float → ℕ → Own
+own_weighed v start None head spline = refuses NotFinite
+own_weighed v start (Some w) head spline = own_store v start w head spline
 
 abbrev own_play_as : View → Float → Float → Play → Shape → ℕ → Own
 own_play_as v start span p kind k =
@@ -99,12 +96,16 @@ own_play_as v start span p kind k =
     (own_weighed v start (weighed_of p.amplitude.0 p.phase.0 p.drag) (head_of b) (spline_for b.envelope.shape k)))
     (refuses NotFinite))
 
-abbrev own_play_by : View → Float → Float → Play → Found → Own
-own_play_by v start span p Nowhere = refuses UnknownShape
-own_play_by v start span p (At k) = own_play_as v start span p (kind_of (numbers_at v.splines k)) k
+abbrev own_play_by : View → Float → Float → Play → Option ℕ → Own
+own_play_by v start span p None = refuses UnknownShape
+own_play_by v start span p (Some k) = own_play_as v start span p (kind_of (numbers_at v.splines k)) k
+
+abbrev own_play_with : View → Option Name → Float → Float → Play → Own
+own_play_with v None start span p = own_play_as v start span p Plain no_spline
+own_play_with v (Some n) start span p = own_play_by v start span p (shape_from 0 n v.shapes)
 
 abbrev own_play : View → Float → Float → Play → Own
-own_play v start span p = cond p.shaped (own_play_by v start span p (shape_from 0 p.shape v.shapes)) (own_play_as v start span p Plain no_spline)
+own_play v start span p = own_play_with v p.shape start span p
 
 abbrev own_act : View → Float → Float → Command → Own
 own_act v start span (C.Play p) = own_play v start span p
@@ -137,17 +138,17 @@ module _ (t : Tables) (splines bins : List (List Float)) (i : ℕ) where
   abbrev v : View
   v = view_of t splines bins i
 
-  own-weighed : (start : Float) (w : Weighed) (head : List Float) (spline : ℕ)
+  own-weighed : (start : Float) (w : Option Weight) (head : List Float) (spline : ℕ)
       → stored_with t splines bins i start w head spline ≡ realize t i (own_weighed v start w head spline)
   unfolding stored_with
-  own-weighed start Overflow head spline = refl
-  own-weighed start (Fine w) head spline =
+  own-weighed start None head spline = refl
+  own-weighed start (Some w) head spline =
       let place = place_of (head ++ numbers_at splines spline) (rows_of t bins i) in
       let new = leb (length v.rows) place in
       both_ways t i (own_full v place) (refuses Full) (puts place new start w head spline) (stops t Full) (stores t i place new start w head spline) refl refl
 
   module _ (start span : Float) where
-    own-play_as : (p : Play) → found t p.channel ≡ At i → (kind : Shape) (k : ℕ)
+    own-play_as : (p : Play) → found t p.channel ≡ Some i → (kind : Shape) (k : ℕ)
         → played_as t splines bins start span p kind k ≡ realize t i (own_play_as v start span p kind k)
     unfolding played_at
     own-play_as p e kind k =
@@ -161,18 +162,22 @@ module _ (t : Tables) (splines bins : List (List Float)) (i : ℕ) where
         (both_ways t i quiet same _ (goes_on t) _ refl (own-weighed start w (head_of b) (spline_for b.envelope.shape k)))
         refl))
 
-    own-play-by : (p : Play) → found t p.channel ≡ At i → (f : Found) → played_by t splines bins f start span p ≡ realize t i (own_play_by v start span p f)
+    own-play-by : (p : Play) → found t p.channel ≡ Some i → (f : Option ℕ) → played_by t splines bins f start span p ≡ realize t i (own_play_by v start span p f)
     unfolding played_by
-    own-play-by p e Nowhere = refl
-    own-play-by p e (At k) = own-play_as p e (kind_of (numbers_at splines k)) k
+    own-play-by p e None = refl
+    own-play-by p e (Some k) = own-play_as p e (kind_of (numbers_at splines k)) k
 
-    own-play : (p : Play) → found t p.channel ≡ At i → played t splines bins start span p ≡ realize t i (own_play v start span p)
-    own-play p e = both_ways t i p.shaped _ _ _ _ (own-play-by p e (shape_found t p.shape)) (own-play_as p e Plain no_spline)
+    own-play : (p : Play) → found t p.channel ≡ Some i → played t splines bins start span p ≡ realize t i (own_play v start span p)
+    own-play p e = by p.shape
+      where
+        by : (n : Option Name) → played_with t splines bins n start span p ≡ realize t i (own_play_with v n start span p)
+        by None = own-play_as p e Plain no_spline
+        by (Some n) = own-play-by p e (shape_found t n)
 
     own_turn_lem : (m : Moved) → cond m.refused (stops t NotFinite) (goes_on (with_osc t i m.osc)) ≡ realize t i (own_turn v m)
     own_turn_lem m = both_ways t i m.refused (refuses NotFinite) (turns m.osc) (stops t NotFinite) (goes_on (with_osc t i m.osc)) refl refl
 
-    own-act : (c : Command) → is_swap c ≡ false → found t (named c) ≡ At i → acted t splines bins start span c ≡ realize t i (own_act v start span c)
+    own-act : (c : Command) → is_swap c ≡ false → found t (named c) ≡ Some i → acted t splines bins start span c ≡ realize t i (own_act v start span c)
     unfolding acted turned_at is_swap
     own-act (C.Play p) e f = own-play p f
     own-act (C.ShiftPhase n x) e f = rw f (own_turn_lem (moved_by (C.ShiftPhase n x) start (channel_at t i).osc))
@@ -182,7 +187,7 @@ module _ (t : Tables) (splines bins : List (List Float)) (i : ℕ) where
     own-act (C.SwapPhase n m) e f = absurd (true≢false e)
     own-act C.Barrier e f = refl
 
-  pub own-step : (a : Arranged) → is_swap a.command ≡ false → found t (named a.command) ≡ At i → step_of t splines bins a ≡ realize t i (own v a)
+  pub own-step : (a : Arranged) → is_swap a.command ≡ false → found t (named a.command) ≡ Some i → step_of t splines bins a ≡ realize t i (own v a)
   own-step a e f =
       both_ways t i (well_formed a) _ (refuses Malformed) _ (stops t Malformed)
       (both_ways t i (too_long t a) (refuses Oversize) _ (stops t Oversize) _ refl (own-act a.start.0 a.span.0 a.command e f))

@@ -1,5 +1,6 @@
 -- From made tables, after any run of adds and command calls, accepted or refused, every list stands by bin and time, every count is right and
 -- every bin is good. Each call keeps it, and a step keeps it by its cases. Assumes nothing.
+use Rattle.std.specs.Prelude.{Option, Some, None}
 use Prim.Native.Nat.{ℕ, suc, ◌+◌, ◌*◌, ◌≤◌, ◌<◌}
 use native.Mathlib.Omega.{arith}
 use mathlib.Core.Path.{◌≡◌, refl, sym, ap, ◌∙◌}
@@ -27,8 +28,6 @@ use Rattle.pulse.specs.List.{stored}
 use Rattle.pulse.proofs.Stored.{stored-list, stored-sorted, stored-timed, stored-length}
 use Rattle.tables.specs.declared.Channel.{Channel}
 use Rattle.tables.specs.declared.Tables.{Tables}
-use Rattle.tables.specs.declared.Found.{Found}
-use Rattle.tables.specs.declared.Found.TheVariants.{At, Nowhere}
 use Rattle.tables.specs.Tables.{found, shape_found, done, refused, Formed, formed, channel_at, fresh, finite_osc, with_channels, with_channel, settled, with_added, with_shape, settled_shape, with_added_shape, with_added_spline, channels_in, empty, made}
 use Rattle.tables.proofs.Finding.{found-eight, found-under}
 use Rattle.commands.specs.declared.command.Command.{Command}
@@ -72,12 +71,12 @@ module _ (t : Tables) (bins : List (List Float)) (pulses : List Pulse) (h : Soun
             (λ apart. h.good j k (old j below apart) (rw (ap (λ (x : Channel). x.bins) (at_other t i new inside m j apart)) at under));
       }
 
-  settled-sound : (f : Found) → found t n ≡ f → Sound (settled t f new).tables bins pulses
+  settled-sound : (f : Option ℕ) → found t n ≡ f → Sound (settled t f new).tables bins pulses
   unfolding settled
-  settled-sound (At i) e =
+  settled-sound (Some i) e =
       let under = found-eight t n i h.eight e in
       fresh_at i t.count (omega (arith, h.eight)) h.few (λ j below apart. below)
-  settled-sound Nowhere e = go (ltb t.count 8) refl
+  settled-sound None e = go (ltb t.count 8) refl
     where
       go : (b : Bool) → ltb t.count 8 ≡ b
           → Sound (cond b (done (with_channels t (set t.channels t.count new) (t.count + 1))) (refused Full t)).tables bins pulses
@@ -113,10 +112,10 @@ module _ (t : Tables) (bins : List (List Float)) (pulses : List Pulse) (h : Soun
   one-sound false x y a c = c
 
   module _ (splines : List (List Float)) where
-    settled-shape-sound : (row : List Float) (f : Found) → Sound (settled_shape t f n row splines).tabled.tables bins pulses
+    settled-shape-sound : (row : List Float) (f : Option ℕ) → Sound (settled_shape t f n row splines).tabled.tables bins pulses
     unfolding settled_shape
-    settled-shape-sound row (At i) = h
-    settled-shape-sound row Nowhere = one-sound (ltb t.named 8) (formed (done (with_shape t n)) _) (formed (refused Full t) splines) named-sound h
+    settled-shape-sound row (Some i) = h
+    settled-shape-sound row None = one-sound (ltb t.named 8) (formed (done (with_shape t n)) _) (formed (refused Full t) splines) named-sound h
 
     shape-sound : Sound (with_added_shape t n splines).tabled.tables bins pulses
     shape-sound =
@@ -146,7 +145,7 @@ not-nan (fin s m k) e = refl
 
 module _ (t : Tables) (bins : List (List Float)) (pulses : List Pulse) (h : Sound t bins pulses) where
   -- a pulse stored in channel i
-  module _ (n : Name) (i place : ℕ) (new : Bool) (start : Float) (w : Weight) (row : List Float) (there : found t n ≡ At i) (known : finite start ≡ true) (most : place ≤ (channel_at t i).bins) (old : new ≡ false → place < (channel_at t i).bins) (room : new ≡ true → (channel_at t i).bins < 64) (few : (channel_at t i).pulses < 1024) where
+  module _ (n : Name) (i place : ℕ) (new : Bool) (start : Float) (w : Weight) (row : List Float) (there : found t n ≡ Some i) (known : finite start ≡ true) (most : place ≤ (channel_at t i).bins) (old : new ≡ false → place < (channel_at t i).bins) (room : new ≡ true → (channel_at t i).bins < 64) (few : (channel_at t i).pulses < 1024) where
     abbrev c : Channel
     c = channel_at t i
 

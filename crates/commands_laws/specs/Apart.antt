@@ -1,13 +1,11 @@
 -- Words for the law that channels do not meet: the commands of a list that are for one channel, and what that channel sees. Swaps, which
 -- are for two channels, are left aside. Definitions only.
-use Rattle.std.specs.Prelude.{ℕ, ◌≡◌, Bool, true, false, ◌&&◌, not, cond, List, [], ◌∷◌, Float}
+use Rattle.quant.specs.Refusal.{Answer}
+use Rattle.std.specs.Prelude.{ℕ, ◌≡◌, Bool, true, false, ◌&&◌, not, cond, List, [], ◌∷◌, Float, Some, Ok, Err}
 use Rattle.naming.specs.declared.Name.{Name}
-use Rattle.quant.specs.declared.refusal.Answer.{Answer}
-use Rattle.quant.specs.declared.refusal.Answer.TheVariants.{Done, Refused}
 use Rattle.naming.specs.Name.{same_name}
 use Rattle.pulse.specs.declared.list.Pulse.{Pulse}
 use Rattle.tables.specs.declared.Tables.{Tables}
-use Rattle.tables.specs.declared.Found.TheVariants.{At}
 use Rattle.tables.specs.Tables.{shapes_in, found, channel_at}
 use Rattle.commands.specs.declared.command.Command.{Command}
 use Rattle.commands.specs.declared.command.Command.TheVariants as C
@@ -36,14 +34,14 @@ no_swaps [] = true
 no_swaps (a ∷ more) = not (is_swap a.command) && no_swaps more
 
 unfoldable pub is_done : Answer → Bool
-is_done (Done k) = true
-is_done (Refused r k) = false
+is_done (Ok k) = true
+is_done (Err e) = false
 
 -- the channel named n stands at the same place i of both tables and looks the same: what its commands go by, its state and counts, its
 -- bins' rows and its records
 pub record SameTo (n : Name) (i : ℕ) (t u : Tables) (bins rows : List (List Float)) (pulses records : List Pulse) : Type 0 where
-  pub here : found t n ≡ At i
-  pub there : found u n ≡ At i
+  pub here : found t n ≡ Some i
+  pub there : found u n ≡ Some i
   pub amp : t.amp.0 ≡ u.amp.0
   pub time : t.time.0 ≡ u.time.0
   pub oversize : t.oversize ≡ u.oversize

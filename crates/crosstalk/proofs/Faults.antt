@@ -1,4 +1,6 @@
 -- What is told of the names: a name at fault, none before it is, and nothing exactly where none is. Assumes nothing.
+use Rattle.quant.specs.Refusal.{Answer, refuse}
+use Rattle.std.specs.Prelude.{Option, Some, None, Ok, Err}
 use Prim.Native.Nat.{ℕ, zero, suc, ◌+◌, ◌≤◌, ◌<◌}
 use native.Mathlib.Omega.{arith}
 use mathlib.Core.Path.{◌≡◌, refl, sym, ap, subst, ◌∙◌}
@@ -11,12 +13,8 @@ use Rattle.exact.proofs.Naturals.{below_or, first-once}
 use Rattle.naming.specs.declared.Name.{Name}
 use Rattle.naming.specs.Name.{same_name, is_in}
 use Rattle.naming.proofs.Named.{same-exactly}
-use Rattle.quant.specs.declared.refusal.Answer.{Answer}
-use Rattle.quant.specs.declared.refusal.Answer.TheVariants.{Done, Refused}
 use Rattle.quant.specs.declared.refusal.Refusal.{Refusal}
 use Rattle.quant.specs.declared.refusal.Refusal.TheVariants.{DoubledName, NoList}
-use Rattle.tables.specs.declared.Found.{Found}
-use Rattle.tables.specs.declared.Found.TheVariants.{At, Nowhere}
 use Rattle.tables.specs.declared.Tables.{Tables}
 use Rattle.tables.specs.Tables.{no_name, found}
 use Rattle.crosstalk.specs.Crosstalk.{is_known, names_judged}
@@ -72,16 +70,16 @@ module _ (before : List Name) (n : Name) (ns : List Name) where
 module _ (t : Tables) where
   -- a refusal tells the first name at fault; done, none is
   abbrev Tells : List Name → Answer → Type 0
-  Tells ns (Refused r k) = FirstAtFault t ns r k
-  Tells ns (Done n) = (n ≡ 0) × NoneBefore t ns (length ns)
+  Tells ns (Err e) = FirstAtFault t ns e.why e.place
+  Tells ns (Ok n) = (n ≡ 0) × NoneBefore t ns (length ns)
 
-  not-nowhere : (p : Found) → is_known p ≡ true → p ≡ Nowhere → ⊥
-  not-nowhere (At i) e f = let z : ◌≡◌ {A = ℕ} 0 1 = cc in omega arith
-  not-nowhere Nowhere e f = true≢false (sym e)
+  not-nowhere : (p : Option ℕ) → is_known p ≡ true → p ≡ None → ⊥
+  not-nowhere (Some i) e f = let z : ◌≡◌ {A = ℕ} 0 1 = cc in omega arith
+  not-nowhere None e f = true≢false (sym e)
 
-  nowhere : (p : Found) → is_known p ≡ false → p ≡ Nowhere
-  nowhere (At i) e = absurd (true≢false e)
-  nowhere Nowhere e = refl
+  nowhere : (p : Option ℕ) → is_known p ≡ false → p ≡ None
+  nowhere (Some i) e = absurd (true≢false e)
+  nowhere None e = refl
 
   -- a name that is new and known is not at fault
   clear : (ns : List Name) (i : ℕ) → (StoodBefore ns i → ⊥) → is_known (found t (name_at ns i)) ≡ true → (q : Refusal) → AtFault t ns i q → ⊥
@@ -112,7 +110,7 @@ module _ (t : Tables) where
 
       go : (b k : Bool) → is_in n before ≡ b → is_known (found t n) ≡ k
           → (NoneBefore t (before ++ n ∷ ns) (length before + 1) → Tells (before ++ n ∷ ns) (names_judged t (before ++ n ∷ []) ns))
-          → Tells (before ++ n ∷ ns) (cond b (Refused DoubledName (length before + 1)) (cond k (names_judged t (before ++ n ∷ []) ns) (Refused NoList (length before + 1))))
+          → Tells (before ++ n ∷ ns) (cond b (refuse DoubledName (length before + 1)) (cond k (names_judged t (before ++ n ∷ []) ns) (refuse NoList (length before + 1))))
       go true k e f next = record { place = length before; there = here; from_1 = refl; fault = doubled (stood before n ns e); none_before = none }
       go false false e f next =
           let missing = nowhere (found t (name_at (before ++ n ∷ ns) (length before))) (rw (at-seam before n ns) f) in
@@ -140,33 +138,33 @@ module _ (t : Tables) where
     none_yet j under = absurd (omega arith)
 
     -- a refusal with its position tells the first name at fault, and that is told
-    pub name-told : (r : Refusal) (k : ℕ) → names_judged t [] ns ≡ Refused r k ↔ FirstAtFault t ns r k
+    pub name-told : (r : Refusal) (k : ℕ) → names_judged t [] ns ≡ refuse r k ↔ FirstAtFault t ns r k
     name-told r k = ((λ e. rw e at (told [] ns none_yet)), (λ f. by (names_judged t [] ns) refl (told [] ns none_yet) f))
       where
-        by : (a : Answer) → names_judged t [] ns ≡ a → Tells ns a → FirstAtFault t ns r k → a ≡ Refused r k
-        by (Done n) e h f = absurd (h.1 f.place f.there r f.fault)
-        by (Refused q j) e h f = let same = one-first ns q r j k h f in λ i. Refused (same.0 i) (same.1 i)
+        by : (a : Answer) → names_judged t [] ns ≡ a → Tells ns a → FirstAtFault t ns r k → a ≡ refuse r k
+        by (Ok n) e h f = absurd (h.1 f.place f.there r f.fault)
+        by (Err x) e h f = let same = one-first ns x.why r x.place k h f in λ i. refuse (same.0 i) (same.1 i)
 
-    pub told-done : (n : ℕ) → names_judged t [] ns ≡ Done n → n ≡ 0
+    pub told-done : (n : ℕ) → names_judged t [] ns ≡ Ok n → n ≡ 0
     told-done n e = (rw e at (told [] ns none_yet)).0
 
     -- none is told exactly where none is at fault
-    pub none_told : names_judged t [] ns ≡ Done 0 ↔ NoneBefore t ns (length ns)
+    pub none_told : names_judged t [] ns ≡ Ok 0 ↔ NoneBefore t ns (length ns)
     none_told = ((λ e. (rw e at (told [] ns none_yet)).1), (λ h. by (names_judged t [] ns) (told [] ns none_yet) h))
       where
-        by : (a : Answer) → Tells ns a → NoneBefore t ns (length ns) → a ≡ Done 0
-        by (Done n) h none = ap Done h.0
-        by (Refused q j) f none = absurd (none f.place f.there q f.fault)
+        by : (a : Answer) → Tells ns a → NoneBefore t ns (length ns) → a ≡ Ok 0
+        by (Ok n) h none = ap Ok h.0
+        by (Err e) f none = absurd (none f.place f.there e.why f.fault)
 
 -- ---- examples
 
 module _ (t : Tables) (a : Name) (known : is_known (found t a) ≡ true) where
   -- b stands again before a does
-  pub a-b-b-a : (b : Name) → same_name a b ≡ false → is_known (found t b) ≡ true → names_judged t [] (a ∷ b ∷ b ∷ a ∷ []) ≡ Refused DoubledName 3
+  pub a-b-b-a : (b : Name) → same_name a b ≡ false → is_known (found t b) ≡ true → names_judged t [] (a ∷ b ∷ b ∷ a ∷ []) ≡ refuse DoubledName 3
   unfolding names_judged is_in
   a-b-b-a b apart too = rw (known, apart, too, (same-exactly b b).1 refl)
 
   -- x has no list, and stands before a's repeat
-  pub a-x-a : (x : Name) → same_name a x ≡ false → found t x ≡ Nowhere → names_judged t [] (a ∷ x ∷ a ∷ []) ≡ Refused NoList 2
+  pub a-x-a : (x : Name) → same_name a x ≡ false → found t x ≡ None → names_judged t [] (a ∷ x ∷ a ∷ []) ≡ refuse NoList 2
   unfolding names_judged is_in
   a-x-a x apart none = rw (known, apart, none)

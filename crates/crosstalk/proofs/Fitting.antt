@@ -1,4 +1,5 @@
 -- Sizes: what fitting counts tell, and that a row lies within the factors. Assumes nothing.
+use Rattle.std.specs.Prelude.{Some}
 use Prim.Native.Nat.{ℕ, suc, ◌+◌, ◌*◌, ◌≤◌, ◌<◌}
 use native.Mathlib.Omega.{arith}
 use native.Mathlib.Nat.{mul-le-mul, add-mul}
@@ -11,7 +12,6 @@ use lib.ListN.{length, length-take}
 use Rattle.naming.specs.declared.Name.{Name}
 use Rattle.naming.specs.Name.{same_name}
 use Rattle.exact.proofs.Truth.{both}
-use Rattle.tables.specs.declared.Found.TheVariants.{At}
 use Rattle.crosstalk.specs.declared.names.Crosstalk.{Crosstalk}
 use Rattle.crosstalk.specs.Crosstalk.{names_in, cross_fits, row_from, row_of}
 
@@ -30,16 +30,16 @@ fitting count lent e =
     record { few = few; square = square_64 few; enough = leb-true (count * count) lent two.1 }
 
 -- a row that is found is one of those looked at
-pub row_under : (k : ℕ) (n : Name) (ns : List Name) (r : ℕ) → row_from k n ns ≡ At r → r < k + length ns
+pub row_under : (k : ℕ) (n : Name) (ns : List Name) (r : ℕ) → row_from k n ns ≡ Some r → r < k + length ns
 unfolding row_from
 row_under k n [] r e = let z : ◌≡◌ {A = ℕ} 0 1 = cc in absurd (omega arith)
 row_under k n (m ∷ ns) r e = go (same_name m n) e (row_under (suc k) n ns r)
   where
-    go : (b : Bool) → cond b (At k) (row_from (suc k) n ns) ≡ At r → (row_from (suc k) n ns ≡ At r → r < suc k + length ns) → r < k + suc (length ns)
+    go : (b : Bool) → cond b (Some k) (row_from (suc k) n ns) ≡ Some r → (row_from (suc k) n ns ≡ Some r → r < suc k + length ns) → r < k + suc (length ns)
     go true f later = let same : k ≡ r = cc in omega arith
     go false f later = let under = later f in omega arith
 
-pub row_below : (c : Crosstalk) (n : Name) (r : ℕ) → row_of n (names_in c) ≡ At r → r < c.count
+pub row_below : (c : Crosstalk) (n : Name) (r : ℕ) → row_of n (names_in c) ≡ Some r → r < c.count
 row_below c n r e =
     let under = row_under 0 n (names_in c) r e in
     let most = rw (length-take c.count c.names) at under in

@@ -1,5 +1,7 @@
 -- A plan is refused in one of four ways or holds exactly the lists that take part, at most eight, each at one of the tables' eight places; and
 -- the unit matrix gives what a channel that is not named gets: its own list alone. Assumes nothing.
+use Rattle.quant.specs.Refusal.{Answer}
+use Rattle.std.specs.Prelude.{Option, Some, None, Ok, Err}
 use Prim.Native.Nat.{ℕ, zero, suc, ◌+◌, ◌*◌, ◌≤◌, ◌<◌}
 use native.Mathlib.Omega.{arith}
 use mathlib.Core.Path.{◌≡◌, refl, ap, ◌∙◌}
@@ -10,21 +12,16 @@ use lib.ListN.{length, take, drop, get_or, length-map, length-take, length-drop}
 use lib.Seq.{take_at, get_or-take, get_or-drop, length-take-le}
 use Rattle.exact.specs.Doubles.{nought, one}
 use Rattle.naming.specs.declared.Name.{Name}
-use Rattle.quant.specs.declared.refusal.Answer.{Answer}
-use Rattle.quant.specs.declared.refusal.Answer.TheVariants.{Done, Refused}
 use Rattle.quant.specs.declared.refusal.Refusal.{Refusal}
 use Rattle.quant.specs.declared.refusal.Refusal.TheVariants as why
 use Rattle.naming.specs.Name.{same_name}
 use Rattle.naming.proofs.Named.{same-exactly}
-use Rattle.tables.specs.declared.Found.{Found}
-use Rattle.tables.specs.declared.Found.TheVariants.{At, Nowhere}
 use Rattle.tables.specs.declared.Tables.{Tables}
 use Rattle.tables.specs.Tables.{found}
 use Rattle.tables.proofs.Finding.{found-eight}
 use Rattle.merge.specs.Taking.{Part, part, place_of_part, factor_of_part, packed, zipped, parts_in}
 use Rattle.crosstalk.specs.declared.names.Crosstalk.{Crosstalk}
-use Rattle.crosstalk.specs.declared.parts.Plan.{Plan}
-use Rattle.crosstalk.specs.Crosstalk.{names_in, cross_fits, cross_fine, is_known, names_judged, refused_plan, accepted_plan, unless_named, planned}
+use Rattle.crosstalk.specs.Crosstalk.{Plan, names_in, cross_fits, cross_fine, is_known, names_judged, refused_plan, accepted_plan, unless_named, planned, is_refused, taking_of}
 use Rattle.crosstalk.specs.Crosstalk.{row_from, row_of, part_of, row_parts, own_parts, row_at, parts_at, parts_for}
 use Rattle.crosstalk.proofs.Fitting.{fitting, row_below, row_within}
 use Rattle.crosstalk.specs.Faults.{name_at, FirstAtFault}
@@ -36,7 +33,7 @@ use Rattle.crosstalk.proofs.Faults.{name-told, told-done}
 pub record Passes (t : Tables) (channel : Name) (c : Crosstalk) (factors : List Float) : Type 0 where
   pub fits : cross_fits c.count (length factors) ≡ true
   pub fine : cross_fine channel c (take (c.count * c.count) factors) ≡ true
-  pub clear : names_judged t [] (names_in c) ≡ Done 0
+  pub clear : names_judged t [] (names_in c) ≡ Ok 0
   pub known : is_known (found t channel) ≡ true
 
 module _ (t : Tables) (channel : Name) (c : Crosstalk) (factors : List Float) where
@@ -47,7 +44,7 @@ module _ (t : Tables) (channel : Name) (c : Crosstalk) (factors : List Float) wh
     at-fault : cross_fits c.count (length factors) ≡ true → cross_fine channel c (take (c.count * c.count) factors) ≡ true
         → (r : Refusal) (k : ℕ) → FirstAtFault t (names_in c) r k → Way (refused_plan r k)
     unknown : cross_fits c.count (length factors) ≡ true → cross_fine channel c (take (c.count * c.count) factors) ≡ true
-        → names_judged t [] (names_in c) ≡ Done 0 → is_known (found t channel) ≡ false → Way (refused_plan why.UnknownChannel 0)
+        → names_judged t [] (names_in c) ≡ Ok 0 → is_known (found t channel) ≡ false → Way (refused_plan why.UnknownChannel 0)
     accepted : Passes t channel c factors → Way (accepted_plan (packed (parts_for t channel c factors)))
 
   pub way : Way (planned t channel c factors)
@@ -59,18 +56,18 @@ module _ (t : Tables) (channel : Name) (c : Crosstalk) (factors : List Float) wh
           → Way (cond u (cond v (unless_named a (cond y (accepted_plan (packed (parts_for t channel c factors))) (refused_plan why.UnknownChannel 0))) (refused_plan why.Malformed 0)) (refused_plan why.WrongSize 0))
       by false v a y f g h k = wrong_size f
       by true false a y f g h k = malformed f g
-      by true true (Refused r j) y f g h k = at-fault f g r j ((name-told t (names_in c) r j).0 h)
-      by true true (Done n) y f g h k = passed y k (h ∙ ap Done (told-done t (names_in c) n h))
+      by true true (Err e) y f g h k = at-fault f g e.why e.place ((name-told t (names_in c) e.why e.place).0 h)
+      by true true (Ok n) y f g h k = passed y k (h ∙ ap Ok (told-done t (names_in c) n h))
         where
-          passed : (y : Bool) → is_known (found t channel) ≡ y → names_judged t [] (names_in c) ≡ Done 0
+          passed : (y : Bool) → is_known (found t channel) ≡ y → names_judged t [] (names_in c) ≡ Ok 0
               → Way (cond y (accepted_plan (packed (parts_for t channel c factors))) (refused_plan why.UnknownChannel 0))
           passed false k h = unknown f g h k
           passed true k h = accepted (record { fits = f; fine = g; clear = h; known = k })
 
-  pub passed-all : (planned t channel c factors).refused ≡ false → Passes t channel c factors
+  pub passed-all : is_refused (planned t channel c factors) ≡ false → Passes t channel c factors
   passed-all e = by (planned t channel c factors) way e
     where
-      by : (p : Plan) → Way p → p.refused ≡ false → Passes t channel c factors
+      by : (p : Plan) → Way p → is_refused p ≡ false → Passes t channel c factors
       by p (wrong_size f) e = absurd (true≢false e)
       by p (malformed f g) e = absurd (true≢false e)
       by p (at-fault f g r k h) e = absurd (true≢false e)
@@ -102,16 +99,16 @@ parts-packed ps = rw (take_at (map place_of_part ps) _ (length ps) (length-map p
 abbrev pub PlacesFit : List Part → Type 0
 PlacesFit ps = (i : ℕ) → get_or (map place_of_part ps) i 0 < 8
 
-part-few : (p : Found) (f : Float) (ps : List Part) → length (part_of p f ps) ≤ suc (length ps)
+part-few : (p : Option ℕ) (f : Float) (ps : List Part) → length (part_of p f ps) ≤ suc (length ps)
 unfolding part_of
-part-few (At i) f ps = omega arith
-part-few Nowhere f ps = omega arith
+part-few (Some i) f ps = omega arith
+part-few None f ps = omega arith
 
-part-fits : (p : Found) (f : Float) (ps : List Part) → ((i : ℕ) → p ≡ At i → i < 8) → PlacesFit ps → PlacesFit (part_of p f ps)
+part-fits : (p : Option ℕ) (f : Float) (ps : List Part) → ((i : ℕ) → p ≡ Some i → i < 8) → PlacesFit ps → PlacesFit (part_of p f ps)
 unfolding part_of
-part-fits (At k) f ps h l zero = h k refl
-part-fits (At k) f ps h l (suc i) = l i
-part-fits Nowhere f ps h l i = l i
+part-fits (Some k) f ps h l zero = h k refl
+part-fits (Some k) f ps h l (suc i) = l i
+part-fits None f ps h l i = l i
 
 module _ (t : Tables) where
   row-few : (ns : List Name) (fs : List Float) → length (row_parts t ns fs) ≤ length ns
@@ -136,31 +133,31 @@ module _ (t : Tables) where
         go false h i = part-fits (found t n) f (row_parts t ns fs) (λ k e. found-eight t n k whole e) h i
 
   module _ (channel : Name) (c : Crosstalk) (factors : List Float) where
-    few-at : (p : Found) → c.count ≤ 8 → length (parts_at t channel c factors p) ≤ 8
+    few-at : (p : Option ℕ) → c.count ≤ 8 → length (parts_at t channel c factors p) ≤ 8
     unfolding parts_at
-    few-at (At r) h =
+    few-at (Some r) h =
         let most = row-few (names_in c) (row_at r c.count factors) in
         let names = rw (length-take c.count c.names) at most in
         omega (arith, names)
-    few-at Nowhere h = let one_more = part-few (found t channel) one [] in omega arith
+    few-at None h = let one_more = part-few (found t channel) one [] in omega arith
 
-    fits-at : length t.channels ≡ 8 → (p : Found) → PlacesFit (parts_at t channel c factors p)
+    fits-at : length t.channels ≡ 8 → (p : Option ℕ) → PlacesFit (parts_at t channel c factors p)
     unfolding parts_at
-    fits-at whole (At r) i = row_fits whole (names_in c) (row_at r c.count factors) i
-    fits-at whole Nowhere i = part-fits (found t channel) one [] (λ k e. found-eight t channel k whole e) (λ k. omega arith) i
+    fits-at whole (Some r) i = row_fits whole (names_in c) (row_at r c.count factors) i
+    fits-at whole None i = part-fits (found t channel) one [] (λ k e. found-eight t channel k whole e) (λ k. omega arith) i
 
     pub record Takes : Type 0 where
-      pub parts : parts_in (planned t channel c factors).taking ≡ parts_for t channel c factors
+      pub parts : parts_in (taking_of (planned t channel c factors)) ≡ parts_for t channel c factors
       pub few : length (parts_for t channel c factors) ≤ 8
       pub places : length t.channels ≡ 8 → PlacesFit (parts_for t channel c factors)
 
     -- an accepted plan has exactly the lists that take part
-    pub plan-parts : (planned t channel c factors).refused ≡ false → Takes
+    pub plan-parts : is_refused (planned t channel c factors) ≡ false → Takes
     plan-parts e =
         let p = passed-all t channel c factors e in
         let at = row_of channel (names_in c) in
         record {
-          parts = ap (λ (x : Plan). parts_in x.taking) (accepted-is t channel c factors p) ∙ parts-packed (parts_for t channel c factors);
+          parts = ap (λ (x : Plan). parts_in (taking_of x)) (accepted-is t channel c factors p) ∙ parts-packed (parts_for t channel c factors);
           few = few-at at (fitting c.count (length factors) p.fits).few;
           places = λ whole. fits-at whole at;
         }
@@ -172,27 +169,27 @@ pub record UnitMatrix (count : ℕ) (factors : List Float) : Type 0 where
   pub on : (r : ℕ) → r < count → get_or factors (r * count + r) nan ≡ one
   pub off : (r k : ℕ) → r < count → k < count → (k ≡ r → ⊥) → eq (get_or factors (r * count + k) nan) nought ≡ true
 
-above : (k : ℕ) (n : Name) (ns : List Name) (r : ℕ) → row_from k n ns ≡ At r → k ≤ r
+above : (k : ℕ) (n : Name) (ns : List Name) (r : ℕ) → row_from k n ns ≡ Some r → k ≤ r
 unfolding row_from
 above k n [] r e = let z : ◌≡◌ {A = ℕ} 0 1 = cc in absurd (omega arith)
 above k n (m ∷ ns) r e = go (same_name m n) e (above (suc k) n ns r)
   where
-    go : (b : Bool) → cond b (At k) (row_from (suc k) n ns) ≡ At r → (row_from (suc k) n ns ≡ At r → suc k ≤ r) → k ≤ r
+    go : (b : Bool) → cond b (Some k) (row_from (suc k) n ns) ≡ Some r → (row_from (suc k) n ns ≡ Some r → suc k ≤ r) → k ≤ r
     go true f later = let same : k ≡ r = cc in omega arith
     go false f later = let over = later f in omega arith
 
 -- the channel's name stands in its row's place
-row-name : (k : ℕ) (n : Name) (ns : List Name) (r : ℕ) → row_from k n ns ≡ At (k + r) → name_at ns r ≡ n
+row-name : (k : ℕ) (n : Name) (ns : List Name) (r : ℕ) → row_from k n ns ≡ Some (k + r) → name_at ns r ≡ n
 unfolding row_from
 row-name k n [] r e = let z : ◌≡◌ {A = ℕ} 0 1 = cc in absurd (omega arith)
 row-name k n (m ∷ ns) r e = go (same_name m n) refl e r refl (row-name (suc k) n ns)
   where
-    go : (b : Bool) → same_name m n ≡ b → cond b (At k) (row_from (suc k) n ns) ≡ At (k + r) → (j : ℕ) → r ≡ j
-        → ((j : ℕ) → row_from (suc k) n ns ≡ At (suc k + j) → name_at ns j ≡ n) → name_at (m ∷ ns) j ≡ n
+    go : (b : Bool) → same_name m n ≡ b → cond b (Some k) (row_from (suc k) n ns) ≡ Some (k + r) → (j : ℕ) → r ≡ j
+        → ((j : ℕ) → row_from (suc k) n ns ≡ Some (suc k + j) → name_at ns j ≡ n) → name_at (m ∷ ns) j ≡ n
     go true s e zero j later = (same-exactly m n).0 s
     go true s e (suc j) i later = let z : k ≡ k + r = cc in absurd (omega arith)
     go false s e zero i later = let under = above (suc k) n ns (k + r) e in absurd (omega arith)
-    go false s e (suc j) i later = later j (e ∙ ap At (omega arith))
+    go false s e (suc j) i later = later j (e ∙ ap Some (omega arith))
 
 row-zeros : (t : Tables) (ns : List Name) (fs : List Float) → ((k : ℕ) → k < length fs → eq (get_or fs k nan) nought ≡ true) → row_parts t ns fs ≡ []
 unfolding row_parts
@@ -218,10 +215,10 @@ row-alone t (n ∷ ns) (f ∷ fs) (suc r) h l on off =
 
 module _ (t : Tables) (channel : Name) (c : Crosstalk) (factors : List Float) where
   unit-at : cross_fits c.count (length factors) ≡ true → length c.names ≡ 8 → UnitMatrix c.count factors
-      → (p : Found) → row_of channel (names_in c) ≡ p → parts_at t channel c factors p ≡ own_parts t channel
+      → (p : Option ℕ) → row_of channel (names_in c) ≡ p → parts_at t channel c factors p ≡ own_parts t channel
   unfolding parts_at
-  unit-at sized whole unit Nowhere e = refl
-  unit-at sized whole unit (At r) e =
+  unit-at sized whole unit None e = refl
+  unit-at sized whole unit (Some r) e =
       let size = fitting c.count (length factors) sized in
       let under = row_below c channel r e in
       let within = row_within r c.count under in
@@ -233,17 +230,17 @@ module _ (t : Tables) (channel : Name) (c : Crosstalk) (factors : List Float) wh
       let alone =
       row-alone t (names_in c) row r (omega arith) (omega arith) (number r under ∙ unit.on r under)
       (λ k h z. let below : k < c.count = omega arith in ap (λ (x : Float). eq x nought) (number k below) ∙ unit.off r k under below z) in
-      alone ∙ ap (λ (n : Name). part_of (found t n) one []) (row-name 0 channel (names_in c) r (e ∙ ap At (omega arith)))
+      alone ∙ ap (λ (n : Name). part_of (found t n) one []) (row-name 0 channel (names_in c) r (e ∙ ap Some (omega arith)))
 
   -- the unit matrix gives a channel its own list alone, as if it were not named
   pub unit-own : cross_fits c.count (length factors) ≡ true → length c.names ≡ 8 → UnitMatrix c.count factors → parts_for t channel c factors ≡ own_parts t channel
   unit-own sized whole unit = unit-at sized whole unit (row_of channel (names_in c)) refl
 
-  pub not_named : row_of channel (names_in c) ≡ Nowhere → parts_for t channel c factors ≡ own_parts t channel
+  pub not_named : row_of channel (names_in c) ≡ None → parts_for t channel c factors ≡ own_parts t channel
   unfolding parts_at
   not_named e = rw e
 
   -- its own place, and 1.0
-  pub own-list : (i : ℕ) → found t channel ≡ At i → own_parts t channel ≡ part i one ∷ []
+  pub own-list : (i : ℕ) → found t channel ≡ Some i → own_parts t channel ≡ part i one ∷ []
   unfolding part_of
   own-list i e = rw e

@@ -1,4 +1,6 @@
 -- What is judged of names, one name after the other: of ns, whose first is n, by n and the rest. Assumes nothing.
+use Rattle.quant.specs.Refusal.{refuse}
+use Rattle.std.specs.Prelude.{Some, None, Ok}
 use Prim.Native.Nat.{ℕ, ◌+◌, ◌<◌}
 use native.Mathlib.Numerals.{add-one}
 use native.Mathlib.Omega.{arith}
@@ -9,9 +11,7 @@ use lib.ListN.{length, take, drop, get_or}
 use lib.Seq.{take-suc, length-take-le}
 use Rattle.naming.specs.declared.Name.{Name}
 use Rattle.naming.specs.Name.{is_name, same_name, is_in}
-use Rattle.quant.specs.declared.refusal.Answer.TheVariants.{Done, Refused}
 use Rattle.quant.specs.declared.refusal.Refusal.TheVariants.{DoubledName, NoList}
-use Rattle.tables.specs.declared.Found.TheVariants.{At, Nowhere}
 use Rattle.tables.specs.declared.Tables.{Tables}
 use Rattle.tables.specs.Tables.{no_name, found}
 use Rattle.tables.proofs.Finding.{next-left}
@@ -24,7 +24,7 @@ module _ (ns : List Name) (e : ns ≡ []) where
   unfolding all_names
   names-end = rw e
 
-  pub judged-end : (t : Tables) (before : List Name) → names_judged t before ns ≡ Done 0
+  pub judged-end : (t : Tables) (before : List Name) → names_judged t before ns ≡ Ok 0
   unfolding names_judged
   judged-end t before = rw e
 
@@ -32,7 +32,7 @@ module _ (ns : List Name) (e : ns ≡ []) where
   unfolding is_in
   in_end n = rw e
 
-  pub row-end : (k : ℕ) (m : Name) → row_from k m ns ≡ Nowhere
+  pub row-end : (k : ℕ) (m : Name) → row_from k m ns ≡ None
   unfolding row_from
   row-end k m = rw e
 
@@ -55,7 +55,7 @@ module _ (ns rest : List Name) (n : Name) (e : ns ≡ n ∷ rest) where
   unfolding is_in
   in_later m h = rw (e, h)
 
-  pub row_here : (k : ℕ) (m : Name) → same_name n m ≡ true → row_from k m ns ≡ At k
+  pub row_here : (k : ℕ) (m : Name) → same_name n m ≡ true → row_from k m ns ≡ Some k
   unfolding row_from
   row_here k m h = rw (e, h)
 
@@ -68,8 +68,8 @@ module _ (ns rest : List Name) (n : Name) (e : ns ≡ n ∷ rest) where
 module _ (t : Tables) (names : List Name) (count i : ℕ) (within : i < count) (there : i < length names) where
   pub judged-next : let n = get_or names i no_name in
       names_judged t (take i names) (drop i (take count names))
-      ≡ cond (is_in n (take i names)) (Refused DoubledName (i + 1))
-      (cond (is_known (found t n)) (names_judged t (take (i + 1) names) (drop (i + 1) (take count names))) (Refused NoList (i + 1)))
+      ≡ cond (is_in n (take i names)) (refuse DoubledName (i + 1))
+      (cond (is_known (found t n)) (names_judged t (take (i + 1) names) (drop (i + 1) (take count names))) (refuse NoList (i + 1)))
   unfolding names_judged
   judged-next =
       let grown : take (i + 1) names ≡ take i names ++ get_or names i no_name ∷ [] = rw (add-one i) (take-suc names i no_name there) in

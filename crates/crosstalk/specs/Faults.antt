@@ -1,9 +1,8 @@
 -- The words in which it is said which name of a crosstalk is at fault. Definitions only.
-use Rattle.std.specs.Prelude.{ℕ, ◌+◌, ◌<◌, ◌≡◌, List, length, get_or}
+use Rattle.std.specs.Prelude.{ℕ, ◌+◌, ◌<◌, ◌≡◌, List, length, get_or, None}
 use Rattle.naming.specs.declared.Name.{Name}
 use Rattle.quant.specs.declared.refusal.Refusal.{Refusal}
 use Rattle.quant.specs.declared.refusal.Refusal.TheVariants.{DoubledName, NoList}
-use Rattle.tables.specs.declared.Found.TheVariants.{Nowhere}
 use Rattle.tables.specs.declared.Tables.{Tables}
 use Rattle.tables.specs.Tables.{no_name, found}
 
@@ -20,7 +19,7 @@ pub record StoodBefore (ns : List Name) (i : ℕ) : Type 0 where
 -- the name at place i is at fault, and how: it stood before (17); it did not, and no channel has it (18)
 pub data AtFault (t : Tables) (ns : List Name) (i : ℕ) : Refusal → Type 0 where
   doubled : StoodBefore ns i → AtFault t ns i DoubledName
-  no-list : (StoodBefore ns i → ⊥) → found t (name_at ns i) ≡ Nowhere → AtFault t ns i NoList
+  no-list : (StoodBefore ns i → ⊥) → found t (name_at ns i) ≡ None → AtFault t ns i NoList
 
 -- no name before place i is at fault
 abbrev pub NoneBefore : Tables → List Name → ℕ → Type 0

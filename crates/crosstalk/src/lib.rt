@@ -5,11 +5,11 @@
 ghost use Rattle.std.specs.Prelude.{◌≡◌, ◌≤◌};
 ghost use Rattle.crosstalk.specs.Crosstalk.{cross_fits, cross_fine, planned};
 
-use names::{Crosstalk, all_names, is_known, names_judged};
+use merge::taking::Taking;
+use names::{Crosstalk, all_names, names_judged};
 use naming::{Name, is_name};
-use parts::{Plan, accepted, parts_for, refused};
-use quant::judge::both;
-use quant::refusal::{Answer, Refusal};
+use parts::parts_for;
+use quant::refusal::{Refusal, Refused};
 use rows::all_finite;
 use tables::{Tables, find};
 
@@ -17,39 +17,34 @@ pub mod names;
 pub mod parts;
 
 // The first N*N factors are read, row by row; more may be lent.
-pub fn plan(t: Tables, channel: Name, c: Crosstalk, factors: &[f64]) -> Plan
+#[tactic(auto, unfolding(crate::specs::Crosstalk::planned))]
+pub fn plan(t: Tables, channel: Name, c: Crosstalk, factors: &[f64]) -> Result<Taking, Refused>
     ensures { result ≡ planned t channel c factors.now }
 {
     let n = c.count;
     if !fits(n, factors.len()) {
-        return refused(Refusal::WrongSize, 0);
+        return Err(Refusal::WrongSize.at(0));
     }
     if !is_fine(channel, c, &factors[..n * n]) {
-        return refused(Refusal::Malformed, 0);
+        return Err(Refusal::Malformed.at(0));
     }
-    let names = names_judged(t, c);
-    if let Answer::Refused(why, place) = names {
-        return refused(why, place);
+    names_judged(t, c)?;
+    if find(t, channel).is_none() {
+        return Err(Refusal::UnknownChannel.at(0));
     }
-    if !is_known(find(t, channel)) {
-        return refused(Refusal::UnknownChannel, 0);
-    }
-    accepted(parts_for(t, channel, c, factors))
+    Ok(parts_for(t, channel, c, factors))
 }
 
 // At most eight names, and a factor for each two of them.
 fn fits(count: usize, lent: usize) -> bool
     ensures { result ≡ cross_fits count lent }
 {
-    if 8 < count {
-        return false;
-    }
-    count * count <= lent
+    count <= 8 && count * count <= lent
 }
 
 fn is_fine(channel: Name, c: Crosstalk, factors: &[f64]) -> bool
     requires { c.count ≤ 8 }
     ensures { result ≡ cross_fine channel c factors.now }
 {
-    both(both(is_name(channel), all_names(c)), all_finite(factors))
+    is_name(channel) && all_names(c) && all_finite(factors)
 }

@@ -1,10 +1,9 @@
 -- Words and what they are read as, and words that are no number: each as its bytes. Assumes nothing.
+use Rattle.std.specs.Prelude.{Some, None}
 use mathlib.Core.Path.{◌≡◌, refl}
 use mathlib.Core.List.{[], ◌∷◌, map}
 use lib.Ieee.{binary64, of_bits, round}
 use Rattle.hexadecimal.specs.Hex.{digit_value, all_digits, number, room, field, word_at}
-use Rattle.decimal.specs.declared.digits.Digits.TheVariants as digits
-use Rattle.decimal.specs.declared.number.Number.TheVariants.{Double, Bad}
 use Rattle.decimal.specs.Digits.{place_of, digit_of, digits_from, digits_of}
 use Rattle.decimal.specs.Number.{parted, significand_of, few_of, power_of, power_at, scaled_by, size_of, hex_size_of, is_hex, unsigned_of, decimal_of, number_of}
 
@@ -30,26 +29,26 @@ pub are-read : map number_of ((52 ∷ 46 ∷ 53 ∷ 101 ∷ 57 ∷ [])
     ∷ (48 ∷ 120 ∷ 49 ∷ 112 ∷ 45 ∷ 49 ∷ 48 ∷ 56 ∷ 48 ∷ [])
     ∷ (49 ∷ 50 ∷ 51 ∷ 52 ∷ 53 ∷ 54 ∷ 55 ∷ 56 ∷ 57 ∷ 48 ∷ 49 ∷ 50 ∷ 51 ∷ 52 ∷ 53 ∷ 54 ∷ 46 ∷ [])
     ∷ [])
-    ≡ (Double (of_bits binary64 0x41f0c388d0000000))
-    ∷ (Double (of_bits binary64 0xbfd0000000000000))
-    ∷ (Double (of_bits binary64 0x3e212e0be826d695))
-    ∷ (Double (of_bits binary64 0x8000000000000000))
-    ∷ (Double (of_bits binary64 0x3fe0000000000000))
-    ∷ (Double (of_bits binary64 0x3ff0000000000000))
-    ∷ (Double (of_bits binary64 0x44bfc3842bd1f072))
-    ∷ (Double (of_bits binary64 0x1234567890123456))
-    ∷ (Double (of_bits binary64 0x44b52d02c7e14af6))
-    ∷ (Double (of_bits binary64 0x40f86a0000000000))
-    ∷ (Double (of_bits binary64 0x3fc3333333333334))
-    ∷ (Double (of_bits binary64 0x9007199254740993))
-    ∷ (Double (of_bits binary64 0x4340000000000000))
-    ∷ (Double (of_bits binary64 0x7ff0000000000000))
-    ∷ (Double (of_bits binary64 0x8000000000000000))
-    ∷ (Double (of_bits binary64 0x0000000000000001))
-    ∷ (Double (of_bits binary64 0x3fc3333333333334))
-    ∷ (Double (of_bits binary64 0xbff0000000000000))
-    ∷ (Double (of_bits binary64 0x0000000000000000))
-    ∷ (Double (of_bits binary64 0x43118b54f22aeb00))
+    ≡ (Some (of_bits binary64 0x41f0c388d0000000))
+    ∷ (Some (of_bits binary64 0xbfd0000000000000))
+    ∷ (Some (of_bits binary64 0x3e212e0be826d695))
+    ∷ (Some (of_bits binary64 0x8000000000000000))
+    ∷ (Some (of_bits binary64 0x3fe0000000000000))
+    ∷ (Some (of_bits binary64 0x3ff0000000000000))
+    ∷ (Some (of_bits binary64 0x44bfc3842bd1f072))
+    ∷ (Some (of_bits binary64 0x1234567890123456))
+    ∷ (Some (of_bits binary64 0x44b52d02c7e14af6))
+    ∷ (Some (of_bits binary64 0x40f86a0000000000))
+    ∷ (Some (of_bits binary64 0x3fc3333333333334))
+    ∷ (Some (of_bits binary64 0x9007199254740993))
+    ∷ (Some (of_bits binary64 0x4340000000000000))
+    ∷ (Some (of_bits binary64 0x7ff0000000000000))
+    ∷ (Some (of_bits binary64 0x8000000000000000))
+    ∷ (Some (of_bits binary64 0x0000000000000001))
+    ∷ (Some (of_bits binary64 0x3fc3333333333334))
+    ∷ (Some (of_bits binary64 0xbff0000000000000))
+    ∷ (Some (of_bits binary64 0x0000000000000000))
+    ∷ (Some (of_bits binary64 0x43118b54f22aeb00))
     ∷ []
 unfolding number_of decimal_of unsigned_of is_hex size_of hex_size_of significand_of few_of parted place_of digits_from digit_of power_of power_at digits_of scaled_by of_bits round word_at room field all_digits number digit_value
 are-read = refl
@@ -67,11 +66,11 @@ pub are-not : map number_of (([])
     ∷ (101 ∷ 53 ∷ [])
     ∷ (45 ∷ 45 ∷ 49 ∷ [])
     ∷ [])
-    ≡ Bad ∷ Bad ∷ Bad ∷ Bad ∷ Bad ∷ Bad ∷ Bad ∷ Bad ∷ Bad ∷ Bad ∷ Bad ∷ []
+    ≡ None ∷ None ∷ None ∷ None ∷ None ∷ None ∷ None ∷ None ∷ None ∷ None ∷ None ∷ []
 unfolding number_of decimal_of unsigned_of is_hex size_of hex_size_of significand_of few_of parted place_of digits_from digit_of power_of power_at digits_of scaled_by of_bits round word_at room field all_digits number digit_value
 are-not = refl
 
 -- `b` in `ab` stands at 1, and in `a` at the end; a number of no figures is none
-pub are-placed : (place_of 98 (97 ∷ 98 ∷ []) ≡ 1) × (place_of 98 (97 ∷ []) ≡ 1) × (digits_of [] ≡ digits.Bad)
+pub are-placed : (place_of 98 (97 ∷ 98 ∷ []) ≡ 1) × (place_of 98 (97 ∷ []) ≡ 1) × (digits_of [] ≡ None)
 unfolding place_of digits_of
 are-placed = (refl, refl, refl)

@@ -1,5 +1,6 @@
 -- Digits read one by one, and how large the whole number can get. Assumes nothing.
-use Prim.Native.Nat.{ℕ, suc, ◌+◌, ◌-◌, ◌*◌, ◌^◌, ◌≤◌, ◌<◌}
+use Rattle.std.specs.Prelude.{Some, None}
+use Prim.Native.Nat.{ℕ, suc, ◌+◌, ◌*◌, ◌^◌, ◌≤◌, ◌<◌}
 use mathlib.Core.Path.{◌≡◌, refl}
 use mathlib.Core.Bool.{Bool, true, false, cond}
 use mathlib.Core.List.{List, [], ◌∷◌, ◌++◌}
@@ -9,7 +10,6 @@ use borrow.Author.Tests.{lt-ltb, le-ltb, ltb-true}
 use lib.Dec.{ltb}
 use lib.ListN.{length, get_or, drop, drop_of_length-le}
 use lib.Seq.{drop-cons}
-use Rattle.decimal.specs.declared.digits.Digits.TheVariants.{Value, Bad}
 use Rattle.decimal.specs.Digits.{digit_of, digits_from}
 
 module _ (base n : ℕ) (text : List ℕ) (i : ℕ) where
@@ -17,11 +17,11 @@ module _ (base n : ℕ) (text : List ℕ) (i : ℕ) where
   unfolding digits_from
   one_more h l = rw (drop-cons text i 0 h) (simp (lt-ltb _ _ l))
 
-  pub no_digit : i < length text → base ≤ digit_of (get_or text i 0) → digits_from base n (drop i text) ≡ Bad
+  pub no_digit : i < length text → base ≤ digit_of (get_or text i 0) → digits_from base n (drop i text) ≡ None
   unfolding digits_from
   no_digit h l = rw (drop-cons text i 0 h) (simp (le-ltb _ _ l))
 
-  pub no_more : length text ≤ i → digits_from base n (drop i text) ≡ Value n
+  pub no_more : length text ≤ i → digits_from base n (drop i text) ≡ Some n
   unfolding digits_from
   no_more h = rw (drop_of_length-le text h)
 
@@ -44,35 +44,35 @@ room_next base n k d w h r =
     regroup a b c = omega arith
 
 -- ---- digits behind digits
-pub digits-after : (base n m : ℕ) (a b : List ℕ) → digits_from base n a ≡ Value m → digits_from base n (a ++ b) ≡ digits_from base m b
+pub digits-after : (base n m : ℕ) (a b : List ℕ) → digits_from base n a ≡ Some m → digits_from base n (a ++ b) ≡ digits_from base m b
 unfolding digits_from
 digits-after base n m [] b e = let same : n ≡ m = cc in rw same
 digits-after base n m (x ∷ a) b e = by (ltb (digit_of x) base) e (digits-after base (n * base + digit_of x) m a b)
   where
-    by : (t : Bool) → cond t (digits_from base (n * base + digit_of x) a) Bad ≡ Value m
-        → (digits_from base (n * base + digit_of x) a ≡ Value m → digits_from base (n * base + digit_of x) (a ++ b) ≡ digits_from base m b)
-        → cond t (digits_from base (n * base + digit_of x) (a ++ b)) Bad ≡ digits_from base m b
+    by : (t : Bool) → cond t (digits_from base (n * base + digit_of x) a) None ≡ Some m
+        → (digits_from base (n * base + digit_of x) a ≡ Some m → digits_from base (n * base + digit_of x) (a ++ b) ≡ digits_from base m b)
+        → cond t (digits_from base (n * base + digit_of x) (a ++ b)) None ≡ digits_from base m b
     by true e rest = rest e
     by false e rest = cc
 
-pub digits-broken : (base n : ℕ) (a b : List ℕ) → digits_from base n a ≡ Bad → digits_from base n (a ++ b) ≡ Bad
+pub digits-broken : (base n : ℕ) (a b : List ℕ) → digits_from base n a ≡ None → digits_from base n (a ++ b) ≡ None
 unfolding digits_from
 digits-broken base n [] b e = cc
 digits-broken base n (x ∷ a) b e = by (ltb (digit_of x) base) e (digits-broken base (n * base + digit_of x) a b)
   where
-    by : (t : Bool) → cond t (digits_from base (n * base + digit_of x) a) Bad ≡ Bad
-        → (digits_from base (n * base + digit_of x) a ≡ Bad → digits_from base (n * base + digit_of x) (a ++ b) ≡ Bad)
-        → cond t (digits_from base (n * base + digit_of x) (a ++ b)) Bad ≡ Bad
+    by : (t : Bool) → cond t (digits_from base (n * base + digit_of x) a) None ≡ None
+        → (digits_from base (n * base + digit_of x) a ≡ None → digits_from base (n * base + digit_of x) (a ++ b) ≡ None)
+        → cond t (digits_from base (n * base + digit_of x) (a ++ b)) None ≡ None
     by true e rest = rest e
     by false e rest = refl
 
 -- k digits stand for less than base ^ k
-pub digits-most : (base n m : ℕ) (a : List ℕ) → digits_from base n a ≡ Value m → m + 1 ≤ (n + 1) * base ^ length a
+pub digits-most : (base n m : ℕ) (a : List ℕ) → digits_from base n a ≡ Some m → m + 1 ≤ (n + 1) * base ^ length a
 unfolding digits_from
 digits-most base n m [] e = let same : n ≡ m = cc in rw (pow-zero base) (omega arith)
 digits-most base n m (x ∷ a) e = by (ltb (digit_of x) base) refl e (digits-most base (n * base + digit_of x) m a)
   where
-    by : (t : Bool) → ltb (digit_of x) base ≡ t → cond t (digits_from base (n * base + digit_of x) a) Bad ≡ Value m
-        → (digits_from base (n * base + digit_of x) a ≡ Value m → m + 1 ≤ (n * base + digit_of x + 1) * base ^ length a) → m + 1 ≤ (n + 1) * base ^ suc (length a)
+    by : (t : Bool) → ltb (digit_of x) base ≡ t → cond t (digits_from base (n * base + digit_of x) a) None ≡ Some m
+        → (digits_from base (n * base + digit_of x) a ≡ Some m → m + 1 ≤ (n * base + digit_of x + 1) * base ^ length a) → m + 1 ≤ (n + 1) * base ^ suc (length a)
     by true f e below = le_trans (below e) (room_next base n (length a) (digit_of x) ((n + 1) * base ^ suc (length a)) (ltb-true (digit_of x) base f) (le_refl ((n + 1) * base ^ suc (length a))))
     by false f e below = let z : ◌≡◌ {A = ℕ} 0 1 = cc in omega arith

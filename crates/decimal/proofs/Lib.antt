@@ -4,7 +4,6 @@ pub mod Cutting
 pub mod Examples
 pub mod Figures
 pub mod Hexing
-pub mod Letters
 pub mod Marks
 pub mod Moving
 pub mod Places

@@ -1,4 +1,5 @@
 -- Figures of any count with their point moved: all of them figures, what they are worth, and that only the distance of two powers counts. Assumes nothing.
+use Rattle.std.specs.Prelude.{Some, None}
 use Prim.Native.Nat.{ℕ, zero, suc, ◌+◌, ◌-◌, ◌*◌, ◌^◌, ◌≤◌, ◌<◌}
 use mathlib.Core.Path.{◌≡◌, refl, sym, ap, ◌∙◌}
 use mathlib.Core.Bool.{Bool, true, false, ◌&&◌, cond}
@@ -6,34 +7,20 @@ use mathlib.Core.List.{List, [], ◌∷◌, ◌++◌}
 use mathlib.Core.Logic.{inl, inr}
 use native.Mathlib.Nat.{add-zero, mul-one, sub-zero}
 use native.Mathlib.Omega.{arith}
-use borrow.Author.Tests.{le-leb, lt-leb, lt-ltb, le-ltb, ltb-true, leb-true}
+use borrow.Author.Tests.{le-leb, lt-leb, ltb-true, leb-true}
 use lib.Dec.{leb, ltb}
-use lib.ListN.{length, take, drop, get_or, take-append-drop, drop_of_length-le, length-drop}
-use lib.Seq.{drop-cons, take_all}
+use lib.ListN.{length, take, drop, take-append-drop, drop_of_length-le, length-drop}
+use lib.Seq.{take_all}
 use lib.Ieee.{binary64, round}
 use Rattle.exact.proofs.Naturals.{below_or}
 use Rattle.wide_decimal.specs.Figures.{figure_of, worth_from, worth}
 use Rattle.wide_decimal.specs.Placed.{nearest_of}
 use Rattle.wide_decimal.proofs.Worth.{worth-both}
-use Rattle.decimal.specs.declared.digits.Digits.TheVariants as digits
 use Rattle.decimal.specs.Digits.{digit_of, digits_from}
 use Rattle.decimal.specs.Number.{scaled_by}
 use Rattle.decimal.specs.Ways.{figures_in}
 
 -- ---- all figures
-module _ (text : List ℕ) (i : ℕ) where
-  pub figures-go-on : i < length text → digit_of (get_or text i 0) < 10 → figures_in (drop i text) ≡ figures_in (drop (suc i) text)
-  unfolding figures_in
-  figures-go-on h l = rw (drop-cons text i 0 h) (simp (lt-ltb _ _ l))
-
-  pub figures-end : i < length text → 10 ≤ digit_of (get_or text i 0) → figures_in (drop i text) ≡ false
-  unfolding figures_in
-  figures-end h l = rw (drop-cons text i 0 h) (simp (le-ltb _ _ l))
-
-  pub figures-done : length text ≤ i → figures_in (drop i text) ≡ true
-  unfolding figures_in
-  figures-done h = rw (drop_of_length-le text h)
-
 pub figures-both : (a b : List ℕ) → figures_in (a ++ b) ≡ figures_in a && figures_in b
 unfolding figures_in
 figures-both [] b = refl
@@ -59,24 +46,24 @@ same-worth x h = by (leb 48 x && leb x 57) (leb 97 x) (leb x 102) (leb 65 x) (le
     by false false b true false p q r s h = absurd (omega (arith, h))
     by false false b false d p q r s h = absurd (omega (arith, h))
 
-pub figures-value : (n : ℕ) (text : List ℕ) → figures_in text ≡ true → digits_from 10 n text ≡ digits.Value (worth_from n text)
+pub figures-value : (n : ℕ) (text : List ℕ) → figures_in text ≡ true → digits_from 10 n text ≡ Some (worth_from n text)
 unfolding figures_in digits_from worth_from
 figures-value n [] e = refl
 figures-value n (x ∷ text) e = by (ltb (digit_of x) 10) (ltb-true (digit_of x) 10) e (figures-value (n * 10 + digit_of x) text)
   where
     by : (t : Bool) → (t ≡ true → digit_of x < 10) → t && figures_in text ≡ true
-        → (figures_in text ≡ true → digits_from 10 (n * 10 + digit_of x) text ≡ digits.Value (worth_from (n * 10 + digit_of x) text))
-        → cond t (digits_from 10 (n * 10 + digit_of x) text) digits.Bad ≡ digits.Value (worth_from (n * 10 + figure_of x) text)
-    by true h e rest = rest e ∙ ap (λ (d : ℕ). digits.Value (worth_from (n * 10 + d) text)) (same-worth x (h refl))
+        → (figures_in text ≡ true → digits_from 10 (n * 10 + digit_of x) text ≡ Some (worth_from (n * 10 + digit_of x) text))
+        → cond t (digits_from 10 (n * 10 + digit_of x) text) None ≡ Some (worth_from (n * 10 + figure_of x) text)
+    by true h e rest = rest e ∙ ap (λ (d : ℕ). Some (worth_from (n * 10 + d) text)) (same-worth x (h refl))
     by false h e rest = cc
 
-pub figures-broken : (n : ℕ) (text : List ℕ) → figures_in text ≡ false → digits_from 10 n text ≡ digits.Bad
+pub figures-broken : (n : ℕ) (text : List ℕ) → figures_in text ≡ false → digits_from 10 n text ≡ None
 unfolding figures_in digits_from
 figures-broken n [] e = cc
 figures-broken n (x ∷ text) e = by (ltb (digit_of x) 10) e (figures-broken (n * 10 + digit_of x) text)
   where
-    by : (t : Bool) → t && figures_in text ≡ false → (figures_in text ≡ false → digits_from 10 (n * 10 + digit_of x) text ≡ digits.Bad)
-        → cond t (digits_from 10 (n * 10 + digit_of x) text) digits.Bad ≡ digits.Bad
+    by : (t : Bool) → t && figures_in text ≡ false → (figures_in text ≡ false → digits_from 10 (n * 10 + digit_of x) text ≡ None)
+        → cond t (digits_from 10 (n * 10 + digit_of x) text) None ≡ None
     by true e rest = rest e
     by false e rest = refl
 

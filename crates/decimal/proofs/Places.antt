@@ -1,29 +1,15 @@
 -- Where a byte first stands in a text: laws of the search, and of the two parts. Assumes nothing.
-use Prim.Native.Nat.{ℕ, suc, ◌+◌, ◌-◌, ◌≤◌, ◌<◌, min}
+use Prim.Native.Nat.{ℕ, suc, ◌+◌, ◌-◌, ◌≤◌, min}
 use mathlib.Core.Path.{◌≡◌, sym, ◌∙◌}
 use mathlib.Core.Bool.{Bool, true, false, cond}
 use mathlib.Core.List.{List, [], ◌∷◌}
 use mathlib.Core.Logic.{inl, inr}
 use native.Mathlib.Nat.{eq-or-lt_of_le}
 use native.Mathlib.Omega.{arith}
-use borrow.Author.Tests.{eq-eqb, ne_eqb}
 use lib.Dec.{eqb}
-use lib.ListN.{length, get_or, take, drop, drop_of_length-le, length-drop}
-use lib.Seq.{drop-cons, take_all}
+use lib.ListN.{length, take, drop, drop_of_length-le, length-drop}
+use lib.Seq.{take_all}
 use Rattle.decimal.specs.Digits.{place_of}
-
-module _ (b : ℕ) (text : List ℕ) (i : ℕ) where
-  pub stands_here : i < length text → get_or text i 0 ≡ b → place_of b (drop i text) ≡ 0
-  unfolding place_of
-  stands_here h e = rw (drop-cons text i 0 h) (simp (eq-eqb _ _ e))
-
-  pub goes_on : i < length text → (get_or text i 0 ≡ b → ⊥) → place_of b (drop i text) ≡ suc (place_of b (drop (suc i) text))
-  unfolding place_of
-  goes_on h n = rw (drop-cons text i 0 h) (simp (ne_eqb _ _ n))
-
-  pub nowhere : length text ≤ i → place_of b (drop i text) ≡ 0
-  unfolding place_of
-  nowhere h = rw (drop_of_length-le text h)
 
 pub place-within : (b : ℕ) (text : List ℕ) → place_of b text ≤ length text
 unfolding place_of

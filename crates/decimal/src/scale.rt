@@ -7,51 +7,48 @@ ghost use Rattle.decimal.specs.Number.{moved, significand_of, few_of, scaled_by}
 ghost use Rattle.decimal.specs.Ways.{quick_by, figures_in, pointed_in};
 
 use super::digits::{behind, digit, place};
-use super::number::Number;
-use super::significand::{Significand, few};
+use super::significand::few;
 
 // Of up to 15 digits and a power up to 10^22 both are doubles, and one product or one quotient is all. Any other decimal is worked out in full.
-pub(crate) fn decimal_scaled(minus: bool, text: &[u8], up: u64, down: u64) -> Number
+pub(crate) fn decimal_scaled(minus: bool, text: &[u8], up: u64, down: u64) -> Option<f64>
     requires { (up < 10 ^ 15) × (down < 10 ^ 15) }
     ensures { result ≡ moved minus 10 1 (significand_of 10 text.now) up down }
 {
-    let short = few(10, 15, text);
-    let Significand::Whole(n, fraction) = short else {
+    let Some(short) = few(10, 15, text) else {
         return wide(minus, text, up, down);
     };
-    let once = quick(minus, n, up, down + fraction);
-    let Number::Double(x) = once else {
+    let Some(x) = quick(minus, short.digits, up, down + short.fraction) else {
         return wide(minus, text, up, down);
     };
-    Number::Double(x)
+    Some(x)
 }
 
-fn quick(minus: bool, n: u64, up: u64, down: u64) -> Number
+fn quick(minus: bool, n: u64, up: u64, down: u64) -> Option<f64>
     requires { n < 10 ^ 15 }
     ensures { result ≡ quick_by minus n up down }
 {
     if down <= up {
         if 22 < up - down {
-            return Number::Bad;
+            return None;
         }
-        return Number::Double(signed(minus, n) * ten_to(up - down));
+        return Some(signed(minus, n) * ten_to(up - down));
     }
     if 22 < down - up {
-        return Number::Bad;
+        return None;
     }
-    Number::Double(signed(minus, n) / ten_to(down - up))
+    Some(signed(minus, n) / ten_to(down - up))
 }
 
 // The point moves by the power, within the digits or past them.
-fn wide(minus: bool, text: &[u8], up: u64, down: u64) -> Number
+fn wide(minus: bool, text: &[u8], up: u64, down: u64) -> Option<f64>
     requires { (up < 10 ^ 15) × (down < 10 ^ 15) }
     ensures { result ≡ moved minus 10 1 (significand_of 10 text.now) up down }
 {
     let point = place(text, b'.');
     if !pointed(text, point) {
-        return Number::Bad;
+        return None;
     }
-    Number::Double(placed(minus, text, point, up as usize, down as usize))
+    Some(placed(minus, text, point, up as usize, down as usize))
 }
 
 // Whether a text is of figures but for a point, and has one.
@@ -63,10 +60,7 @@ fn pointed(text: &[u8], point: usize) -> bool
     if point + (text.len() - next) < 1 {
         return false;
     }
-    if !all_figures(&text[..point]) {
-        return false;
-    }
-    all_figures(&text[next..])
+    all_figures(&text[..point]) && all_figures(&text[next..])
 }
 
 fn placed(minus: bool, text: &[u8], point: usize, up: usize, down: usize) -> f64
@@ -83,46 +77,25 @@ fn placed(minus: bool, text: &[u8], point: usize, up: usize, down: usize) -> f64
 fn all_figures(text: &[u8]) -> bool
     ensures { result ≡ figures_in text.now }
 {
-    let mut i: usize = 0;
-    while i < text.len() {
-        if 10 <= digit(text[i]) {
-            return false;
-        }
-        i += 1;
-    }
-    true
+    text.iter().all(|b| digit(*b) < 10)
 }
 
 // 16 hex digits are one word. A power beyond 2^4000 is infinite, one below 2^-2208 is nothing.
-pub(crate) fn hex_scaled(minus: bool, text: &[u8], up: u64, down: u64) -> Number
+pub(crate) fn hex_scaled(minus: bool, text: &[u8], up: u64, down: u64) -> Option<f64>
     requires { (up < 10 ^ 15) × (down < 10 ^ 15) }
     ensures { result ≡ moved minus 2 4 (few_of 16 16 text.now) up down }
 {
-    let whole = few(16, 16, text);
-    match whole {
-        Significand::Whole(n, fraction) => Number::Double(binary(
-            minus,
-            n,
-            up,
-            down + 4 * fraction,
-        )),
-        Significand::Bad => Number::Bad,
-    }
+    let whole = few(16, 16, text)?;
+    Some(binary(minus, whole.digits, up, down + 4 * whole.fraction))
 }
 
 fn binary(minus: bool, n: u64, up: u64, down: u64) -> f64
     ensures { result ≡ scaled_by minus 2 n up down }
 {
     if down <= up {
-        return fma::pack::nearest_double(minus, 0, n, (2208 + lesser(up - down, 4000)) as u16);
+        return fma::pack::nearest_double(minus, 0, n, (2208 + (up - down).min(4000)) as u16);
     }
-    fma::pack::nearest_double(minus, 0, n, (2208 - lesser(down - up, 2208)) as u16)
-}
-
-fn lesser(a: u64, b: u64) -> u64
-    ensures { result ≡ min a b }
-{
-    if a < b { a } else { b }
+    fma::pack::nearest_double(minus, 0, n, (2208 - (down - up).min(2208)) as u16)
 }
 
 // The double that n is.
@@ -131,10 +104,7 @@ fn signed(minus: bool, n: u64) -> f64
     ensures { HasValue result minus n 1 }
 {
     let x = n as f64;
-    if minus {
-        return -x;
-    }
-    x
+    if minus { -x } else { x }
 }
 
 // The double that 10 ^ k is.
@@ -143,10 +113,8 @@ fn ten_to(k: u64) -> f64
     ensures { HasValue result false (10 ^ k) 1 }
 {
     let mut p = 1.0;
-    let mut i: u64 = 0;
-    while i < k {
-        p = p * 10.0;
-        i += 1;
+    for _ in 0..k {
+        p *= 10.0;
     }
     p
 }

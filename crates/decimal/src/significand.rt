@@ -2,17 +2,17 @@
 ghost use Rattle.std.specs.Prelude.{◌≡◌, ◌^◌, ◌≤◌};
 ghost use Rattle.decimal.specs.Number.{few_of};
 
-use super::digits::{Digits, behind, follow, place};
+use super::digits::{behind, follow, place};
 
 // As a whole number, and how many of them stand behind the point.
-#[derive(Clone, Copy)]
-pub enum Significand {
-    Whole(u64, u64),
-    Bad,
+#[derive(Clone, Copy, Debug, PartialEq, Eq)]
+pub struct Significand {
+    pub digits: u64,
+    pub fraction: u64,
 }
 
 // 1 to so many of them.
-pub(crate) fn few(base: u64, most: usize, text: &[u8]) -> Significand
+pub(crate) fn few(base: u64, most: usize, text: &[u8]) -> Option<Significand>
     requires { (1 ≤ base) × (base ^ most ≤ 2 ^ 64) }
     ensures { result ≡ few_of base most text.now }
 {
@@ -20,18 +20,15 @@ pub(crate) fn few(base: u64, most: usize, text: &[u8]) -> Significand
     let next = behind(point, text.len());
     let count = point + (text.len() - next);
     if count < 1 {
-        return Significand::Bad;
+        return None;
     }
     if most < count {
-        return Significand::Bad;
+        return None;
     }
-    let whole = follow(base, 0, &text[..point]);
-    let Digits::Value(n) = whole else {
-        return Significand::Bad;
-    };
-    let all = follow(base, n, &text[next..]);
-    let Digits::Value(m) = all else {
-        return Significand::Bad;
-    };
-    Significand::Whole(m, (text.len() - next) as u64)
+    let whole = follow(base, 0, &text[..point])?;
+    let digits = follow(base, whole, &text[next..])?;
+    Some(Significand {
+        digits,
+        fraction: (text.len() - next) as u64,
+    })
 }

@@ -1,34 +1,30 @@
 -- Demand 1 of the public calls that can refuse: every input has one answer, and what is refused is refused by document 01's numbers and leaves what
 -- was lent. Call by call. Assumes nothing.
+use Rattle.quant.specs.Refusal.{Answer, refuse}
+use Rattle.tables.specs.declared.Untold.{Untold}
+use Rattle.executor.specs.declared.osc.OscState.{OscState}
+use Rattle.quant.specs.declared.aligned.Misplaced.{Misplaced}
+use Rattle.quant.specs.declared.aligned.Start.{Start}
+use Rattle.std.specs.Prelude.{Option, Some, None, Result, Err, Ok, Float}
+use Rattle.tables.specs.declared.Untold.TheVariants as told
+use Rattle.quant.specs.declared.aligned.Misplaced.TheVariants as placed
+use Rattle.quant.specs.declared.complex.Complex.{Complex}
+use Rattle.pulse.specs.declared.weight.Weight.{Weight}
+use Rattle.naming.specs.declared.Name.{Name}
+use Rattle.quant.specs.declared.settings.Settings.{Settings}
 use Prim.Native.Nat.{ℕ}
 use mathlib.Core.Path.{◌≡◌, refl, sym, ap, subst, ◌∙◌}
 use mathlib.Core.Bool.{Bool, true, false, cond}
 use mathlib.Core.List.{List, [], ◌∷◌}
 use lib.ListN.{length}
 use Rattle.exact.specs.Among.{among}
-use Rattle.naming.specs.declared.Naming.{Naming}
-use Rattle.naming.specs.declared.Naming.TheVariants as naming
-use Rattle.quant.specs.declared.aligned.Aligned.{Aligned}
-use Rattle.quant.specs.declared.aligned.Aligned.TheVariants as aligned
-use Rattle.quant.specs.declared.aligned.Placed.{Placed}
-use Rattle.quant.specs.declared.aligned.Placed.TheVariants as placed
-use Rattle.quant.specs.declared.phaser.Phased.{Phased}
-use Rattle.quant.specs.declared.phaser.Phased.TheVariants as phased
-use Rattle.quant.specs.declared.refusal.Answer.{Answer}
-use Rattle.quant.specs.declared.refusal.Answer.TheVariants.{Done, Refused}
 use Rattle.quant.specs.declared.refusal.Refusal.TheVariants.{NotFinite}
-use Rattle.quant.specs.declared.settings.Fitting.{Fitting}
-use Rattle.quant.specs.declared.settings.Fitting.TheVariants as fitting
 use Rattle.quant.specs.Aligned.{aligned_answer, placed_answer}
 use Rattle.quant.specs.Phaser.{phased_answer}
 use Rattle.quant.specs.Settings.{fitting_answer}
 use Rattle.rows.specs.Rows.{answer_of}
 use Rattle.executor.specs.Osc.{moved_answer, swapped_answer}
-use Rattle.pulse.specs.declared.weight.Weighed.{Weighed}
-use Rattle.pulse.specs.declared.weight.Weighed.TheVariants as weighed
 use Rattle.pulse.specs.Weight.{weighed_answer}
-use Rattle.tables.specs.declared.Told.{Told}
-use Rattle.tables.specs.declared.Told.TheVariants as told
 use Rattle.tables.specs.Tables.{told_answer, naming_answer}
 use Rattle.shape.specs.Envelope.{least, limit_of, enveloped_of, scratch_after, enveloped_answer}
 use Rattle.mixdown.specs.Sampled.{Out}
@@ -57,53 +53,53 @@ module _ {A B : Type 0} (f : A → B) (accepted : B → Bool) (answer : B → An
 
 -- the same of what a promise says is equal
 moved : {K L : Type 0} (numbers : List ℕ) (a b : Answer) → b ≡ a → (K → L) → Said numbers K a → Said numbers L b
-moved {L = L} numbers (Done n) b e f h = subst (Said numbers L) (sym e) tt
-moved {L = L} numbers (Refused r k) b e f h = subst (Said numbers L) (sym e) (h.0, f h.1)
+moved {L = L} numbers (Ok n) b e f h = subst (Said numbers L) (sym e) tt
+moved {L = L} numbers (Err r) b e f h = subst (Said numbers L) (sym e) (h.0, f h.1)
 
 -- ---- what each case says
 
-aligned-said : (y : Aligned) → Said (8 ∷ []) Unit (aligned_answer y)
+aligned-said : (y : Option Float) → Said (8 ∷ []) Unit (aligned_answer y)
 unfolding among
-aligned-said (aligned.Index a) = tt
-aligned-said aligned.NotFinite = (refl, tt)
+aligned-said (Some a) = tt
+aligned-said None = (refl, tt)
 
-placed-said : (y : Placed) → Said (8 ∷ 9 ∷ 10 ∷ []) Unit (placed_answer y)
+placed-said : (y : Result Start Misplaced) → Said (8 ∷ 9 ∷ 10 ∷ []) Unit (placed_answer y)
 unfolding among
-placed-said (placed.Start start offset) = tt
-placed-said placed.NotFinite = (refl, tt)
-placed-said placed.Before = (refl, tt)
-placed-said placed.Beyond = (refl, tt)
+placed-said (Ok p) = tt
+placed-said (Err placed.NotFinite) = (refl, tt)
+placed-said (Err placed.Before) = (refl, tt)
+placed-said (Err placed.Beyond) = (refl, tt)
 
-phased-said : (y : Phased) → Said (8 ∷ []) Unit (phased_answer y)
+phased-said : (y : Option Complex) → Said (8 ∷ []) Unit (phased_answer y)
 unfolding among
-phased-said (phased.Pair z) = tt
-phased-said phased.NotFinite = (refl, tt)
+phased-said (Some z) = tt
+phased-said None = (refl, tt)
 
-fitting-said : (y : Fitting) → Said (1 ∷ []) Unit (fitting_answer y)
+fitting-said : (y : Option Settings) → Said (1 ∷ []) Unit (fitting_answer y)
 unfolding among
-fitting-said (fitting.Fit s) = tt
-fitting-said fitting.Unfit = (refl, tt)
+fitting-said (Some s) = tt
+fitting-said None = (refl, tt)
 
-flag-said : (b : Bool) → Said (8 ∷ []) Unit (cond b (Refused NotFinite 0) (Done 0))
+flag-said : (b : Bool) → Said (8 ∷ []) Unit (cond b (refuse NotFinite 0) (Ok 0))
 unfolding among
 flag-said true = (refl, tt)
 flag-said false = tt
 
-weighed-said : (y : Weighed) → Said (8 ∷ []) Unit (weighed_answer y)
+weighed-said : (y : Option Weight) → Said (8 ∷ []) Unit (weighed_answer y)
 unfolding among
-weighed-said (weighed.Fine w) = tt
-weighed-said weighed.Overflow = (refl, tt)
+weighed-said (Some w) = tt
+weighed-said None = (refl, tt)
 
-told-said : (y : Told) → Said (2 ∷ 7 ∷ []) Unit (told_answer y)
+told-said : (y : Result OscState Untold) → Said (2 ∷ 7 ∷ []) Unit (told_answer y)
 unfolding among
-told-said (told.Of o) = tt
-told-said told.Malformed = (refl, tt)
-told-said told.Unknown = (refl, tt)
+told-said (Ok o) = tt
+told-said (Err told.Malformed) = (refl, tt)
+told-said (Err told.Unknown) = (refl, tt)
 
-naming-said : (y : Naming) → Said (2 ∷ []) Unit (naming_answer y)
+naming-said : (y : Option Name) → Said (2 ∷ []) Unit (naming_answer y)
 unfolding among
-naming-said (naming.Named n) = tt
-naming-said naming.Bad = (refl, tt)
+naming-said (Some n) = tt
+naming-said None = (refl, tt)
 
 steps-said : (fits fine : Bool) → Said (13 ∷ 2 ∷ []) Unit (answer_of fits fine)
 unfolding among

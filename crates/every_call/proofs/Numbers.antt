@@ -1,4 +1,5 @@
 -- Which numbers the definitions of the calls can refuse with: by their cases and tests. Assumes nothing.
+use Rattle.std.specs.Prelude.{Result, Ok, Err}
 use Prim.Native.Nat.{ℕ}
 use mathlib.Core.Path.{◌≡◌, refl, sym, subst, ◌∙◌}
 use mathlib.Core.Bool.{Bool, true, false, ◌||◌, cond, true≢false}
@@ -10,34 +11,26 @@ use lib.ListN.{length, take}
 use Rattle.exact.specs.Among.{among}
 use Rattle.exact.specs.Doubles.{nought}
 use Rattle.naming.specs.declared.Name.{Name}
-use Rattle.quant.specs.declared.refusal.Answer.{Answer}
-use Rattle.quant.specs.declared.refusal.Answer.TheVariants.{Done, Refused}
 use Rattle.quant.specs.declared.refusal.Refusal.{Refusal}
 use Rattle.quant.specs.declared.refusal.Refusal.TheVariants as why
 use Rattle.quant.specs.declared.settings.Settings.{Settings}
-use Rattle.quant.specs.Refusal.{number_of}
+use Rattle.quant.specs.Refusal.{number_of, Answer, refuse}
 use Rattle.pulse.specs.declared.bin.Bin.{Bin}
 use Rattle.pulse.specs.declared.envelope.Shape.{Shape}
 use Rattle.pulse.specs.declared.list.Pulse.{Pulse}
 use Rattle.tables.specs.declared.Tables.{Tables}
 use Rattle.merge.specs.Taking.{parts_in}
 use Rattle.crosstalk.specs.declared.names.Crosstalk.{Crosstalk}
-use Rattle.crosstalk.specs.declared.parts.Plan.{Plan}
-use Rattle.crosstalk.specs.Crosstalk.{names_in, planned}
+use Rattle.crosstalk.specs.Crosstalk.{Plan, names_in, planned, plan_answer}
 use Rattle.crosstalk.specs.Faults.{AtFault, doubled, no-list}
 use Rattle.crosstalk.proofs.Laws.{Way, wrong_size, malformed, at-fault, unknown, accepted, way}
-use Rattle.shape.specs.declared.envelope.Enveloped.{Enveloped}
-use Rattle.shape.specs.declared.envelope.Enveloped.TheVariants as enveloped
 use Rattle.shape.specs.declared.parts.Parts.{Parts}
-use Rattle.shape.specs.declared.parts.Parted.TheVariants as parted
 use Rattle.shape.specs.Parts.{index_at, t1, t3, unbroken, broken, in_order, parted_of, parted_answer}
 use Rattle.shape.specs.Envelope.{enveloped_of, scratch_after, enveloped_answer}
 use Rattle.shape.proofs.Envelopes.{refused-by, refused-stays}
 use Rattle.placing.specs.declared.Judged.{Judged}
 use Rattle.placing.specs.declared.Judged.TheVariants as judgement
 use Rattle.placing.specs.Judged.{judged, judged_answer}
-use Rattle.hexadecimal.specs.Hex.{number}
-use Rattle.naming.specs.Name as name
 use Rattle.mixdown.specs.Bins.{all_rows, firsts_after}
 use Rattle.mixdown.specs.Starts.{merged_in}
 use Rattle.mixdown.specs.Sampled.{Rowed, out, ran_bins, mix_fits, mixed_down}
@@ -74,7 +67,7 @@ parted-said w p o rate dt room =
   where
     go : (u v : Parts) (a b c d : Bool)
         → Said (11 ∷ 12 ∷ []) Unit
-        (parted_answer (cond a (parted.Refused why.ShapeTooShort) (cond b (parted.Refused why.EndPastRow) (cond c (parted.Within u) (cond d (parted.Within v) (parted.Refused why.EndPastRow))))))
+        (parted_answer (cond a (Err why.ShapeTooShort) (cond b (Err why.EndPastRow) (cond c (Ok u) (cond d (Ok v) (Err why.EndPastRow))))))
     go u v true b c d = (refl, tt)
     go u v false true c d = (refl, tt)
     go u v false false true d = tt
@@ -82,7 +75,7 @@ parted-said w p o rate dt room =
     go u v false false false false = (refl, tt)
 
 module _ (shape : Shape) (numbers : List Float) (w p o rate dt : Float) (room : ℕ) where
-  abbrev points : Enveloped
+  abbrev points : Result ℕ Refusal
   points = enveloped_of shape numbers (parted_of w p o rate dt room)
 
   number-of : (r : Refusal) → (r ≡ why.ShapeTooShort) ⊎ ((r ≡ why.EndPastRow) ⊎ (r ≡ why.NotFinite)) → among (11 ∷ 12 ∷ 8 ∷ []) (number_of r) ≡ true
@@ -95,28 +88,28 @@ module _ (shape : Shape) (numbers : List Float) (w p o rate dt : Float) (room : 
   pub points-said : (old : List Float) → Said (11 ∷ 12 ∷ 8 ∷ []) (scratch_after shape numbers (parted_of w p o rate dt room) old ≡ old) (enveloped_answer points)
   points-said old = by points refl
     where
-      by : (e : Enveloped) → points ≡ e → Said (11 ∷ 12 ∷ 8 ∷ []) (scratch_after shape numbers (parted_of w p o rate dt room) old ≡ old) (enveloped_answer e)
-      by (enveloped.Points n) f = tt
-      by (enveloped.Refused r) f = (number-of r (refused-by shape numbers w p o rate dt room r f), refused-stays shape numbers (parted_of w p o rate dt room) old r f)
+      by : (e : Result ℕ Refusal) → points ≡ e → Said (11 ∷ 12 ∷ 8 ∷ []) (scratch_after shape numbers (parted_of w p o rate dt room) old ≡ old) (enveloped_answer e)
+      by (Ok n) f = tt
+      by (Err r) f = (number-of r (refused-by shape numbers w p o rate dt room r f), refused-stays shape numbers (parted_of w p o rate dt room) old r f)
 
   pub measured-said : Said (11 ∷ 12 ∷ 8 ∷ []) Unit (enveloped_answer points)
   measured-said = by points (points-said [])
     where
-      by : (e : Enveloped) → Said (11 ∷ 12 ∷ 8 ∷ []) (scratch_after shape numbers (parted_of w p o rate dt room) [] ≡ []) (enveloped_answer e) → Said (11 ∷ 12 ∷ 8 ∷ []) Unit (enveloped_answer e)
-      by (enveloped.Points n) h = tt
-      by (enveloped.Refused r) h = (h.0, tt)
+      by : (e : Result ℕ Refusal) → Said (11 ∷ 12 ∷ 8 ∷ []) (scratch_after shape numbers (parted_of w p o rate dt room) [] ≡ []) (enveloped_answer e) → Said (11 ∷ 12 ∷ 8 ∷ []) Unit (enveloped_answer e)
+      by (Ok n) h = tt
+      by (Err r) h = (h.0, tt)
 
 pub judged-said : (s : Settings) (b : Bin) (numbers : List Float) (p : Pulse) (len : ℕ) → Said (8 ∷ 9 ∷ 10 ∷ 11 ∷ 12 ∷ []) Unit (judged_answer (judged s b numbers p len))
 judged-said s b numbers p len = by (judged s b numbers p len) refl
   where
-    by : (j : Judged) → judged s b numbers p len ≡ j → Said (8 ∷ 9 ∷ 10 ∷ 11 ∷ 12 ∷ []) Unit (judged_answer j)
-    by (judgement.Plateau f) e = tt
-    by (judgement.Shaped f) e = tt
-    by (judgement.Refused r) e = (judged-number r s b numbers p len e, tt)
+    by : (j : Result Judged Refusal) → judged s b numbers p len ≡ j → Said (8 ∷ 9 ∷ 10 ∷ 11 ∷ 12 ∷ []) Unit (judged_answer j)
+    by (Ok (judgement.Plateau f)) e = tt
+    by (Ok (judgement.Shaped f)) e = tt
+    by (Err r) e = (judged-number r s b numbers p len e, tt)
 
 -- ---- the plan of a sampling
 
-pub planned-said : (t : Tables) (channel : Name) (c : Crosstalk) (factors : List Float) → Said (13 ∷ 2 ∷ 17 ∷ 18 ∷ 7 ∷ []) Unit (planned t channel c factors).answer
+pub planned-said : (t : Tables) (channel : Name) (c : Crosstalk) (factors : List Float) → Said (13 ∷ 2 ∷ 17 ∷ 18 ∷ 7 ∷ []) Unit (plan_answer (planned t channel c factors))
 unfolding among
 planned-said t channel c factors = by (planned t channel c factors) (way t channel c factors)
   where
@@ -124,7 +117,7 @@ planned-said t channel c factors = by (planned t channel c factors) (way t chann
     named q i (doubled _) = refl
     named q i (no-list _ _) = refl
 
-    by : (p : Plan) → Way t channel c factors p → Said (13 ∷ 2 ∷ 17 ∷ 18 ∷ 7 ∷ []) Unit p.answer
+    by : (p : Plan) → Way t channel c factors p → Said (13 ∷ 2 ∷ 17 ∷ 18 ∷ 7 ∷ []) Unit (plan_answer p)
     by p (wrong_size _) = (refl, tt)
     by p (malformed _ _) = (refl, tt)
     by p (at-fault _ _ q k first) = (named q first.place first.fault, tt)
@@ -145,11 +138,11 @@ mixed-said s t taking ends bins work marks rows st = go (mix_fits taking ends (l
     firsts = firsts_after [] (all_rows t bins (parts_in taking))
 
     of : (a : Answer) → (ran_bins s rows merged firsts 0 st).answer ≡ a → Said (13 ∷ pulse_numbers) Unit a
-    of (Done n) e = tt
-    of (Refused r n) e =
-        (in_front 13 (number_of r) pulse_numbers (fewer s (length st.i) (all_dues merged firsts) 0 r n (sym (bins-verdict s rows merged firsts 0 st) ∙ e)).number, tt)
+    of (Ok n) e = tt
+    of (Err x) e =
+        (in_front 13 (number_of x.why) pulse_numbers (fewer s (length st.i) (all_dues merged firsts) 0 x.why x.place (sym (bins-verdict s rows merged firsts 0 st) ∙ e)).number, tt)
 
-    go : (b : Bool) → Said (13 ∷ pulse_numbers) Unit (cond b (ran_bins s rows merged firsts 0 st) (out (Refused why.WrongSize 0) st)).answer
+    go : (b : Bool) → Said (13 ∷ pulse_numbers) Unit (cond b (ran_bins s rows merged firsts 0 st) (out (refuse why.WrongSize 0) st)).answer
     go true = of (ran_bins s rows merged firsts 0 st).answer refl
     go false = (refl, tt)
 
@@ -162,16 +155,16 @@ owned-said s commands count = go (leb count 1024)
     ran = executed s.tables s.splines (take count commands) s.bins s.pulses
 
     of : (a : Answer) (u : State) → CommandsSaid s (take count commands) a u → Said (13 ∷ command_numbers) Unit a
-    of (Done n) u h = tt
-    of (Refused r n) u (before-any size came) = (by_thirteen came.number, tt)
+    of (Ok n) u h = tt
+    of (Err x) u (before-any size came) = (by_thirteen came.number, tt)
       where
-        by_thirteen : among (13 ∷ []) (number_of r) ≡ true → among (13 ∷ command_numbers) (number_of r) ≡ true
-        by_thirteen e = wider (eqb (number_of r) 13) e
+        by_thirteen : among (13 ∷ []) (number_of x.why) ≡ true → among (13 ∷ command_numbers) (number_of x.why) ≡ true
+        by_thirteen e = wider (eqb (number_of x.why) 13) e
           where
-            wider : (b : Bool) → (b || false) ≡ true → (b || among command_numbers (number_of r)) ≡ true
+            wider : (b : Bool) → (b || false) ≡ true → (b || among command_numbers (number_of x.why)) ≡ true
             wider true f = refl
             wider false f = absurd (true≢false (sym f))
-    of (Refused r n) u (at_one remain) = (in_front 13 (number_of r) command_numbers remain.number, tt)
+    of (Err e) u (at_one remain) = (in_front 13 (number_of e.why) command_numbers remain.number, tt)
 
     go : (b : Bool) → Said (13 ∷ command_numbers) Unit (cond b ran (ran_to (refused_at s.tables why.WrongSize 0) s.bins s.pulses)).result.answer
     go true = of ran.result.answer (with_stored s ran.result.tables ran.bins ran.pulses) (commands-said s (take count commands))

@@ -1,4 +1,5 @@
 -- Which numbers a sheet is refused with: read, 13, 15, 2, 17 and 19, line by line; printed, 13, 2 and 17. Assumes nothing.
+use Rattle.std.specs.Prelude.{Option, Some, None, Ok, Err}
 use Prim.Native.Nat.{ℕ, suc, ◌+◌, ◌*◌}
 use mathlib.Core.Path.{◌≡◌, refl}
 use mathlib.Core.Bool.{Bool, true, false, ◌&&◌, not, cond}
@@ -11,14 +12,9 @@ use Rattle.exact.specs.Among.{among}
 use Rattle.hexadecimal.specs.Hex.{all_digits, number}
 use Rattle.naming.specs.Name.{is_name, naming_of, is_in}
 use Rattle.naming.specs.declared.Name.{Name}
-use Rattle.naming.specs.declared.Naming.{Naming}
-use Rattle.naming.specs.declared.Naming.TheVariants.{Named, Bad}
-use Rattle.quant.specs.declared.refusal.Answer.{Answer}
-use Rattle.quant.specs.declared.refusal.Answer.TheVariants.{Done, Refused}
 use Rattle.quant.specs.declared.refusal.Refusal.{Refusal}
 use Rattle.quant.specs.declared.refusal.Refusal.TheVariants as why
-use Rattle.quant.specs.Refusal.{number_of}
-use Rattle.sheet.specs.declared.print.Printed.{Printed}
+use Rattle.quant.specs.Refusal.{number_of, Answer, refuse}
 use Rattle.sheet.specs.Sheet.{cut, Behind, value, other, behind, channels_key, column_key, row_key, factor_key, SoFar, nothing, Step, goes, stops, count_step, column_named, column_step, row_named, row_step, factor_bits, factor_step, step, complete}
 use Rattle.sheet.specs.Sheet.{Outcome, accepts, refuses, onward, read_from, outcome, answer_of, matrix_of, sheet_of, sheet_text, columns_judged, factor_at, factors_judged, printed_by, print_fits, printed_of, printed_answer, bytes_after}
 use Rattle.sheet_answer.specs.Answer.{answer_text, answer_prints, answer_left}
@@ -63,20 +59,20 @@ count-good (value []) = layout
 count-good (value (d ∷ [])) = one_of (leb 49 d && leb d 56) _ (stops why.Layout) tt layout
 count-good (value (d ∷ (e ∷ es))) = layout
 
-column-named-good : (s : SoFar) (n : Naming) → Good (column_named s n)
+column-named-good : (s : SoFar) (n : Option Name) → Good (column_named s n)
 unfolding column_named
-column-named-good s Bad = malformed
-column-named-good s (Named n) = one_of (is_in n s.columns) (stops why.DoubledName) _ doubled tt
+column-named-good s None = malformed
+column-named-good s (Some n) = one_of (is_in n s.columns) (stops why.DoubledName) _ doubled tt
 
 column-good : (s : SoFar) (b : Behind) → Good (column_step s b)
 unfolding column_step
 column-good s other = layout
 column-good s (value bytes) = column-named-good s (naming_of bytes)
 
-row-named-good : (s : SoFar) (n : Naming) → Good (row_named s n)
+row-named-good : (s : SoFar) (n : Option Name) → Good (row_named s n)
 unfolding row_named
-row-named-good s Bad = malformed
-row-named-good s (Named n) = one_of (is_in n s.rows) (stops why.DoubledName) _ doubled (one_of (is_in n s.columns) _ (stops why.NoColumn) tt no-column)
+row-named-good s None = malformed
+row-named-good s (Some n) = one_of (is_in n s.rows) (stops why.DoubledName) _ doubled (one_of (is_in n s.columns) _ (stops why.NoColumn) tt no-column)
 
 row-good : (s : SoFar) (b : Behind) → Good (row_step s b)
 unfolding row_step
@@ -148,7 +144,7 @@ columns-said before [] = tt
 columns-said before (n ∷ ns) = go (is_name n) (is_in n before) (columns-said (before ++ n ∷ []) ns)
   where
     go : (b c : Bool) → Said print_numbers Unit (columns_judged (before ++ n ∷ []) ns)
-        → Said print_numbers Unit (cond (not b) (Refused why.Malformed (length before + 2)) (cond c (Refused why.DoubledName (length before + 2)) (columns_judged (before ++ n ∷ []) ns)))
+        → Said print_numbers Unit (cond (not b) (refuse why.Malformed (length before + 2)) (cond c (refuse why.DoubledName (length before + 2)) (columns_judged (before ++ n ∷ []) ns)))
     go false c h = (refl, tt)
     go true true h = (refl, tt)
     go true false h = h
@@ -158,19 +154,19 @@ unfolding factors_judged among
 factors-said count i [] = tt
 factors-said count i (x ∷ xs) = go (finite x) (factors-said count (suc i) xs)
   where
-    go : (b : Bool) → Said print_numbers Unit (factors_judged count (suc i) xs) → Said print_numbers Unit (cond b (factors_judged count (suc i) xs) (Refused why.Malformed (factor_at count i)))
+    go : (b : Bool) → Said print_numbers Unit (factors_judged count (suc i) xs) → Said print_numbers Unit (cond b (factors_judged count (suc i) xs) (refuse why.Malformed (factor_at count i)))
     go true h = h
     go false h = (refl, tt)
 
 module _ (count : ℕ) (names : List Name) (matrix : List Float) (before : List ℕ) where
-  abbrev Print : Printed → Type 0
+  abbrev Print : Answer → Type 0
   Print p = Said print_numbers (bytes_after count names matrix p before ≡ before) (printed_answer p)
 
   both-said : (a b : Answer) (size : ℕ) → Said print_numbers Unit a → Said print_numbers Unit b → Print (printed_by a b size)
   unfolding printed_by bytes_after
-  both-said (Refused r line) b size h k = (h.0, refl)
-  both-said (Done m) (Refused r line) size h k = (k.0, refl)
-  both-said (Done m) (Done n) size h k = tt
+  both-said (Err e) b size h k = (h.0, refl)
+  both-said (Ok m) (Err e) size h k = (k.0, refl)
+  both-said (Ok m) (Ok n) size h k = tt
 
   pub print-said : Print (printed_of count names matrix (length before))
   unfolding printed_of among bytes_after
@@ -185,7 +181,7 @@ module _ (count : ℕ) (names : List Name) (matrix : List Float) (before : List 
       size : ℕ
       size = length (sheet_text (sheet_of count names matrix))
 
-      go : (b : Bool) → Print (cond (not b) (Printed.Refused why.WrongSize 0) (printed_by columns factors size))
+      go : (b : Bool) → Print (cond (not b) (refuse why.WrongSize 0) (printed_by columns factors size))
       go false = (refl, refl)
       go true = both-said columns factors size (columns-said [] (take count names)) (factors-said count 0 (take (count * count) matrix))
 
@@ -195,6 +191,6 @@ pub answer-said : (text before : List ℕ) → Said (13 ∷ []) (answer_left tex
 unfolding answer_prints answer_left among
 answer-said text before = go (ltb (length before) 4096)
   where
-    go : (b : Bool) → Said (13 ∷ []) (cond b before (answer_text text ++ drop (length (answer_text text)) before) ≡ before) (printed_answer (cond b (Printed.Refused why.WrongSize 0) (Printed.Bytes (length (answer_text text)))))
+    go : (b : Bool) → Said (13 ∷ []) (cond b before (answer_text text ++ drop (length (answer_text text)) before) ≡ before) (printed_answer (cond b (refuse why.WrongSize 0) (Ok (length (answer_text text)))))
     go true = (refl, refl)
     go false = tt

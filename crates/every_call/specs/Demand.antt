@@ -1,10 +1,8 @@
 -- Demand 1 of the public calls that can refuse and are no call of `system`: "Every call ends with an answer for every input. Bad input is refused by
 -- number". The calls and their promises are those of `stand_ins`, where they are shown to be the code's own. Definitions only.
-use Rattle.std.specs.Prelude.{ℕ, ◌≡◌, true, List, [], ◌∷◌}
+use Rattle.std.specs.Prelude.{ℕ, ◌≡◌, true, List, [], ◌∷◌, Ok, Err}
 use Rattle.exact.specs.Among.{among}
-use Rattle.quant.specs.declared.refusal.Answer.{Answer}
-use Rattle.quant.specs.declared.refusal.Answer.TheVariants.{Done, Refused}
-use Rattle.quant.specs.Refusal.{number_of}
+use Rattle.quant.specs.Refusal.{number_of, Answer}
 use Rattle.quant.specs.Aligned.{aligned_answer, placed_answer}
 use Rattle.quant.specs.Phaser.{phased_answer}
 use Rattle.quant.specs.Settings.{fitting_answer}
@@ -15,6 +13,7 @@ use Rattle.shape.specs.Parts.{parted_answer}
 use Rattle.shape.specs.Envelope.{enveloped_answer}
 use Rattle.placing.specs.Judged.{judged_answer}
 use Rattle.sheet.specs.Sheet.{printed_answer}
+use Rattle.crosstalk.specs.Crosstalk.{plan_answer}
 use Rattle.stand_ins.specs.StandIns.{Call}
 use Rattle.stand_ins.specs.ByValue as value
 use Rattle.stand_ins.specs.Texts as text
@@ -29,8 +28,8 @@ pub record Refusing : Type 1 where
 
 -- refused: by one of the numbers, and all that was lent is as it came
 abbrev pub Said : List ℕ → Type 0 → Answer → Type 0
-Said numbers kept (Done count) = Unit {0}
-Said numbers kept (Refused why place) = (among numbers (number_of why) ≡ true) × kept
+Said numbers kept (Ok count) = Unit {0}
+Said numbers kept (Err e) = (among numbers (number_of e.why) ≡ true) × kept
 
 -- every input has an answer that the promise allows, and only one; and what is refused is refused as said
 pub record Answers (r : Refusing) : Type 0 where
@@ -68,7 +67,7 @@ refusing measure = record { call = value.measure; answer = enveloped_answer; num
 refusing envelope = record { call = buffer.envelope; answer = λ y. enveloped_answer y.answer; numbers = 11 ∷ 12 ∷ 8 ∷ []; Kept = λ x y. y.scratch ≡ x.scratch }
 refusing judge = record { call = value.judge; answer = judged_answer; numbers = 8 ∷ 9 ∷ 10 ∷ 11 ∷ 12 ∷ []; Kept = none }
 refusing state = record { call = value.state; answer = told_answer; numbers = 2 ∷ 7 ∷ []; Kept = none }
-refusing plan = record { call = value.plan; answer = λ y. y.answer; numbers = 13 ∷ 2 ∷ 17 ∷ 18 ∷ 7 ∷ []; Kept = none }
+refusing plan = record { call = value.plan; answer = plan_answer; numbers = 13 ∷ 2 ∷ 17 ∷ 18 ∷ 7 ∷ []; Kept = none }
 refusing steps = record { call = value.answer; answer = λ y. y; numbers = 13 ∷ 2 ∷ []; Kept = none }
 refusing name-read = record { call = text.name-read; answer = naming_answer; numbers = 2 ∷ []; Kept = none }
 refusing sheet-read = record { call = text.sheet-read; answer = λ y. y.reading.answer; numbers = 13 ∷ 15 ∷ 2 ∷ 17 ∷ 19 ∷ []; Kept = λ x y. y.matrix ≡ x.matrix }

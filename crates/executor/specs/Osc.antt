@@ -1,10 +1,9 @@
 -- Document 01, "Oscillators": what each command does to a channel's three numbers at the time t. Each operation rounds once; each number worked out is judged. Definitions only.
-use Rattle.std.specs.Prelude.{Bool, true, false, ◌&&◌, cond, Float}
+use Rattle.quant.specs.Refusal.{Answer, refuse}
+use Rattle.std.specs.Prelude.{Bool, true, false, ◌&&◌, cond, Float, Ok}
 use Rattle.std.specs.Float.{binary64}
 use Rattle.std.specs.Float.Ieee.{add, sub, mul, neg}
 use Rattle.std.specs.Float.Ieee.Scale.{finite}
-use Rattle.quant.specs.declared.refusal.Answer.{Answer}
-use Rattle.quant.specs.declared.refusal.Answer.TheVariants.{Done, Refused}
 use Rattle.quant.specs.declared.refusal.Refusal.TheVariants.{NotFinite}
 use Rattle.executor.specs.declared.osc.OscState.{OscState}
 use Rattle.executor.specs.declared.osc.Moved.{Moved}
@@ -77,7 +76,7 @@ swapped_phases s o t =
 
 -- ---- what both answer: refused, 8
 abbrev pub moved_answer : Moved → Answer
-moved_answer m = cond m.refused (Refused NotFinite 0) (Done 0)
+moved_answer m = cond m.refused (refuse NotFinite 0) (Ok 0)
 
 abbrev pub swapped_answer : Swapped → Answer
-swapped_answer w = cond w.refused (Refused NotFinite 0) (Done 0)
+swapped_answer w = cond w.refused (refuse NotFinite 0) (Ok 0)

@@ -1,15 +1,13 @@
 // A channel's oscillator: three numbers, passed and returned by each command. The Rust's `OscState` in src/executor.rs.
-ghost use Rattle.std.specs.Prelude.{◌≡◌, ◌&&◌};
-ghost use Rattle.std.specs.Float.Ieee.Scale.{finite};
-ghost use Rattle.executor.specs.Osc.{total_of, phase_at, with_phase, with_both, moved, swapped, shifted_phase, set_phase_to, retuned, shifted_freq, set_freq_to, swapped_by, swapped_phases};
+ghost use Rattle.std.specs.Prelude.{◌≡◌};
+ghost use Rattle.executor.specs.Osc.{total_of, phase_at, with_phase, with_both, moved, shifted_phase, set_phase_to, retuned, shifted_freq, set_freq_to, swapped_by, swapped_phases};
 
 use ieee::finite::is_finite;
-use quant::judge::both;
-use quant::quantity::{Frequency, Phase, Time};
+use quant::quantity::{Frequency, Phase, Quantity, Time};
 
 // Base frequency, delta frequency, phase.
 #[repr(C)]
-#[derive(Clone, Copy)]
+#[derive(Clone, Copy, Debug, Default, PartialEq)]
 pub struct OscState {
     pub base: Frequency,
     pub delta: Frequency,
@@ -18,16 +16,18 @@ pub struct OscState {
 
 // The state after a command. Where a number worked out on the way is not finite the command is refused, and the state is the one that came.
 // `moved_answer` and `swapped_answer` say by which number.
+// Kept: the C interface passes the flag and the state by value.
 #[repr(C)]
-#[derive(Clone, Copy)]
+#[derive(Clone, Copy, Debug, PartialEq)]
 pub struct Moved {
     pub refused: bool,
     pub osc: OscState,
 }
 
 // The same of two channels.
+// Kept: the C interface, as above.
 #[repr(C)]
-#[derive(Clone, Copy)]
+#[derive(Clone, Copy, Debug, PartialEq)]
 pub struct Swapped {
     pub refused: bool,
     pub one: OscState,
@@ -51,8 +51,7 @@ impl OscState {
     pub fn with_time_shift(self, time: Time) -> OscState
         ensures { result ≡ with_phase self (phase_at self time.0) }
     {
-        let phase = self.phase_at(time);
-        self.with_phase(phase)
+        self.with_phase(self.phase_at(time))
     }
 
     pub fn shift_phase(self, by: Phase) -> Moved
@@ -68,7 +67,7 @@ impl OscState {
     {
         let turned = self.delta.mul_time(time);
         let phase = to.sub(turned);
-        let fine = both(is_finite(turned.0), is_finite(phase.0));
+        let fine = is_finite(turned.0) && is_finite(phase.0);
         self.moved_to(fine, self.with_phase(phase))
     }
 
@@ -91,40 +90,32 @@ impl OscState {
         ensures { result ≡ retuned self judged.0 turned.0 delta.0 }
     {
         let phase = self.phase.add(turned);
-        let fine = both(
-            both(is_finite(judged.0), is_finite(turned.0)),
-            is_finite(phase.0),
-        );
+        let fine = is_finite(judged.0) && is_finite(turned.0) && is_finite(phase.0);
         self.moved_to(fine, self.with_both(delta, phase))
     }
 
     fn with_both(self, delta: Frequency, phase: Phase) -> OscState
         ensures { result ≡ with_both self delta.0 phase.0 }
     {
-        let base = self.base;
-        OscState { base, delta, phase }
+        OscState {
+            delta,
+            phase,
+            ..self
+        }
     }
 
     fn with_phase(self, phase: Phase) -> OscState
         ensures { result ≡ with_phase self phase.0 }
     {
-        let base = self.base;
-        let delta = self.delta;
-        OscState { base, delta, phase }
+        OscState { phase, ..self }
     }
 
     fn moved_to(self, fine: bool, after: OscState) -> Moved
         ensures { result ≡ moved self fine after }
     {
-        if fine {
-            return Moved {
-                refused: false,
-                osc: after,
-            };
-        }
         Moved {
-            refused: true,
-            osc: self,
+            refused: !fine,
+            osc: if fine { after } else { self },
         }
     }
 }
@@ -137,7 +128,10 @@ pub fn swap_phase(one: OscState, two: OscState, time: Time) -> Swapped
     let second = two.total_freq();
     let ahead = first.sub(second);
     let turned = ahead.mul_time(time);
-    let fine = all_finite(first.0, second.0, ahead.0, turned.0);
+    let fine = is_finite(first.0)
+        && is_finite(second.0)
+        && is_finite(ahead.0)
+        && is_finite(turned.0);
     swap_turned(one, two, fine, turned)
 }
 
@@ -146,32 +140,17 @@ fn swap_turned(one: OscState, two: OscState, fine: bool, turned: Phase) -> Swapp
 {
     let p = two.phase.sub(turned);
     let q = one.phase.add(turned);
-    let all = both(both(fine, is_finite(p.0)), is_finite(q.0));
-    swapped_to(one, two, all, p, q)
-}
-
-fn swapped_to(one: OscState, two: OscState, fine: bool, p: Phase, q: Phase) -> Swapped
-    ensures { result ≡ swapped one two fine p.0 q.0 }
-{
-    if fine {
-        return Swapped {
+    if fine && is_finite(p.0) && is_finite(q.0) {
+        Swapped {
             refused: false,
             one: one.with_phase(p),
             two: two.with_phase(q),
-        };
+        }
+    } else {
+        Swapped {
+            refused: true,
+            one,
+            two,
+        }
     }
-    Swapped {
-        refused: true,
-        one: one,
-        two: two,
-    }
-}
-
-fn all_finite(a: f64, b: f64, c: f64, d: f64) -> bool
-    ensures { result ≡ (finite a && finite b && finite c && finite d) }
-{
-    both(
-        both(both(is_finite(a), is_finite(b)), is_finite(c)),
-        is_finite(d),
-    )
 }

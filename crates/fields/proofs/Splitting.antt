@@ -1,4 +1,5 @@
 -- Laws of words: the first one, those behind it, and how many there are. Assumes nothing.
+use Rattle.std.specs.Prelude.{Some, None}
 use Prim.Native.Nat.{ℕ, zero, suc, ◌+◌, ◌-◌, ◌≤◌, ◌<◌}
 use mathlib.Core.Bool.{Bool, true, false, not, cond}
 use mathlib.Core.List.{List, [], ◌∷◌}
@@ -16,7 +17,6 @@ use Rattle.sheet.specs.Reader.{Starts}
 use Rattle.sheet.specs.Sheet.{value}
 use Rattle.sheet.proofs.Keys.{missing, there}
 use Rattle.sheet.proofs.Keys as keys
-use Rattle.fields.specs.declared.words.Span.TheVariants.{At, Missing}
 use Rattle.fields.specs.Words.{words_of, word_in, first_word, blank_of, Begins, Found}
 
 -- no blank: one word
@@ -135,10 +135,10 @@ module _ (line : List ℕ) (k from p : ℕ) (begins : Begins line k from) (place
       rw (← word-is, same) (length-take-le p (drop from line) here)
 
   module _ (key : List ℕ) (r : Bool) (starts : Starts key (take (from + p - from) (drop from line)) r) where
-    pub found_none : not r ≡ true → Found line k key Missing
+    pub found_none : not r ≡ true → Found line k key None
     found_none h = record { is = rw (← word-is) (missing key (take (from + p - from) (drop from line)) r starts h); inside = tt }
 
-    pub found_at : not r ≡ false → Found line k key (At (from + length key) (from + p))
+    pub found_at : not r ≡ false → Found line k key (Some (record { from = from + length key; to = from + p }))
     found_at h =
         let word = take (from + p - from) (drop from line) in
         let long : length key ≤ p = rw (word-is, word-long) at (keys.reaches key word r starts h) in

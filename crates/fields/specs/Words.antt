@@ -1,11 +1,10 @@
 -- A line as words, and a word parted at a key. The job text: "words are parted by one blank"; "Fields `key=value` stand in the order shown".
 -- Definitions only.
-use Rattle.std.specs.Prelude.{ℕ, ◌-◌, ◌≤◌, ◌≡◌, Bool, true, false, cond, List, [], ◌∷◌, eqb, length, get_or, take, drop}
+use Rattle.std.specs.Prelude.{ℕ, ◌-◌, ◌≤◌, ◌≡◌, Bool, true, false, cond, List, [], ◌∷◌, eqb, length, get_or, take, drop, Option, Some, None}
 use Rattle.lines.specs.Text.{before}
 use Rattle.decimal.specs.Digits.{place_of}
 use Rattle.sheet.specs.Sheet.{Behind, value, other, behind}
 use Rattle.fields.specs.declared.words.Span.{Span}
-use Rattle.fields.specs.declared.words.Span.TheVariants.{At, Missing}
 
 -- the words, without the blanks (32) between them; there is always one, which may be empty
 unfoldable pub words_of : List ℕ → List (List ℕ)
@@ -32,15 +31,15 @@ pub record Begins (line : List ℕ) (k r : ℕ) : Type 0 where
 -- ---- the value behind a key
 
 -- what stands at a place of a line
-abbrev pub spanned : Span → List ℕ → Behind
-spanned (At from to) line = value (take (to - from) (drop from line))
-spanned Missing line = other
+abbrev pub spanned : Option Span → List ℕ → Behind
+spanned (Some s) line = value (take (s.to - s.from) (drop s.from line))
+spanned None line = other
 
-abbrev pub Inside : Span → List ℕ → Type 0
-Inside (At from to) line = (from ≤ to) × (to ≤ length line)
-Inside Missing line = Unit {0}
+abbrev pub Inside : Option Span → List ℕ → Type 0
+Inside (Some s) line = (s.from ≤ s.to) × (s.to ≤ length line)
+Inside None line = Unit {0}
 
-pub record Found (line : List ℕ) (k : ℕ) (key : List ℕ) (r : Span) : Type 0 where
+pub record Found (line : List ℕ) (k : ℕ) (key : List ℕ) (r : Option Span) : Type 0 where
   pub is : behind key (word_in line k) ≡ spanned r line
   pub inside : Inside r line
 

@@ -1,155 +1,97 @@
-// What a value says: each call reads the value behind a key in word k of a line.
+// What a value says: each call reads the value behind a key in word k of a line, and answers none where that word starts otherwise or says nothing.
 ghost use Rattle.std.specs.Prelude.{◌≡◌};
 ghost use Rattle.fields.specs.Words.{word_in};
 ghost use Rattle.fields.specs.Value.{number_field, name_field, shape_field, flag_field, whole_field, level_field, name_of, flag_of, level_of, signed};
 
-use super::words::{Span, value_at};
-use decimal::digits::{Digits, figures};
-use decimal::number::Number;
-use naming::{Name, Naming, from_bytes};
+use super::words::value_at;
+use decimal::digits::figures;
+use naming::{Name, from_bytes};
 use sheet::names::blank;
 
-// A name that breaks document 01's rule is handed on as the name of no bytes, which breaks it too.
-#[derive(Clone, Copy)]
-pub enum Called {
-    Name(Name),
-    Bad,
-}
-
-// Whether there is a shape, and its name.
-#[derive(Clone, Copy)]
-pub enum Shaped {
-    As(bool, Name),
-    Bad,
-}
-
-#[derive(Clone, Copy)]
-pub enum Flag {
-    Is(bool),
-    Bad,
-}
-
-#[derive(Clone, Copy)]
-pub enum Level {
-    Is(i32),
-    Bad,
-}
-
-pub fn number_in(line: &[u8], k: usize, key: &[u8]) -> Number
+pub fn number_in(line: &[u8], k: usize, key: &[u8]) -> Option<f64>
     ensures { result ≡ number_field key.now (word_in line.now k) }
 {
-    let value = value_at(line, k, key);
-    match value {
-        Span::At(from, to) => decimal::number::read(&line[from..to]),
-        Span::Missing => Number::Bad,
-    }
+    let number = value_at(line, k, key)?;
+    decimal::number::read(&line[number.from..number.to])
 }
 
 // A whole number of 1 to 15 digits.
-pub fn whole_in(line: &[u8], k: usize, key: &[u8]) -> Digits
+pub fn whole_in(line: &[u8], k: usize, key: &[u8]) -> Option<u64>
     ensures { result ≡ whole_field key.now (word_in line.now k) }
 {
-    let value = value_at(line, k, key);
-    match value {
-        Span::At(from, to) => figures(&line[from..to]),
-        Span::Missing => Digits::Bad,
-    }
+    let value = value_at(line, k, key)?;
+    figures(&line[value.from..value.to])
 }
 
-pub fn name_in(line: &[u8], k: usize, key: &[u8]) -> Called
+// A name that breaks document 01's rule is handed on as the name of no bytes, which breaks it too.
+pub fn name_in(line: &[u8], k: usize, key: &[u8]) -> Option<Name>
     ensures { result ≡ name_field key.now (word_in line.now k) }
 {
-    let value = value_at(line, k, key);
-    match value {
-        Span::At(from, to) => Called::Name(name_of(&line[from..to])),
-        Span::Missing => Called::Bad,
-    }
+    let value = value_at(line, k, key)?;
+    Some(name_of(&line[value.from..value.to]))
 }
 
 // Nothing behind the key is no shape.
-pub fn shape_in(line: &[u8], k: usize, key: &[u8]) -> Shaped
+pub fn shape_in(line: &[u8], k: usize, key: &[u8]) -> Option<Option<Name>>
     ensures { result ≡ shape_field key.now (word_in line.now k) }
 {
-    let value = value_at(line, k, key);
-    match value {
-        Span::At(from, to) => Shaped::As(from < to, name_of(&line[from..to])),
-        Span::Missing => Shaped::Bad,
+    let value = value_at(line, k, key)?;
+    if value.from == value.to {
+        return Some(None);
     }
+    Some(Some(name_of(&line[value.from..value.to])))
 }
 
-pub fn flag_in(line: &[u8], k: usize, key: &[u8]) -> Flag
+pub fn flag_in(line: &[u8], k: usize, key: &[u8]) -> Option<bool>
     ensures { result ≡ flag_field key.now (word_in line.now k) }
 {
-    let value = value_at(line, k, key);
-    match value {
-        Span::At(from, to) => flag_of(&line[from..to]),
-        Span::Missing => Flag::Bad,
-    }
+    let value = value_at(line, k, key)?;
+    flag_of(&line[value.from..value.to])
 }
 
 // An optional `-` and 1 to 9 digits.
-pub fn level_in(line: &[u8], k: usize, key: &[u8]) -> Level
+pub fn level_in(line: &[u8], k: usize, key: &[u8]) -> Option<i32>
     ensures { result ≡ level_field key.now (word_in line.now k) }
 {
-    let value = value_at(line, k, key);
-    match value {
-        Span::At(from, to) => level_of(&line[from..to]),
-        Span::Missing => Level::Bad,
-    }
+    let value = value_at(line, k, key)?;
+    level_of(&line[value.from..value.to])
 }
 
+#[tactic(auto, unfolding(crate::specs::Value::name_of))]
 fn name_of(text: &[u8]) -> Name
     ensures { result ≡ name_of text.now }
 {
-    let named = from_bytes(text);
-    match named {
-        Naming::Named(n) => n,
-        Naming::Bad => blank(),
-    }
+    from_bytes(text).unwrap_or(blank())
 }
 
-fn flag_of(text: &[u8]) -> Flag
+#[tactic(auto, unfolding(crate::specs::Value::flag_of))]
+fn flag_of(text: &[u8]) -> Option<bool>
     ensures { result ≡ flag_of text.now }
 {
-    if text.len() != 1 {
-        return Flag::Bad;
+    match text {
+        [b'0'] => Some(false),
+        [b'1'] => Some(true),
+        _ => None,
     }
-    if text[0] == b'0' {
-        return Flag::Is(false);
-    }
-    if text[0] == b'1' {
-        return Flag::Is(true);
-    }
-    Flag::Bad
 }
 
-fn level_of(text: &[u8]) -> Level
+#[tactic(auto, unfolding(crate::specs::Value::level_of))]
+fn level_of(text: &[u8]) -> Option<i32>
     ensures { result ≡ level_of text.now }
 {
-    if text.len() < 1 {
-        return Level::Bad;
+    match text {
+        [] => None,
+        [b'-', size @ ..] => level_from(true, size),
+        _ => level_from(false, text),
     }
-    if text[0] == b'-' {
-        return level_from(true, &text[1..]);
-    }
-    level_from(false, text)
 }
 
-fn level_from(minus: bool, text: &[u8]) -> Level
+fn level_from(minus: bool, text: &[u8]) -> Option<i32>
     ensures { result ≡ signed minus text.now }
 {
     if 9 < text.len() {
-        return Level::Bad;
+        return None;
     }
-    let size = figures(text);
-    match size {
-        Digits::Value(n) => {
-            let up = n as i32;
-            if minus {
-                return Level::Is(0 - up);
-            }
-            Level::Is(up)
-        }
-        Digits::Bad => Level::Bad,
-    }
+    let size = figures(text)? as i32;
+    Some(if minus { -size } else { size })
 }

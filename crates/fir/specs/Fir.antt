@@ -1,6 +1,6 @@
 -- Document 01's step `fir`: each row through the taps, and what is refused before it. Definitions only.
+use Rattle.quant.specs.Refusal.{Answer}
 use Rattle.std.specs.Prelude.{◌≡◌, Bool, ◌&&◌, List, ℕ, leb, length, Float}
-use Rattle.quant.specs.declared.refusal.Answer.{Answer}
 use Rattle.rows.specs.Rows.{rows_fit, all_finite, answer_of, after}
 use Rattle.ring.specs.Ring.{filtered_row}
 

@@ -27,11 +27,5 @@ pub fn fir(rows: usize, i: &mut [f64], q: &mut [f64], taps: &[f64]) -> Answer
 fn fits(rows: usize, i: usize, q: usize, taps: usize) -> bool
     ensures { result ≡ fir_fits rows i q taps }
 {
-    if !rows_fit(rows, i, q) {
-        return false;
-    }
-    if taps < 1 {
-        return false;
-    }
-    taps <= 256
+    rows_fit(rows, i, q) && (1..=256).contains(&taps)
 }

@@ -1,5 +1,9 @@
 -- A word shifted right and back: nothing wraps, and it comes back as it was just where what was shifted out is 0. Assumes nothing.
-use Rattle.std.proofs.Common.{◌≡◌, ℕ, ◌+◌, ◌*◌, ◌/◌, ◌%◌, ◌^◌, ◌<◌, ◌∙◌, inl, inr, lt_of_le_of_lt, mod-eq_of_lt, eq-zero-or-pos, div-add-mod', div-mul-le_self, arith}
+use Rattle.std.proofs.Common.{◌≡◌, ℕ, zero, suc, sym, ap, mod-lt, div-add-mod', lit<, ◌+◌, ◌*◌, ◌/◌, ◌%◌, ◌^◌, ◌<◌, ◌∙◌, inl, inr, lt_of_le_of_lt, mod-eq_of_lt, eq-zero-or-pos, div-mul-le_self, arith}
+use Rattle.std.proofs.lemmas.Nat.{or_block}
+use Rattle.std.specs.Int.Bits.{or_zero_r}
+use lib.Bits.{bit_or}
+use Rattle.fma.specs.Sticky.{odd-of}
 
 pub back : (n s : ℕ) → n < 2 ^ 64 → (n / 2 ^ s * 2 ^ s) % 2 ^ 64 ≡ n / 2 ^ s * 2 ^ s
 back n s h = mod-eq_of_lt (lt_of_le_of_lt (div-mul-le_self n (2 ^ s)) h)
@@ -18,3 +22,12 @@ lost n s h f = elim (eq-zero-or-pos (n % 2 ^ s)) [
   where
     by : (q r : ℕ) → q + r ≡ n → r ≡ 0 → q ≡ n
     by q r e z = omega arith
+
+-- the last bit set
+pub or_one : (q : ℕ) → bit_or q 1 ≡ odd-of q
+or_one q = ap (λ (x : ℕ). bit_or x 1) (sym (div-add-mod' q 2)) ∙ or_block 1 (q / 2) 0 (q % 2) 1 (mod-lt q (lit< tt)) (lit< tt) ∙ by (q / 2) (bit_or (q / 2) 0) (q % 2) (or_zero_r (q / 2)) (mod-lt q (lit< tt)) (div-add-mod' q 2)
+  where
+    by : (h k r : ℕ) → k ≡ h → r < 2 → h * 2 + r ≡ q → k * 2 ^ 1 + bit_or r 1 ≡ odd-of q
+    by h k zero e l s = omega arith
+    by h k (suc zero) e l s = omega arith
+    by h k (suc (suc r)) e l s = absurd (omega arith)

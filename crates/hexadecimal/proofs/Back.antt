@@ -1,4 +1,5 @@
 -- What is written can be read back: the 16 digits of a word stand for the word, and they stand where they were put. Assumes nothing.
+use Rattle.std.specs.Prelude.{Some}
 use Prim.Native.Nat.{ℕ, ◌+◌, ◌^◌, ◌≤◌, ◌<◌}
 use mathlib.Core.Path.{◌≡◌, ap}
 use mathlib.Core.Bool.{true}
@@ -8,7 +9,6 @@ use native.Mathlib.Nat.{mod-eq_of_lt}
 use borrow.Author.Tests.{le-leb}
 use lib.ListN.{length, take, drop, length-append, length-drop}
 use lib.Seq.{length-take-le, take_at, drop_at}
-use Rattle.hexadecimal.specs.declared.Word.TheVariants.{Bits}
 use Rattle.hexadecimal.specs.Hex.{all_digits, digits, field, room, word_at, written}
 use Rattle.hexadecimal.proofs.Number.{all_digits_lem, length_digits, number_digits}
 
@@ -33,8 +33,8 @@ module _ (word : ℕ) (text : List ℕ) (at : ℕ) (fits : at + 16 ≤ length te
   pub length-written : length (written word text at) ≡ length text
   length-written = rw spelled (simp (length-append, length_digits, front, length-drop) (omega arith))
 
-  pub read_back : word < 2 ^ 64 → word_at (written word text at) at ≡ Bits word
+  pub read_back : word < 2 ^ 64 → word_at (written word text at) at ≡ Some word
   unfolding word_at room
   read_back small =
       let there = le-leb (at + 16) (length (written word text at)) (rw length-written fits) in
-      rw (there, digits-written, field-written, number_digits 16 word) (ap Bits (mod-eq_of_lt small))
+      rw (there, digits-written, field-written, number_digits 16 word) (ap Some (mod-eq_of_lt small))

@@ -1,7 +1,5 @@
 -- A 64-bit word as 16 lowercase hex digits, the most significant first: what a text says, and what is written. Assumes nothing.
-use Rattle.std.specs.Prelude.{ℕ, zero, suc, ◌+◌, ◌-◌, ◌*◌, ◌/◌, ◌%◌, ◌^◌, ◌≡◌, Bool, true, ◌&&◌, cond, List, [], ◌∷◌, ◌++◌, leb, ltb, length, take, drop}
-use Rattle.hexadecimal.specs.declared.Word.{Word}
-use Rattle.hexadecimal.specs.declared.Word.TheVariants.{Bits, Bad}
+use Rattle.std.specs.Prelude.{ℕ, zero, suc, ◌+◌, ◌-◌, ◌*◌, ◌/◌, ◌%◌, ◌^◌, ◌≡◌, Bool, true, ◌&&◌, cond, List, [], ◌∷◌, ◌++◌, leb, ltb, length, take, drop, Option, Some, None}
 
 -- what a byte is worth as a digit: `0` to `9` (48 to 57) and `a` to `f` (97 to 102); 16 for any other byte
 unfoldable pub digit_value : ℕ → ℕ
@@ -35,8 +33,8 @@ unfoldable pub field : List ℕ → ℕ → List ℕ
 field text at = take 16 (drop at text)
 
 -- the word that the 16 bytes at a place of a text stand for
-unfoldable pub word_at : List ℕ → ℕ → Word
-word_at text at = cond (room text at && all_digits (field text at)) (Bits (number (field text at))) Bad
+unfoldable pub word_at : List ℕ → ℕ → Option ℕ
+word_at text at = cond (room text at && all_digits (field text at)) (Some (number (field text at))) None
 
 -- a text with a word's digits at a place; where they do not fit, the text as it is
 unfoldable pub written : ℕ → List ℕ → ℕ → List ℕ

@@ -4,51 +4,33 @@
 ghost use Rattle.std.specs.Prelude.{◌≡◌, ◌<◌};
 ghost use Rattle.hexadecimal.specs.Hex.{digit_value, digit_of, word_at, Wrote};
 
-// What the 16 bytes at a place of a text say.
-#[derive(Clone, Copy)]
-pub enum Word {
-    Bits(u64),
-    // The text is too short there, or one of the bytes is no digit.
-    Bad,
-}
-
 // The word whose digits stand at text[at..at + 16].
-pub fn read(text: &[u8], at: usize) -> Word
+pub fn read(text: &[u8], at: usize) -> Option<u64>
     ensures { result ≡ word_at text.now at }
 {
-    if text.len() < 16 {
-        return Word::Bad;
-    }
-    if text.len() - 16 < at {
-        return Word::Bad;
+    if text.len() < 16 || text.len() - 16 < at {
+        return None;
     }
     let mut word: u64 = 0;
-    let mut i: usize = 0;
-    while i < 16 {
+    for i in 0..16 {
         let d = digit_value(text[at + i]);
         if 16 <= d {
-            return Word::Bad;
+            return None;
         }
         word = word * 16 + d;
-        i += 1;
     }
-    Word::Bits(word)
+    Some(word)
 }
 
 // Puts the digits of word at out[at..at + 16] and answers true, or leaves out as it is and answers false where they do not fit.
 pub fn write(word: u64, out: &mut [u8], at: usize) -> bool
     ensures { Wrote word out.old at result out.new }
 {
-    if out.len() < 16 {
-        return false;
-    }
-    if out.len() - 16 < at {
+    if out.len() < 16 || out.len() - 16 < at {
         return false;
     }
     let mut rest = word;
-    let mut i: usize = 16;
-    while 0 < i {
-        i -= 1;
+    for i in (0..16).rev() {
         out[at + i] = digit_of(rest % 16);
         rest /= 16;
     }
@@ -56,31 +38,26 @@ pub fn write(word: u64, out: &mut [u8], at: usize) -> bool
 }
 
 // What a byte is worth as a digit; 16 for a byte that is none.
+#[tactic(auto, unfolding(crate::specs::Hex::digit_value))]
 fn digit_value(b: u8) -> u64
     ensures { result ≡ digit_value b }
 {
-    if b < b'0' {
-        return 16;
+    match b {
+        b'0'..=b'9' => (b - b'0') as u64,
+        b'a'..=b'f' => (b - b'a' + 10) as u64,
+        _ => 16,
     }
-    if b <= b'9' {
-        return (b - b'0') as u64;
-    }
-    if b < b'a' {
-        return 16;
-    }
-    if b <= b'f' {
-        return (b - b'a' + 10) as u64;
-    }
-    16
 }
 
 // The digit that is worth n.
+#[tactic(auto, unfolding(crate::specs::Hex::digit_of))]
 fn digit_of(n: u64) -> u8
     requires { n < 16 }
     ensures { result ≡ digit_of n }
 {
     if n < 10 {
-        return b'0' + n as u8;
+        b'0' + n as u8
+    } else {
+        b'a' + (n as u8 - 10)
     }
-    b'a' + (n as u8 - 10)
 }

@@ -14,12 +14,12 @@ ghost use Rattle.mix.specs.Part.{first_row, second_row};
 ghost use Rattle.mix.specs.Plateau.{carried, real, imaginary};
 ghost use Rattle.mixer.specs.Mixer.{Mixer};
 ghost use Rattle.quant.specs.Aligned.{aligned_of, placed_of};
-ghost use Rattle.quant.specs.declared.refusal.Answer.{Answer};
+ghost use Rattle.quant.specs.Refusal.{Answer};
 ghost use Rattle.spline.specs.Value.{value_in};
 ghost use Rattle.trig.specs.Trig.{cosine_of, sine_of};
 
 use executor::osc::{Moved, OscState, Swapped};
-use quant::aligned::{Aligned, Placed, align, place};
+use quant::aligned::{Misplaced, align, place};
 use quant::complex::Complex;
 use quant::quantity::{Frequency, Phase, Time};
 use quant::refusal::{Refusal, number};
@@ -69,8 +69,8 @@ pub fn skierralu_align(time: Time, rate: Frequency, level: i32) -> Index
     ensures { result ≡ index_of (aligned_of time.0 rate.0 level) }
 {
     match align(time, rate, level) {
-        Aligned::Index(a) => Index { code: 0, index: a },
-        Aligned::NotFinite => Index {
+        Some(a) => Index { code: 0, index: a },
+        None => Index {
             code: number(Refusal::NotFinite),
             index: 0.0,
         },
@@ -81,14 +81,14 @@ pub fn skierralu_place(time: Time, rate: Frequency, level: i32) -> Place
     ensures { result ≡ place_of (placed_of (aligned_of time.0 rate.0 level)) }
 {
     match place(time, rate, level) {
-        Placed::Start(start, offset) => Place {
+        Ok(start) => Place {
             code: 0,
-            start,
-            offset,
+            start: start.index,
+            offset: start.offset,
         },
-        Placed::NotFinite => nowhere(Refusal::NotFinite),
-        Placed::Before => nowhere(Refusal::BeforeRow),
-        Placed::Beyond => nowhere(Refusal::StartPastRow),
+        Err(Misplaced::NotFinite) => nowhere(Refusal::NotFinite),
+        Err(Misplaced::Before) => nowhere(Refusal::BeforeRow),
+        Err(Misplaced::Beyond) => nowhere(Refusal::StartPastRow),
     }
 }
 

@@ -14,7 +14,7 @@ ghost use Rattle.mix.specs.Part.{first_row, second_row};
 ghost use Rattle.mix.specs.Plateau.{carried, real, imaginary};
 ghost use Rattle.mixer.specs.Mixer.{Mixer};
 ghost use Rattle.quant.specs.Aligned.{aligned_of, placed_of};
-ghost use Rattle.quant.specs.declared.refusal.Answer.{Answer};
+ghost use Rattle.quant.specs.Refusal.{Answer};
 ghost use Rattle.spline.specs.Value.{value_in};
 ghost use Rattle.trig.specs.Trig.{cosine_of, sine_of};
 

@@ -4,3 +4,4 @@ pub mod Fractions
 pub mod Ceiling
 pub mod Powers
 pub mod Cutting
+pub mod Digits

@@ -9,18 +9,18 @@ ghost use Rattle.ieee.specs.Fraction.{Fraction};
 pub fn ceil(x: f64) -> f64
     ensures { result ≡ ceiling x }
 {
-    if x != x {
+    if x.is_nan() {
         return x;
     }
-    let bits: u64 = f64::to_bits(x);
+    let bits = x.to_bits();
     let field = (bits & 0x7fff_ffff_ffff_ffff) >> 52;
     if field >= 1075 {
-        return x;
+        x
+    } else if field < 1023 {
+        below_one(bits)
+    } else {
+        from_one(bits, 1075 - field)
     }
-    if field < 1023 {
-        return below_one(bits);
-    }
-    from_one(bits, 1075 - field)
 }
 
 // Of a number below 1 in size: 1, or a zero with its sign.
@@ -29,13 +29,13 @@ fn below_one(bits: u64) -> f64
     ensures { result ≡ ceiling (from_bits binary64 bits) }
 {
     if bits == 0 {
-        return 0.0;
+        0.0
+    } else if bits < 0x8000_0000_0000_0000 {
+        // the sign's bit is not set
+        1.0
+    } else {
+        -0.0
     }
-    // the sign's bit is not set
-    if bits < 0x8000_0000_0000_0000 {
-        return 1.0;
-    }
-    -0.0
 }
 
 // Of a number from 1 on in size, whose last `drop` digits are its fraction. A negative one loses
@@ -45,13 +45,13 @@ fn from_one(bits: u64, drop: u64) -> f64
     requires { Fraction bits drop }
     ensures { result ≡ ceiling (from_bits binary64 bits) }
 {
-    let cut = (bits >> drop) << drop;
-    // the sign's bit is set
+    let cut = bits >> drop << drop;
     if bits >= 0x8000_0000_0000_0000 {
-        return f64::from_bits(cut);
+        // the sign's bit is set
+        f64::from_bits(cut)
+    } else if cut == bits {
+        f64::from_bits(bits)
+    } else {
+        f64::from_bits(cut + (1 << drop))
     }
-    if cut == bits {
-        return f64::from_bits(bits);
-    }
-    f64::from_bits(cut + (1 << drop))
 }

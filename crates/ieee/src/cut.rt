@@ -5,6 +5,7 @@ ghost use Rattle.ieee.specs.Cut.{cut_of};
 use std::num::truncating_f64_to_u64;
 
 // An index, a number below or above every index, or no number.
+// Kept: the four are on a par, so an Option or a Result of an index would be no plainer.
 #[derive(Clone, Copy)]
 pub enum Cut {
     Index(usize),
@@ -18,14 +19,15 @@ pub enum Cut {
 pub fn cut_off(x: f64) -> Cut
     ensures { result ≡ cut_of x }
 {
-    if x != x {
-        return Cut::NotANumber;
-    }
-    if x > -1.0 {
+    if x.is_nan() {
+        Cut::NotANumber
+    } else if x > -1.0 {
         if x < 18446744073709551616.0 {
-            return Cut::Index(truncating_f64_to_u64(x) as usize);
+            Cut::Index(truncating_f64_to_u64(x) as usize)
+        } else {
+            Cut::Above
         }
-        return Cut::Above;
+    } else {
+        Cut::Below
     }
-    Cut::Below
 }

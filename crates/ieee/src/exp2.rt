@@ -11,14 +11,10 @@ pub fn exp2(n: i32) -> f64
         return 0.0;
     }
     if n > 1023 {
-        let infinity: f64 = f64::from_bits(0x7ff0_0000_0000_0000);
-        return infinity;
+        return f64::INFINITY;
     }
     let k = places(n);
-    if k < 52 {
-        return f64::from_bits(1 << k);
-    }
-    f64::from_bits((k - 51) << 52)
+    f64::from_bits(if k < 52 { 1 << k } else { (k - 51) << 52 })
 }
 
 // How many places 2^n lies above the smallest f64.

@@ -6,10 +6,5 @@ ghost use Rattle.ieee.specs.Finite.{is_finite};
 pub fn is_finite(x: f64) -> bool
     ensures { result ≡ is_finite x }
 {
-    let minus_infinity: f64 = f64::from_bits(0xfff0_0000_0000_0000);
-    let infinity: f64 = f64::from_bits(0x7ff0_0000_0000_0000);
-    if minus_infinity < x {
-        return x < infinity;
-    }
-    false
+    f64::NEG_INFINITY < x && x < f64::INFINITY
 }

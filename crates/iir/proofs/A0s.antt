@@ -1,5 +1,7 @@
 -- What is told of the sections' a0: 22 at section k exactly where k is the first whose a0 does not equal 1, and nothing exactly where each does, by
 -- induction over the sections that are left. Where each does, each section runs as it was designed. Assumes nothing.
+use Rattle.quant.specs.Refusal.{Answer, refuse}
+use Rattle.std.specs.Prelude.{Ok}
 use Prim.Native.Nat.{ℕ, zero, suc, ◌+◌, ◌*◌, ◌/◌, ◌≤◌, ◌<◌}
 use native.Mathlib.Omega.{arith}
 use mathlib.Core.Path.{◌≡◌, refl, sym, ap, subst}
@@ -13,8 +15,6 @@ use Rattle.exact.specs.Doubles.{nought, one}
 use Rattle.exact.proofs.Naturals.{below_or, first-once}
 use Rattle.exact.proofs.Truth.{never}
 use Rattle.exact.proofs.Unit.{over-one, is_one}
-use Rattle.quant.specs.declared.refusal.Answer.{Answer}
-use Rattle.quant.specs.declared.refusal.Answer.TheVariants.{Done, Refused}
 use Rattle.quant.specs.declared.refusal.Refusal.TheVariants.{WrongA0}
 use Rattle.iir.specs.Section.{section_at, a0_at, a0s_from, a0s_judged}
 use Rattle.iir.specs.A0.{FirstWrong, EachRight, designed_at}
@@ -34,8 +34,8 @@ module _ (l : List Float) where
   -- ---- of the sections from k up to m
 
   data ToldFrom (k m : ℕ) : Answer → Type 0 where
-    none_from : Right k m → ToldFrom k m (Done 0)
-    first-from : (p : ℕ) → k ≤ p → p < m → eq (a0_at l p) one ≡ false → Right k p → ToldFrom k m (Refused WrongA0 p)
+    none_from : Right k m → ToldFrom k m (Ok 0)
+    first-from : (p : ℕ) → k ≤ p → p < m → eq (a0_at l p) one ≡ false → Right k p → ToldFrom k m (refuse WrongA0 p)
 
   one_more : (k m : ℕ) → eq (a0_at l k) one ≡ true → (a : Answer) → ToldFrom (suc k) m a → ToldFrom k m a
   one_more k m e a (none_from h) = none_from (right-from k m e h)
@@ -46,15 +46,15 @@ module _ (l : List Float) where
   told-from zero k m e = none_from (λ j low high. absurd (omega arith))
   told-from (suc n) k m e = go (eq (a0_at l k) one) refl (told-from n (suc k) m (omega arith))
     where
-      go : (b : Bool) → eq (a0_at l k) one ≡ b → ToldFrom (suc k) m (a0s_from l n (suc k)) → ToldFrom k m (cond b (a0s_from l n (suc k)) (Refused WrongA0 k))
+      go : (b : Bool) → eq (a0_at l k) one ≡ b → ToldFrom (suc k) m (a0s_from l n (suc k)) → ToldFrom k m (cond b (a0s_from l n (suc k)) (refuse WrongA0 k))
       go true right later = one_more k m right (a0s_from l n (suc k)) later
       go false wrong later = first-from k (omega arith) (omega arith) wrong (λ j low high. absurd (omega arith))
 
   -- ---- of all
 
   pub data A0sTold : Answer → Type 0 where
-    none-wrong : EachRight l → A0sTold (Done 0)
-    first-wrong : (k : ℕ) → FirstWrong l k → A0sTold (Refused WrongA0 k)
+    none-wrong : EachRight l → A0sTold (Ok 0)
+    first-wrong : (k : ℕ) → FirstWrong l k → A0sTold (refuse WrongA0 k)
 
   pub told : A0sTold (a0s_judged l)
   told = go (a0s_judged l) (told-from (length l / 6) 0 (length l / 6) (omega arith))
@@ -69,19 +69,19 @@ module _ (l : List Float) where
   one-first p k h f =
       first-once (λ j. eq (a0_at l j) one ≡ false) p k h.wrong (λ j under. never (h.right-before j under)) f.wrong (λ j under. never (f.right-before j under))
 
-  pub none_is : EachRight l → a0s_judged l ≡ Done 0
+  pub none_is : EachRight l → a0s_judged l ≡ Ok 0
   none_is each = go (a0s_judged l) told
     where
-      go : (a : Answer) → A0sTold a → a ≡ Done 0
+      go : (a : Answer) → A0sTold a → a ≡ Ok 0
       go a (none-wrong h) = refl
       go a (first-wrong k h) = absurd (never (each k h.there) h.wrong)
 
-  pub first-is : (k : ℕ) → FirstWrong l k → a0s_judged l ≡ Refused WrongA0 k
+  pub first-is : (k : ℕ) → FirstWrong l k → a0s_judged l ≡ refuse WrongA0 k
   first-is k f = go (a0s_judged l) told
     where
-      go : (a : Answer) → A0sTold a → a ≡ Refused WrongA0 k
+      go : (a : Answer) → A0sTold a → a ≡ refuse WrongA0 k
       go a (none-wrong h) = absurd (never (h k f.there) f.wrong)
-      go a (first-wrong p h) = ap (Refused WrongA0) (one-first p k h f)
+      go a (first-wrong p h) = ap (refuse WrongA0) (one-first p k h f)
 
 -- ---- what equals 1 is 1.0, and a number over 1.0 is itself: so sections that are accepted run as they were designed
 

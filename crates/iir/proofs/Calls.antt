@@ -1,5 +1,8 @@
 -- Of a call: exactly when it is refused by 22, and with which section; exactly when it is accepted; and that its rows then are the cascade's but for
 -- the signs of zeros, however many sections there are. Assumes nothing.
+use Rattle.quant.proofs.Refusals.{same-why, same-place}
+use Rattle.quant.specs.Refusal.{Answer, refuse}
+use Rattle.std.specs.Prelude.{Ok}
 use Prim.Native.Nat.{ℕ, zero, suc, ◌+◌, ◌*◌, ◌/◌, ◌≤◌}
 use native.Mathlib.Omega.{arith}
 use mathlib.Core.Path.{◌≡◌, refl, sym, subst}
@@ -9,8 +12,6 @@ use mathlib.Core.List.{List, [], ◌∷◌}
 use lib.Dec.{T, leb, eqb-suc-zero}
 use lib.ListN.{length}
 use lib.Ieee.{Float}
-use Rattle.quant.specs.declared.refusal.Answer.{Answer}
-use Rattle.quant.specs.declared.refusal.Answer.TheVariants.{Done, Refused}
 use Rattle.quant.specs.declared.refusal.Refusal.TheVariants.{Malformed, WrongSize, WrongA0}
 use Rattle.rows.specs.Rows.{all_finite, answer_of}
 use Rattle.rows.proofs.Finite.{finite-at}
@@ -33,10 +34,10 @@ module _ (rows : ℕ) (i q l : List Float) where
 
   -- the one way to each answer, in the order of the refusals
   pub data Way : Answer → Type 0 where
-    wrong_size : iir_fits rows (length i) (length q) (length l) ≡ false → Way (Refused WrongSize 0)
-    malformed : iir_fits rows (length i) (length q) (length l) ≡ true → all_finite l ≡ false → Way (Refused Malformed 0)
-    at-section : (k : ℕ) → AtSection rows i q l k → Way (Refused WrongA0 k)
-    accepted : Accepted rows i q l → Way (Done 0)
+    wrong_size : iir_fits rows (length i) (length q) (length l) ≡ false → Way (refuse WrongSize 0)
+    malformed : iir_fits rows (length i) (length q) (length l) ≡ true → all_finite l ≡ false → Way (refuse Malformed 0)
+    at-section : (k : ℕ) → AtSection rows i q l k → Way (refuse WrongA0 k)
+    accepted : Accepted rows i q l → Way (Ok 0)
 
   pub way : Way answered
   way = by (iir_fits rows (length i) (length q) (length l)) (all_finite l) (a0s_judged l) refl refl (told l)
@@ -48,29 +49,29 @@ module _ (rows : ℕ) (i q l : List Float) where
       by true true a e f (first-wrong k h) = at-section k (record { numbers = record { sizes = e; fine = f }; first = h })
 
   -- exactly when by 22, and with which section
-  pub section-told : (k : ℕ) → (answered ≡ Refused WrongA0 k) ↔ AtSection rows i q l k
+  pub section-told : (k : ℕ) → (answered ≡ refuse WrongA0 k) ↔ AtSection rows i q l k
   section-told k = (to answered way, back)
     where
-      to : (a : Answer) → Way a → a ≡ Refused WrongA0 k → AtSection rows i q l k
-      to a (wrong_size e) same = let z : ◌≡◌ {A = ℕ} 0 1 = cc in absurd (omega arith)
-      to a (malformed e f) same = let z : ◌≡◌ {A = ℕ} 0 1 = cc in absurd (omega arith)
-      to a (at-section p h) same = let is : p ≡ k = cc in subst (AtSection rows i q l) is h
+      to : (a : Answer) → Way a → a ≡ refuse WrongA0 k → AtSection rows i q l k
+      to a (wrong_size e) same = let why = same-why _ _ _ _ same in let z : ◌≡◌ {A = ℕ} 0 1 = cc in absurd (omega arith)
+      to a (malformed e f) same = let why = same-why _ _ _ _ same in let z : ◌≡◌ {A = ℕ} 0 1 = cc in absurd (omega arith)
+      to a (at-section p h) same = let is : p ≡ k = same-place _ _ _ _ same in subst (AtSection rows i q l) is h
       to a (accepted h) same = let z : ◌≡◌ {A = ℕ} 0 1 = cc in absurd (omega arith)
 
-      back : AtSection rows i q l k → answered ≡ Refused WrongA0 k
+      back : AtSection rows i q l k → answered ≡ refuse WrongA0 k
       back h = rw (h.numbers.sizes, h.numbers.fine) (first-is l k h.first)
 
   -- exactly when not at all
-  pub acceptance_told : (answered ≡ Done 0) ↔ Accepted rows i q l
+  pub acceptance_told : (answered ≡ Ok 0) ↔ Accepted rows i q l
   acceptance_told = (to answered way, back)
     where
-      to : (a : Answer) → Way a → a ≡ Done 0 → Accepted rows i q l
+      to : (a : Answer) → Way a → a ≡ Ok 0 → Accepted rows i q l
       to a (wrong_size e) same = let z : ◌≡◌ {A = ℕ} 0 1 = cc in absurd (omega arith)
       to a (malformed e f) same = let z : ◌≡◌ {A = ℕ} 0 1 = cc in absurd (omega arith)
       to a (at-section p h) same = let z : ◌≡◌ {A = ℕ} 0 1 = cc in absurd (omega arith)
       to a (accepted h) same = h
 
-      back : Accepted rows i q l → answered ≡ Done 0
+      back : Accepted rows i q l → answered ≡ Ok 0
       back h = rw (h.numbers.sizes, h.numbers.fine) (none_is l h.each)
 
 -- ---- what an accepted call leaves
@@ -94,7 +95,7 @@ filtered-alike (b ∷ bs) xs h = rw (eqb-suc-zero (length bs)) (go (leb (length 
     go true = h
     go false = same_rows (cascade (b ∷ bs) xs)
 
-pub done-cascade : (rows : ℕ) (i q l i' q' : List Float) → Iir rows i q l (Done 0) i' q' → AlikeRows i' (cascade (sections_of l) i) × AlikeRows q' (cascade (sections_of l) q)
+pub done-cascade : (rows : ℕ) (i q l i' q' : List Float) → Iir rows i q l (Ok 0) i' q' → AlikeRows i' (cascade (sections_of l) i) × AlikeRows q' (cascade (sections_of l) q)
 done-cascade rows i q l i' q' h =
     let fine = fine-sections l ((acceptance_told rows i q l).0 (sym h.answer)).numbers.fine in
     let left = done_filters rows i q l 0 i' q' h in

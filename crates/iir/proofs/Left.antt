@@ -1,5 +1,7 @@
 -- Rows that a call leaves as they came: both where it is refused, both where there is no section, and a second row of no samples. A row goes by the
 -- answer. Assumes nothing.
+use Rattle.quant.specs.Refusal.{Answer, refuse}
+use Rattle.std.specs.Prelude.{Ok, Err}
 use Prim.Native.Nat.{ℕ}
 use mathlib.Core.Path.{◌≡◌, refl, ◌∙◌}
 use mathlib.Core.Bool.{Bool, true, false, cond, and-false}
@@ -7,8 +9,6 @@ use mathlib.Core.List.{List, [], ◌∷◌}
 use lib.Dec.{leb, eqb-suc-zero}
 use lib.ListN.{length}
 use lib.Ieee.{Float}
-use Rattle.quant.specs.declared.refusal.Answer.{Answer}
-use Rattle.quant.specs.declared.refusal.Answer.TheVariants.{Done, Refused}
 use Rattle.quant.specs.declared.refusal.Refusal.{Refusal}
 use Rattle.rows.specs.Rows.{after}
 use Rattle.rows.proofs.After.{by_answer}
@@ -18,18 +18,18 @@ use Rattle.iir.specs.Filter.{cascade, filtered}
 use Rattle.iir.specs.Iir.{iir_answer, Iir}
 use Rattle.iir.proofs.Pipeline.{pipeline-cascade}
 
-pub refused-left : (rows : ℕ) (i q l : List Float) (r : Refusal) (place : ℕ) (i' q' : List Float) → Iir rows i q l (Refused r place) i' q' → (i' ≡ i) × (q' ≡ q)
+pub refused-left : (rows : ℕ) (i q l : List Float) (r : Refusal) (place : ℕ) (i' q' : List Float) → Iir rows i q l (refuse r place) i' q' → (i' ≡ i) × (q' ≡ q)
 refused-left rows i q l r place i' q' h =
     (by_answer (filtered (sections_of l) i) i h.answer h.i-row, by_answer (filtered (sections_of l) q) q h.answer h.q-row)
 
-pub done_filters : (rows : ℕ) (i q l : List Float) (count : ℕ) (i' q' : List Float) → Iir rows i q l (Done count) i' q'
+pub done_filters : (rows : ℕ) (i q l : List Float) (count : ℕ) (i' q' : List Float) → Iir rows i q l (Ok count) i' q'
     → (i' ≡ filtered (sections_of l) i) × (q' ≡ filtered (sections_of l) q)
 done_filters rows i q l count i' q' h =
     (by_answer (filtered (sections_of l) i) i h.answer h.i-row, by_answer (filtered (sections_of l) q) q h.answer h.q-row)
 
 either : (a : Answer) (xs : List Float) → after a xs xs ≡ xs
-either (Done count) xs = refl
-either (Refused why place) xs = refl
+either (Ok count) xs = refl
+either (Err e) xs = refl
 
 pub none_left : (rows : ℕ) (i q : List Float) (r : Answer) (i' q' : List Float) → Iir rows i q [] r i' q' → (i' ≡ i) × (q' ≡ q)
 unfolding sections_from

@@ -1,6 +1,6 @@
 -- Sums, differences and products by a finite number keep doubles alike: what a zero's sign does to a result is again only a zero's sign.
 -- Assumes nothing.
-use Prim.Native.Nat.{ℕ, zero, suc, ◌-◌, ◌*◌}
+use Prim.Native.Nat.{ℕ, zero, suc, ◌*◌}
 use native.Mathlib.Nat.{mul-zero, mul-pos, zero-lt-suc}
 use mathlib.Core.Path.{◌≡◌, refl, ap, ◌∙◌}
 use mathlib.Core.Bool.{Bool}

@@ -1,8 +1,7 @@
 -- Document 01, the filter step: rows and "0..16 filter sections"; and document 02, P5: "Refusals: a new 22, after 13 and 2 (which now reads a0),
 -- with the section from 0 as place; rows stay". Definitions only.
-use Rattle.std.specs.Prelude.{ℕ, ◌%◌, ◌≡◌, Bool, ◌&&◌, List, leb, eqb, length, Float}
-use Rattle.quant.specs.declared.refusal.Answer.{Answer}
-use Rattle.quant.specs.declared.refusal.Answer.TheVariants.{Done, Refused}
+use Rattle.quant.specs.Refusal.{Answer}
+use Rattle.std.specs.Prelude.{ℕ, ◌%◌, ◌≡◌, Bool, ◌&&◌, List, leb, eqb, length, Float, Ok, Err}
 use Rattle.rows.specs.Rows.{rows_fit, all_finite, answer_of, after}
 use Rattle.iir.specs.Section.{sections_of, a0s_judged}
 use Rattle.iir.specs.Filter.{filtered}
@@ -13,8 +12,8 @@ iir_fits rows i q numbers = rows_fit rows i q && eqb (numbers % 6) 0 && leb numb
 
 -- of two judgements the first that refuses
 abbrev pub first_refusal : Answer → Answer → Answer
-first_refusal (Done count) next = next
-first_refusal (Refused why place) next = Refused why place
+first_refusal (Ok count) next = next
+first_refusal (Err e) next = Err e
 
 -- 13 and 2 as every step has them, 2 of all six numbers of every section; then 22
 abbrev pub iir_answer : ℕ → ℕ → ℕ → List Float → Answer

@@ -1,11 +1,10 @@
 -- Document 01, IIR: a second-order section; and document 02, P5: "each section is b0 b1 b2 a0 a1 a2 and a0 must be 1". Definitions only.
-use Rattle.std.specs.Prelude.{ℕ, zero, suc, ◌+◌, ◌*◌, ◌/◌, Bool, true, ◌&&◌, cond, List, [], ◌∷◌, length, get_or, Float}
+use Rattle.quant.specs.Refusal.{Answer, refuse}
+use Rattle.std.specs.Prelude.{ℕ, zero, suc, ◌+◌, ◌*◌, ◌/◌, Bool, true, ◌&&◌, cond, List, [], ◌∷◌, length, get_or, Float, Ok}
 use Rattle.std.specs.Float.{nan, binary64}
 use Rattle.std.specs.Float.Ieee.{add, sub, mul, eq}
 use Rattle.std.specs.Float.Ieee.Scale.{finite}
 use Rattle.exact.specs.Doubles.{nought, one}
-use Rattle.quant.specs.declared.refusal.Answer.{Answer}
-use Rattle.quant.specs.declared.refusal.Answer.TheVariants.{Done, Refused}
 use Rattle.quant.specs.declared.refusal.Refusal.TheVariants.{WrongA0}
 use Rattle.iir.specs.declared.biquad.Biquad.{Biquad}
 
@@ -54,8 +53,8 @@ a0_at l k = get_or l (6 * k + 3) nan
 
 -- of n sections from the k-th on the first whose a0 does not equal 1, with its number "from 0 as place"; `Done 0` where there is none
 unfoldable pub a0s_from : List Float → ℕ → ℕ → Answer
-a0s_from l zero k = Done 0
-a0s_from l (suc n) k = cond (eq (a0_at l k) one) (a0s_from l n (suc k)) (Refused WrongA0 k)
+a0s_from l zero k = Ok 0
+a0s_from l (suc n) k = cond (eq (a0_at l k) one) (a0s_from l n (suc k)) (refuse WrongA0 k)
 
 abbrev pub a0s_judged : List Float → Answer
 a0s_judged l = a0s_from l (length l / 6) 0

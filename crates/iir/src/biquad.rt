@@ -4,7 +4,7 @@ ghost use Rattle.iir.specs.Section.{ran, section_at, a0s_judged};
 
 use quant::refusal::{Answer, Refusal};
 
-#[derive(Clone, Copy)]
+#[derive(Clone, Copy, Debug, Default, PartialEq)]
 pub struct Biquad {
     pub b0: f64,
     pub b1: f64,
@@ -17,19 +17,16 @@ pub struct Biquad {
 }
 
 impl Biquad {
+    #[tactic(auto, unfolding(crate::specs::Section::ran))]
     pub(crate) fn run(self, x: f64) -> Biquad
         ensures { result ≡ ran self x }
     {
         let y = self.b0 * x + self.s1;
         Biquad {
-            b0: self.b0,
-            b1: self.b1,
-            b2: self.b2,
-            a1: self.a1,
-            a2: self.a2,
             s1: self.b1 * x - self.a1 * y + self.s2,
             s2: self.b2 * x - self.a2 * y,
             y,
+            ..self
         }
     }
 }
@@ -46,9 +43,7 @@ pub(crate) fn section(numbers: &[f64], k: usize) -> Biquad
         b2: numbers[at + 2],
         a1: numbers[at + 4],
         a2: numbers[at + 5],
-        s1: 0.0,
-        s2: 0.0,
-        y: 0.0,
+        ..Biquad::default()
     }
 }
 
@@ -56,14 +51,10 @@ pub(crate) fn section(numbers: &[f64], k: usize) -> Biquad
 pub(crate) fn a0s_judged(numbers: &[f64]) -> Answer
     ensures { result ≡ a0s_judged numbers.now }
 {
-    let count = numbers.len() / 6;
-    let mut k: usize = 0;
-    while k < count {
-        if numbers[6 * k + 3] == 1.0 {
-            k += 1;
-        } else {
-            return Answer::Refused(Refusal::WrongA0, k);
+    for k in 0..numbers.len() / 6 {
+        if numbers[6 * k + 3] != 1.0 {
+            return Err(Refusal::WrongA0.at(k));
         }
     }
-    Answer::Done(0)
+    Ok(0)
 }

@@ -11,55 +11,41 @@ pub(crate) fn filter_rows(i: &mut [f64], q: &mut [f64], numbers: &[f64])
     ensures i_after { i.new ≡ filtered (sections_of numbers.now) i.old }
     ensures q_after { q.new ≡ filtered (sections_of numbers.now) q.old }
 {
-    if i.len() == q.len() {
-        if numbers.len() / 6 == 1 {
-            side_by_side(i, q, section(numbers, 0));
-            return;
-        }
+    if i.len() == q.len() && numbers.len() / 6 == 1 {
+        side_by_side(i, q, section(numbers, 0));
+    } else {
+        filter(i, numbers);
+        filter(q, numbers);
     }
-    filter(i, numbers);
-    filter(q, numbers);
 }
 
 fn filter(row: &mut [f64], numbers: &[f64])
     ensures { row.new ≡ filtered (sections_of numbers.now) row.old }
 {
-    let count = numbers.len() / 6;
-    if count == 0 {
-        return;
-    }
-    if count == 1 {
-        one(row, section(numbers, 0));
-        return;
-    }
-    if count == 2 {
-        pipeline_of_two(row, section(numbers, 0), section(numbers, 1));
-        return;
-    }
-    if count == 3 {
-        pipeline_of_three(
+    match numbers.len() / 6 {
+        0 => {}
+        1 => one(row, section(numbers, 0)),
+        2 => pipeline_of_two(row, section(numbers, 0), section(numbers, 1)),
+        3 => pipeline_of_three(
             row,
             section(numbers, 0),
             section(numbers, 1),
             section(numbers, 2),
-        );
-        return;
-    }
-    if count == 4 {
-        pipeline_of_four(
+        ),
+        4 => pipeline_of_four(
             row,
             section(numbers, 0),
             section(numbers, 1),
             section(numbers, 2),
             section(numbers, 3),
-        );
-        return;
+        ),
+        _ => in_cascade(row, numbers),
     }
-    in_cascade(row, numbers);
 }
 
 // The pipeline is the cascade, but that a section starts from where the turns before the first sample leave it. In each of them it
 // takes what the section before it gave the turn before.
+// Kept: one for each number of sections, as `flight` has them.
 fn pipeline_of_two(row: &mut [f64], a: Biquad, b: Biquad)
     ensures { row.new ≡ pipeline (a ∷ b ∷ []) row.old }
 {
@@ -85,11 +71,12 @@ fn pipeline_of_four(row: &mut [f64], a: Biquad, b: Biquad, c: Biquad, d: Biquad)
 }
 
 // Four sections at a time.
+// Kept: `step_by(4)` is no plainer, since it does not say where the rest begins.
 fn in_cascade(row: &mut [f64], numbers: &[f64])
     ensures { row.new ≡ cascade (sections_of numbers.now) row.old }
 {
     let count = numbers.len() / 6;
-    let mut k: usize = 0;
+    let mut k = 0;
     while k + 4 <= count {
         four(
             row,
@@ -108,21 +95,15 @@ fn rest_in_cascade(row: &mut [f64], numbers: &[f64], k: usize, left: usize)
     requires { (left < 4) × (6 * (k + left) ≤ length numbers.now) }
     ensures { row.new ≡ cascade (sections_from numbers.now left k) row.old }
 {
-    if left == 0 {
-        return;
+    match left {
+        0 => {}
+        1 => one(row, section(numbers, k)),
+        2 => two(row, section(numbers, k), section(numbers, k + 1)),
+        _ => three(
+            row,
+            section(numbers, k),
+            section(numbers, k + 1),
+            section(numbers, k + 2),
+        ),
     }
-    if left == 1 {
-        one(row, section(numbers, k));
-        return;
-    }
-    if left == 2 {
-        two(row, section(numbers, k), section(numbers, k + 1));
-        return;
-    }
-    three(
-        row,
-        section(numbers, k),
-        section(numbers, k + 1),
-        section(numbers, k + 2),
-    );
 }

@@ -1,6 +1,7 @@
 // A row through one to four sections, from the states that they have.
 // Sections in flight: while the first takes a sample, each other takes what the one before it gave for the sample before. So none waits
 // for another, and the row goes through four sections about as fast as through one.
+// Kept: a function for each number of sections; over an array of N, the launch, each turn and the landing would each be a loop over the sections, which is no plainer.
 ghost use Rattle.std.specs.Prelude.{◌≡◌, [], ◌∷◌, ◌≤◌, length, drop};
 ghost use Rattle.iir.specs.Filter.{cascade};
 ghost use Rattle.iir.specs.Section.{ran};
@@ -12,11 +13,9 @@ pub(crate) fn one(row: &mut [f64], a: Biquad)
     ensures { row.new ≡ through a row.old }
 {
     let mut p = a;
-    let mut k: usize = 0;
-    while k < row.len() {
-        p = p.run(row[k]);
-        row[k] = p.y;
-        k += 1;
+    for x in row.iter_mut() {
+        p = p.run(*x);
+        *x = p.y;
     }
 }
 
@@ -45,19 +44,17 @@ pub(crate) fn side_by_side(i: &mut [f64], q: &mut [f64], a: Biquad)
     ensures q_after { q.new ≡ through a q.old }
 {
     let mut p = Beside { i: a, q: a };
-    let mut k: usize = 0;
-    while k < i.len() {
+    for k in 0..i.len() {
         p = p.run(i[k], q[k]);
         i[k] = p.i.y;
         q[k] = p.q.y;
-        k += 1;
     }
 }
 
 pub(crate) fn two(row: &mut [f64], a: Biquad, b: Biquad)
     ensures { row.new ≡ cascade (a ∷ b ∷ []) row.old }
 {
-    if row.len() < 1 {
+    if row.is_empty() {
         return;
     }
     let p = a.run(row[0]);
@@ -102,15 +99,14 @@ fn two_in_flight(row: &mut [f64], a: Biquad, b: Biquad)
 {
     let mut p = a;
     let mut q = b;
-    let mut k: usize = 0;
-    while k + 1 < row.len() {
+    let last = row.len() - 1;
+    for k in 0..last {
         q = q.run(p.y);
         p = p.run(row[k + 1]);
         row[k] = q.y;
-        k += 1;
     }
-    row[k] = p.y;
-    one(&mut row[k..], q);
+    row[last] = p.y;
+    one(&mut row[last..], q);
 }
 
 // The first section has taken two samples already, the second one.
@@ -121,16 +117,15 @@ fn three_in_flight(row: &mut [f64], a: Biquad, b: Biquad, c: Biquad)
     let mut p = a;
     let mut q = b;
     let mut r = c;
-    let mut k: usize = 0;
-    while k + 2 < row.len() {
+    let last = row.len() - 2;
+    for k in 0..last {
         r = r.run(q.y);
         q = q.run(p.y);
         p = p.run(row[k + 2]);
         row[k] = r.y;
-        k += 1;
     }
-    row[k + 1] = p.y;
-    two_in_flight(&mut row[k..], q, r);
+    row[last + 1] = p.y;
+    two_in_flight(&mut row[last..], q, r);
 }
 
 // The first section has taken three samples already, the second two, the third one.
@@ -142,15 +137,14 @@ fn four_in_flight(row: &mut [f64], a: Biquad, b: Biquad, c: Biquad, d: Biquad)
     let mut q = b;
     let mut r = c;
     let mut s = d;
-    let mut k: usize = 0;
-    while k + 3 < row.len() {
+    let last = row.len() - 3;
+    for k in 0..last {
         s = s.run(r.y);
         r = r.run(q.y);
         q = q.run(p.y);
         p = p.run(row[k + 3]);
         row[k] = s.y;
-        k += 1;
     }
-    row[k + 2] = p.y;
-    three_in_flight(&mut row[k..], q, r, s);
+    row[last + 2] = p.y;
+    three_in_flight(&mut row[last..], q, r, s);
 }

@@ -10,7 +10,6 @@ mod flight;
 
 use biquad::a0s_judged;
 use filter::filter_rows;
-use quant::judge::both;
 use quant::refusal::Answer;
 use rows::{all_finite, answer, rows_fit};
 
@@ -18,12 +17,9 @@ use rows::{all_finite, answer, rows_fit};
 pub fn iir(rows: usize, i: &mut [f64], q: &mut [f64], sections: &[f64]) -> Answer
     ensures { Iir rows i.old q.old sections.now result i.new q.new }
 {
-    let verdict = judged(rows, i.len(), q.len(), sections);
-    let Answer::Done(_) = verdict else {
-        return verdict;
-    };
+    let done = judged(rows, i.len(), q.len(), sections)?;
     filter_rows(i, q, sections);
-    verdict
+    Ok(done)
 }
 
 // Sizes by 13, then a number that is not finite by 2, then an a0 that is not 1 by 22.
@@ -42,5 +38,5 @@ fn judged(rows: usize, i: usize, q: usize, sections: &[f64]) -> Answer
 fn sizes_fit(rows: usize, i: usize, q: usize, numbers: usize) -> bool
     ensures { result ≡ iir_fits rows i q numbers }
 {
-    both(both(rows_fit(rows, i, q), numbers % 6 == 0), numbers <= 96)
+    rows_fit(rows, i, q) && numbers % 6 == 0 && numbers <= 96
 }

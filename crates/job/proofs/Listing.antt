@@ -1,11 +1,11 @@
 -- Words that are numbers, one after another. Assumes nothing.
-use Prim.Native.Nat.{ℕ, zero, suc, ◌+◌, ◌-◌, ◌*◌, ◌≤◌, ◌<◌}
+use Prim.Native.Nat.{ℕ, zero, suc, ◌+◌, ◌-◌, ◌≤◌, ◌<◌}
 use mathlib.Core.Bool.{Bool, true, false, not, true≢false, ◌&&◌}
 use mathlib.Core.List.{List, [], ◌∷◌}
 use mathlib.Core.Logic.{◌⊎◌, inl, inr}
 use mathlib.Core.Path.{◌≡◌, refl, sym, ap, ◌∙◌}
 use native.Mathlib.Omega.{arith}
-use native.Mathlib.Nat.{zero-lt-suc, mul-le-mul_right, mul-le-mul_left, le_trans}
+use native.Mathlib.Nat.{zero-lt-suc}
 use borrow.Author.Tests.{eq-eqb, eqb-true, lt-ltb}
 use lib.Dec.{eqb}
 use lib.ListN.{length, take, drop, length-drop}
@@ -90,10 +90,3 @@ module _ (line : List ℕ) (at left p : ℕ) (within : at ≤ length line) (plac
 
   pub end-within : at + p ≤ length line
   end-within = omega (arith, here, place-within 32 (drop at line), size)
-
--- the factors of at most 511 names
-pub square : (n : ℕ) → n ≤ 511 → n * n ≤ 261121
-square n h =
-    let once : n * n ≤ n * 511 = mul-le-mul_left n h in
-    let twice : n * 511 ≤ 511 * 511 = mul-le-mul_right 511 h in
-    le_trans once twice

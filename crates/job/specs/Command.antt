@@ -1,5 +1,5 @@
 -- The seven commands of the job text, from a line's words. Definitions only.
-use Rattle.std.specs.Prelude.{ℕ, cond, List, eqb, Float, length}
+use Rattle.std.specs.Prelude.{ℕ, cond, List, eqb, Float, length, Option, Some, None}
 use Rattle.commands.specs.declared.command.Command.{Command}
 use Rattle.commands.specs.declared.command.Command.TheVariants as command
 use Rattle.fields.specs.Value.{name_field, shape_field, flag_field, pair_field}
@@ -7,7 +7,6 @@ use Rattle.fields.specs.Words.{is_word}
 use Rattle.job.specs.declared.line.Line.{Line}
 use Rattle.job.specs.declared.line.Line.TheVariants as line
 use Rattle.job.specs.declared.turn.Turn.{Turn}
-use Rattle.job.specs.declared.turn.Turn.TheVariants.{By, Bad}
 use Rattle.job.specs.Given as given
 use Rattle.job.specs.Given.{word}
 use Rattle.job.specs.Keys.{play_word, shift_phase_word, set_phase_word, shift_freq_word, set_freq_word, swap_phase_word, barrier_word, ch_key, shape_key, amp_key}
@@ -19,21 +18,21 @@ use Rattle.job.specs.Turn.{turn_of}
 abbrev pub arranged : Float → Float → Command → Line
 arranged start span c = line.Command (record { start = record { 0 = start }; span = record { 0 = span }; command = c })
 
-abbrev pub shift_phase_by : Turn → Line
-shift_phase_by (By n x start span) = arranged start span (command.ShiftPhase n (record { 0 = x }))
-shift_phase_by Bad = line.Syntax
+abbrev pub shift_phase_by : Option Turn → Line
+shift_phase_by (Some t) = arranged t.start t.span (command.ShiftPhase t.channel (record { 0 = t.number }))
+shift_phase_by None = line.Syntax
 
-abbrev pub set_phase_by : Turn → Line
-set_phase_by (By n x start span) = arranged start span (command.SetPhase n (record { 0 = x }))
-set_phase_by Bad = line.Syntax
+abbrev pub set_phase_by : Option Turn → Line
+set_phase_by (Some t) = arranged t.start t.span (command.SetPhase t.channel (record { 0 = t.number }))
+set_phase_by None = line.Syntax
 
-abbrev pub shift_freq_by : Turn → Line
-shift_freq_by (By n x start span) = arranged start span (command.ShiftFreq n (record { 0 = x }))
-shift_freq_by Bad = line.Syntax
+abbrev pub shift_freq_by : Option Turn → Line
+shift_freq_by (Some t) = arranged t.start t.span (command.ShiftFreq t.channel (record { 0 = t.number }))
+shift_freq_by None = line.Syntax
 
-abbrev pub set_freq_by : Turn → Line
-set_freq_by (By n x start span) = arranged start span (command.SetFreq n (record { 0 = x }))
-set_freq_by Bad = line.Syntax
+abbrev pub set_freq_by : Option Turn → Line
+set_freq_by (Some t) = arranged t.start t.span (command.SetFreq t.channel (record { 0 = t.number }))
+set_freq_by None = line.Syntax
 
 -- `swap_phase a=NAME b=NAME start=N span=N`
 unfoldable pub swap_of : List (List ℕ) → Line
@@ -58,7 +57,7 @@ unfoldable pub play_of : List (List ℕ) → Line
 play_of words =
     cond (eqb (length words) 12)
     (given.name line.Syntax (name_field ch_key (word words 1)) (λ channel.
-    given.shape line.Syntax (shape_field shape_key (word words 2)) (λ shaped shape.
+    given.shape line.Syntax (shape_field shape_key (word words 2)) (λ shape.
     given.both line.Syntax (pair_field amp_key width_key (word words 3) (word words 4)) (λ amplitude width.
     given.both line.Syntax (pair_field plateau_key drag_key (word words 5) (word words 6)) (λ plateau drag.
     given.both line.Syntax (pair_field freq_key phase_key (word words 7) (word words 8)) (λ frequency phase.
@@ -66,7 +65,6 @@ play_of words =
     given.both line.Syntax (pair_field start_key span_key (word words 10) (word words 11)) (λ start span.
     arranged start span (command.Play (record {
       channel = channel;
-      shaped = shaped;
       shape = shape;
       amplitude = record { 0 = amplitude };
       width = record { 0 = width };

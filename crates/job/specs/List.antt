@@ -1,10 +1,6 @@
 -- The lines that are lists: names, numbers, or lines behind the line, as many as a count says. Definitions only.
-use Rattle.std.specs.Prelude.{ℕ, ◌+◌, ◌-◌, ◌*◌, Bool, true, false, ◌&&◌, not, cond, List, [], ◌∷◌, eqb, ltb, length, drop}
+use Rattle.std.specs.Prelude.{ℕ, ◌+◌, ◌-◌, ◌*◌, Bool, true, false, ◌&&◌, not, cond, List, [], ◌∷◌, eqb, ltb, length, drop, Option, Some, None, Float}
 use Rattle.decimal.specs.Number.{number_of}
-use Rattle.decimal.specs.declared.digits.Digits.{Digits}
-use Rattle.decimal.specs.declared.digits.Digits.TheVariants as digits
-use Rattle.decimal.specs.declared.number.Number.{Number}
-use Rattle.decimal.specs.declared.number.Number.TheVariants as number
 use Rattle.fields.specs.Value.{whole_field, name_field}
 use Rattle.fields.specs.Words.{is_word}
 use Rattle.job.specs.declared.line.Line.{Line}
@@ -16,9 +12,9 @@ use Rattle.job.specs.Keys.{degree_key, controls_key, knots_key}
 
 -- ---- words that are numbers
 
-abbrev pub is_number : Number → Bool
-is_number (number.Double x) = true
-is_number number.Bad = false
+abbrev pub is_number : Option Float → Bool
+is_number (Some x) = true
+is_number None = false
 
 unfoldable pub all_numbers : List (List ℕ) → Bool
 all_numbers [] = true
@@ -32,9 +28,6 @@ numbers_from k words = all_numbers (drop k words)
 unfoldable pub stops_at : ℕ → List ℕ → Bool
 stops_at left w = cond (ltb 0 left) false (not (is_number (number_of w)))
 
-abbrev pub less_of : ℕ → ℕ
-less_of n = n - 1
-
 -- ---- the lines
 
 -- `mixer N N N N N N`
@@ -42,19 +35,19 @@ unfoldable pub mixer_of : List (List ℕ) → Line
 mixer_of words = cond (eqb (length words) 7) (cond (numbers_from 1 words) Mixer Syntax) Syntax
 
 -- `WORD COUNT N..`: the count, if so many numbers stand behind it
-unfoldable pub counted_of : List (List ℕ) → Digits
+unfoldable pub counted_of : List (List ℕ) → Option ℕ
 counted_of words =
-    cond (ltb (length words) 2) digits.Bad
-    (given.whole digits.Bad (whole_field [] (word words 1)) (λ n.
-    cond (eqb (length words - 2) n) (cond (numbers_from 2 words) (digits.Value n) digits.Bad) digits.Bad))
+    cond (ltb (length words) 2) None
+    (given.whole None (whole_field [] (word words 1)) (λ n.
+    cond (eqb (length words - 2) n) (cond (numbers_from 2 words) (Some n) None) None))
 
-abbrev pub iir_by : Digits → Line
-iir_by (digits.Value n) = Iir n
-iir_by digits.Bad = Syntax
+abbrev pub iir_by : Option ℕ → Line
+iir_by (Some n) = Iir n
+iir_by None = Syntax
 
-abbrev pub fir_by : Digits → Line
-fir_by (digits.Value n) = Fir n
-fir_by digits.Bad = Syntax
+abbrev pub fir_by : Option ℕ → Line
+fir_by (Some n) = Fir n
+fir_by None = Syntax
 
 -- `crosstalk N NAME.. FACTOR..`: N names, which may be any words, and N * N factors
 unfoldable pub crosstalk_of : List (List ℕ) → Line

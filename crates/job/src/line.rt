@@ -1,15 +1,14 @@
 // A line, by the word that it begins with. The job text's table, in its order.
-ghost use Rattle.std.specs.Prelude.{◌≡◌};
+ghost use Rattle.std.specs.Prelude.{◌≡◌, unwrap_or};
 ghost use Rattle.fields.specs.Words.{words_of};
 ghost use Rattle.job.specs.Line.{line_of, setting_of, action_of, tables_of, channel_of, shape_of, rows_of, sample_of};
+ghost use Rattle.job.specs.declared.line.Line.TheVariants.{Syntax};
 
 use super::command::command;
 use commands::command::Arranged;
-use decimal::digits::Digits;
-use decimal::number::Number;
 use executor::osc::OscState;
-use fields::pair::{Pair, pair_in};
-use fields::value::{Called, Flag, Level, flag_in, level_in, name_in, number_in, whole_in};
+use fields::pair::pair_in;
+use fields::value::{flag_in, level_in, name_in, number_in, whole_in};
 use fields::words::{count, is_word};
 use naming::Name;
 use quant::quantity::{Amplitude, Frequency, Phase, Time};
@@ -48,21 +47,20 @@ pub enum Line {
 }
 
 // What a line says. Total: any bytes at all.
+#[tactic(auto, unfolding(crate::specs::Line::line_of))]
 pub fn read(line: &[u8]) -> Line
     ensures { result ≡ line_of line.now }
 {
-    if line.len() < 1 {
-        return Line::Nothing;
+    match line {
+        [] | [b'#', ..] => Line::Nothing,
+        _ => setting(line).unwrap_or(Line::Syntax),
     }
-    if line[0] == b'#' {
-        return Line::Nothing;
-    }
-    setting(line)
 }
 
-// The lines that set the bench up; any other is an action.
-fn setting(line: &[u8]) -> Line
-    ensures { result ≡ setting_of (words_of line.now) }
+// The lines that set the bench up; any other is an action. Here and below, none is a line that cannot be read.
+#[tactic(auto, unfolding(crate::specs::Line::setting_of))]
+fn setting(line: &[u8]) -> Option<Line>
+    ensures { unwrap_or result Syntax ≡ setting_of (words_of line.now) }
 {
     if is_word(line, 0, b"tables") {
         return tables(line);
@@ -83,129 +81,101 @@ fn setting(line: &[u8]) -> Line
 }
 
 // The words that stand alone; any other line is a command or a list.
-fn action(line: &[u8]) -> Line
-    ensures { result ≡ action_of (words_of line.now) }
+#[tactic(auto, unfolding(crate::specs::Line::action_of))]
+fn action(line: &[u8]) -> Option<Line>
+    ensures { unwrap_or result Syntax ≡ action_of (words_of line.now) }
 {
     if count(line) != 1 {
         return command(line);
     }
     if is_word(line, 0, b"run") {
-        return Line::Run;
+        return Some(Line::Run);
     }
     if is_word(line, 0, b"states") {
-        return Line::States;
+        return Some(Line::States);
     }
     if is_word(line, 0, b"print") {
-        return Line::Print;
+        return Some(Line::Print);
     }
     command(line)
 }
 
 // `tables amp_tol=N time_tol=N oversize=0|1`.
-fn tables(line: &[u8]) -> Line
-    ensures { result ≡ tables_of (words_of line.now) }
+#[tactic(auto, unfolding(crate::specs::Line::tables_of))]
+fn tables(line: &[u8]) -> Option<Line>
+    ensures { unwrap_or result Syntax ≡ tables_of (words_of line.now) }
 {
     if count(line) != 4 {
-        return Line::Syntax;
+        return None;
     }
-    let tolerances = pair_in(line, 1, b"amp_tol=", 2, b"time_tol=");
-    let Pair::Both(amp, time) = tolerances else {
-        return Line::Syntax;
-    };
-    let oversize = flag_in(line, 3, b"oversize=");
-    let Flag::Is(allowed) = oversize else {
-        return Line::Syntax;
-    };
-    Line::Tables(Amplitude(amp), Time(time), allowed)
+    let (amp, time) = pair_in(line, 1, b"amp_tol=", 2, b"time_tol=")?;
+    let allowed = flag_in(line, 3, b"oversize=")?;
+    Some(Line::Tables(Amplitude(amp), Time(time), allowed))
 }
 
 // `channel NAME base=N delta=N phase=N`.
-fn channel(line: &[u8]) -> Line
-    ensures { result ≡ channel_of (words_of line.now) }
+#[tactic(auto, unfolding(crate::specs::Line::channel_of))]
+fn channel(line: &[u8]) -> Option<Line>
+    ensures { unwrap_or result Syntax ≡ channel_of (words_of line.now) }
 {
     if count(line) != 5 {
-        return Line::Syntax;
+        return None;
     }
-    let named = name_in(line, 1, b"");
-    let Called::Name(n) = named else {
-        return Line::Syntax;
-    };
-    let frequencies = pair_in(line, 2, b"base=", 3, b"delta=");
-    let Pair::Both(base, delta) = frequencies else {
-        return Line::Syntax;
-    };
-    let turns = number_in(line, 4, b"phase=");
-    let Number::Double(phase) = turns else {
-        return Line::Syntax;
-    };
-    Line::Channel(
+    let n = name_in(line, 1, b"")?;
+    let (base, delta) = pair_in(line, 2, b"base=", 3, b"delta=")?;
+    let phase = number_in(line, 4, b"phase=")?;
+    Some(Line::Channel(
         n,
         OscState {
             base: Frequency(base),
             delta: Frequency(delta),
             phase: Phase(phase),
         },
-    )
+    ))
 }
 
 // `shape NAME hann`.
-fn shape(line: &[u8]) -> Line
-    ensures { result ≡ shape_of (words_of line.now) }
+#[tactic(auto, unfolding(crate::specs::Line::shape_of))]
+fn shape(line: &[u8]) -> Option<Line>
+    ensures { unwrap_or result Syntax ≡ shape_of (words_of line.now) }
 {
     if count(line) != 3 {
-        return Line::Syntax;
+        return None;
     }
     if !is_word(line, 2, b"hann") {
-        return Line::Syntax;
+        return None;
     }
-    let named = name_in(line, 1, b"");
-    match named {
-        Called::Name(n) => Line::Shape(n),
-        Called::Bad => Line::Syntax,
-    }
+    Some(Line::Shape(name_in(line, 1, b"")?))
 }
 
 // `rows R LENGTH`.
-fn rows(line: &[u8]) -> Line
-    ensures { result ≡ rows_of (words_of line.now) }
+#[tactic(auto, unfolding(crate::specs::Line::rows_of))]
+fn rows(line: &[u8]) -> Option<Line>
+    ensures { unwrap_or result Syntax ≡ rows_of (words_of line.now) }
 {
     if count(line) != 3 {
-        return Line::Syntax;
+        return None;
     }
-    let many = whole_in(line, 1, b"");
-    let Digits::Value(n) = many else {
-        return Line::Syntax;
-    };
-    let long = whole_in(line, 2, b"");
-    let Digits::Value(length) = long else {
-        return Line::Syntax;
-    };
-    Line::Rows(n, length)
+    let n = whole_in(line, 1, b"")?;
+    let length = whole_in(line, 2, b"")?;
+    Some(Line::Rows(n, length))
 }
 
 // `sample NAME rate=N delay=N level=INTEGER`.
-fn sample(line: &[u8]) -> Line
-    ensures { result ≡ sample_of (words_of line.now) }
+#[tactic(auto, unfolding(crate::specs::Line::sample_of))]
+fn sample(line: &[u8]) -> Option<Line>
+    ensures { unwrap_or result Syntax ≡ sample_of (words_of line.now) }
 {
     if count(line) != 5 {
-        return Line::Syntax;
+        return None;
     }
-    let named = name_in(line, 1, b"");
-    let Called::Name(n) = named else {
-        return Line::Syntax;
-    };
-    let clock = pair_in(line, 2, b"rate=", 3, b"delay=");
-    let Pair::Both(rate, delay) = clock else {
-        return Line::Syntax;
-    };
-    let aligned = level_in(line, 4, b"level=");
-    let Level::Is(level) = aligned else {
-        return Line::Syntax;
-    };
-    Line::Sample(Sampling {
+    let n = name_in(line, 1, b"")?;
+    let (rate, delay) = pair_in(line, 2, b"rate=", 3, b"delay=")?;
+    let level = level_in(line, 4, b"level=")?;
+    Some(Line::Sample(Sampling {
         channel: n,
         rate: Frequency(rate),
         delay: Time(delay),
         level,
-    })
+    }))
 }

@@ -3,36 +3,34 @@ ghost use Rattle.std.specs.Prelude.{◌≡◌};
 ghost use Rattle.fields.specs.Words.{words_of};
 ghost use Rattle.job.specs.Turn.{turn_of};
 
-use decimal::number::Number;
-use fields::pair::{Pair, pair_in};
-use fields::value::{Called, name_in, number_in};
+use fields::pair::pair_in;
+use fields::value::{name_in, number_in};
 use fields::words::count;
 use naming::Name;
 
 #[derive(Clone, Copy)]
-pub enum Turn {
-    By(Name, f64, f64, f64),
-    Bad,
+pub struct Turn {
+    pub channel: Name,
+    pub number: f64,
+    pub start: f64,
+    pub span: f64,
 }
 
 // `WORD ch=NAME KEY=N start=N span=N`.
-pub fn turn_by(line: &[u8], key: &[u8]) -> Turn
+#[tactic(auto, unfolding(crate::specs::Turn::turn_of))]
+pub fn turn_by(line: &[u8], key: &[u8]) -> Option<Turn>
     ensures { result ≡ turn_of key.now (words_of line.now) }
 {
     if count(line) != 5 {
-        return Turn::Bad;
+        return None;
     }
-    let named = name_in(line, 1, b"ch=");
-    let Called::Name(n) = named else {
-        return Turn::Bad;
-    };
-    let number = number_in(line, 2, key);
-    let Number::Double(x) = number else {
-        return Turn::Bad;
-    };
-    let times = pair_in(line, 3, b"start=", 4, b"span=");
-    let Pair::Both(start, span) = times else {
-        return Turn::Bad;
-    };
-    Turn::By(n, x, start, span)
+    let channel = name_in(line, 1, b"ch=")?;
+    let number = number_in(line, 2, key)?;
+    let (start, span) = pair_in(line, 3, b"start=", 4, b"span=")?;
+    Some(Turn {
+        channel,
+        number,
+        start,
+        span,
+    })
 }

@@ -1,4 +1,5 @@
 -- Laws of the first lines of a text: they are its first lines, what is left are its other lines, and each has a byte. Byte by byte. Assumes nothing.
+use Rattle.std.specs.Prelude.{Option, Some, None}
 use Prim.Native.Nat.{ℕ, zero, suc, ◌+◌, ◌-◌, ◌≤◌, ◌<◌}
 use native.Mathlib.Omega.{arith}
 use mathlib.Core.Path.{◌≡◌, refl, sym, ap, ◌∙◌}
@@ -9,9 +10,7 @@ use lib.Dec.{leb, eqb}
 use lib.ListN.{length, take, drop, length-drop, drop_of_length-le}
 use lib.Seq.{drop-drop}
 use Rattle.lines.specs.Text.{before, lines_of, line_length}
-use Rattle.job_sheet.specs.declared.first.First.TheVariants.{Bytes, Fewer}
 use Rattle.crosstalk.specs.declared.names.Crosstalk.{Crosstalk}
-use Rattle.job_sheet.specs.declared.first.First.{First}
 use Rattle.job_sheet.specs.First.{lines_bytes, first_lines, first_of}
 use Rattle.job_sheet.specs.Inset.{taken_of, Within}
 
@@ -139,13 +138,13 @@ pub record Going (text : List ℕ) (count at left : ℕ) : Type 0 where
   pub bytes : at + lines_bytes left (drop at text) ≡ lines_bytes count text
   pub lines : length (lines_of text) + left ≡ length (lines_of (drop at text)) + count
 
-pub starts : (text : List ℕ) (count : ℕ) → Going text count 0 count
-starts text count = record { within = omega arith; bytes = omega arith; lines = omega arith }
+pub starts : (text : List ℕ) (count : ℕ) → Going text count 0 (count - 0)
+starts text count = let all : count - 0 ≡ count = omega arith in rw all (record { within = omega arith; bytes = omega arith; lines = omega arith })
 
-pub goes_on : (text : List ℕ) (count at left next : ℕ) → Going text count at left → 0 < left → at < length text → next ≡ at + lines_bytes 1 (drop at text)
+a_line_on : (text : List ℕ) (count at left next : ℕ) → Going text count at left → 0 < left → at < length text → next ≡ at + lines_bytes 1 (drop at text)
     → Going text count next (left - 1)
-goes_on text count at zero next g more h e = absurd (omega arith)
-goes_on text count at (suc left) next g more h e =
+a_line_on text count at zero next g more h e = absurd (omega arith)
+a_line_on text count at (suc left) next g more h e =
     let some : 0 < length (drop at text) = rw (length-drop at text) (omega arith) in
     let further : drop (lines_bytes 1 (drop at text)) (drop at text) ≡ drop next text = drop-drop (lines_bytes 1 (drop at text)) at text ∙ ap (λ (k : ℕ). drop k text) (sym e) in
     let line = rw further at (line-by-line left (drop at text)) in
@@ -154,13 +153,19 @@ goes_on text count at (suc left) next g more h e =
     let one_less : suc left - 1 ≡ left = omega arith in
     rw one_less (record { within = omega (arith, inside, e, h); bytes = omega (arith, g.bytes, line, e); lines = omega (arith, g.lines, gone) })
 
-pub ran_out : (text : List ℕ) (count at left : ℕ) → Going text count at left → 0 < left → length text ≤ at → first_of count text ≡ Fewer
+pub goes_on : (text : List ℕ) (count at gone next : ℕ) → Going text count at (count - gone) → gone < count → at < length text → next ≡ at + lines_bytes 1 (drop at text)
+    → Going text count next (count - (gone + 1))
+goes_on text count at gone next g more h e =
+    let one_less : count - (gone + 1) ≡ count - gone - 1 = omega arith in
+    rw one_less (a_line_on text count at (count - gone) next g (omega arith) h e)
+
+pub ran_out : (text : List ℕ) (count at left : ℕ) → Going text count at left → 0 < left → length text ≤ at → first_of count text ≡ None
 unfolding first_of lines_of
 ran_out text count at left g some h =
     let gone = rw (drop_of_length-le text h) at g.lines in
     rw (lt-leb count (length (lines_of text)) (omega (arith, gone)))
 
-pub gone-over : (text : List ℕ) (count at left : ℕ) → Going text count at left → left ≤ 0 → first_of count text ≡ Bytes at
+pub gone-over : (text : List ℕ) (count at left : ℕ) → Going text count at left → left ≤ 0 → first_of count text ≡ Some at
 unfolding first_of lines_bytes
 gone-over text count at (suc left) g none = absurd (omega arith)
 gone-over text count at zero g none =
@@ -168,22 +173,22 @@ gone-over text count at zero g none =
     rw (le-leb count (length (lines_of text)) (omega (arith, g.lines)), bytes)
 
 -- what is found are the first lines' bytes, and lies within
-pub first-bytes : (count : ℕ) (text : List ℕ) (n : ℕ) → first_of count text ≡ Bytes n → n ≡ lines_bytes count text
+pub first-bytes : (count : ℕ) (text : List ℕ) (n : ℕ) → first_of count text ≡ Some n → n ≡ lines_bytes count text
 unfolding first_of
 first-bytes count text n e = go (leb count (length (lines_of text))) e
   where
-    go : (b : Bool) → cond b (Bytes (lines_bytes count text)) Fewer ≡ Bytes n → n ≡ lines_bytes count text
+    go : (b : Bool) → cond b (Some (lines_bytes count text)) None ≡ Some n → n ≡ lines_bytes count text
     go true e = cc
     go false e = let z : ◌≡◌ {A = ℕ} 0 1 = cc in absurd (omega arith)
 
-pub first-within : (count : ℕ) (text : List ℕ) (n : ℕ) → first_of count text ≡ Bytes n → n ≤ length text
+pub first-within : (count : ℕ) (text : List ℕ) (n : ℕ) → first_of count text ≡ Some n → n ≤ length text
 first-within count text n e = omega (arith, first-bytes count text n e, bytes-within count text)
 
-pub first-lines-each : (count : ℕ) (text : List ℕ) (n : ℕ) → first_of count text ≡ Bytes n → count ≤ n
+pub first-lines-each : (count : ℕ) (text : List ℕ) (n : ℕ) → first_of count text ≡ Some n → count ≤ n
 unfolding first_of
 first-lines-each count text n e = go (leb count (length (lines_of text))) refl e
   where
-    go : (b : Bool) → leb count (length (lines_of text)) ≡ b → cond b (Bytes (lines_bytes count text)) Fewer ≡ Bytes n → count ≤ n
+    go : (b : Bool) → leb count (length (lines_of text)) ≡ b → cond b (Some (lines_bytes count text)) None ≡ Some n → count ≤ n
     go true f e = let same : lines_bytes count text ≡ n = cc in omega (arith, line-each count text (leb-true count (length (lines_of text)) f))
     go false f e = let z : ◌≡◌ {A = ℕ} 0 1 = cc in absurd (omega arith)
 
@@ -192,6 +197,6 @@ pub taken-within : (behind : List ℕ) (count : ℕ) (c : Crosstalk) (numbers : 
 unfolding taken_of
 taken-within behind count c numbers = go (first_of count behind) refl
   where
-    go : (f : First) → first_of count behind ≡ f → Within (taken_of behind count c numbers f) behind
-    go (Bytes n) e = record { lines = first-lines-each count behind n e; bytes = first-within count behind n e }
-    go Fewer e = record { lines = omega arith; bytes = omega arith }
+    go : (f : Option ℕ) → first_of count behind ≡ f → Within (taken_of behind count c numbers f) behind
+    go (Some n) e = record { lines = first-lines-each count behind n e; bytes = first-within count behind n e }
+    go None e = record { lines = omega arith; bytes = omega arith }

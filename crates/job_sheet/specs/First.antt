@@ -1,9 +1,7 @@
 -- The first lines of a text, as they stand, with their line feeds. A last line without its line feed is a line (`lines_of` of `lines`).
 -- Definitions only.
-use Rattle.std.specs.Prelude.{ℕ, zero, suc, cond, List, [], ◌∷◌, leb, eqb, length, take}
+use Rattle.std.specs.Prelude.{ℕ, zero, suc, cond, List, [], ◌∷◌, leb, eqb, length, take, Option, Some, None}
 use Rattle.lines.specs.Text.{lines_of}
-use Rattle.job_sheet.specs.declared.first.First.{First}
-use Rattle.job_sheet.specs.declared.first.First.TheVariants.{Bytes, Fewer}
 
 -- how many bytes the first so many lines have: up to and with so many line feeds (10), or to the end
 unfoldable pub lines_bytes : ℕ → List ℕ → ℕ
@@ -15,5 +13,5 @@ lines_bytes (suc more) (b ∷ bs) = suc (cond (eqb b 10) (lines_bytes more bs) (
 abbrev pub first_lines : ℕ → List ℕ → List ℕ
 first_lines count text = take (lines_bytes count text) text
 
-unfoldable pub first_of : ℕ → List ℕ → First
-first_of count text = cond (leb count (length (lines_of text))) (Bytes (lines_bytes count text)) Fewer
+unfoldable pub first_of : ℕ → List ℕ → Option ℕ
+first_of count text = cond (leb count (length (lines_of text))) (Some (lines_bytes count text)) None

@@ -1,31 +1,23 @@
 // The first lines of a text, with their line feeds.
+#![tactic(auto)]
+
 ghost use Rattle.std.specs.Prelude.{◌≡◌, ◌+◌, ◌<◌, length, drop};
 ghost use Rattle.job_sheet.specs.First.{lines_bytes, first_of};
 
 use lines::text::line_end;
 
-#[derive(Clone, Copy)]
-pub enum First {
-    // How many bytes they have.
-    Bytes(usize),
-    // The text has fewer lines.
-    Fewer,
-}
-
 // The first `count` lines. A last line without its line feed is a line.
-pub(crate) fn first_lines(text: &[u8], count: u64) -> First
+pub(crate) fn first_lines(text: &[u8], count: u64) -> Option<usize>
     ensures { result ≡ first_of count text.now }
 {
     let mut at: usize = 0;
-    let mut left = count;
-    while 0 < left {
+    for _ in 0..count {
         if text.len() <= at {
-            return First::Fewer;
+            return None;
         }
         at = behind_line(text, at);
-        left -= 1;
     }
-    First::Bytes(at)
+    Some(at)
 }
 
 // Where what is behind the line at a place starts.
@@ -34,8 +26,5 @@ fn behind_line(text: &[u8], at: usize) -> usize
     ensures { result ≡ at + lines_bytes 1 (drop at text.now) }
 {
     let end = line_end(text, at);
-    if end < text.len() {
-        return end + 1;
-    }
-    end
+    if end < text.len() { end + 1 } else { end }
 }

@@ -5,24 +5,16 @@ ghost use Rattle.std.specs.Prelude.{◌≡◌};
 ghost use Rattle.job_sheet.specs.Inset.{sheeted, fewer, Took};
 
 use crosstalk::names::Crosstalk;
-use first::{First, first_lines};
+use first::first_lines;
 use quant::refusal::Answer;
 use sheet::read::{Reading, read};
 
 pub mod first;
 
-#[derive(Clone, Copy)]
-pub enum Inset {
-    // The job has fewer lines behind it.
-    Fewer,
-    // What the reader answers of the sheet.
-    Sheet(Answer),
-}
-
 // The crosstalk of the samplings that follow, and how many lines and bytes the sheet has: the job goes on behind them.
 #[derive(Clone, Copy)]
 pub struct Taken {
-    pub inset: Inset,
+    pub inset: Option<Answer>,
     pub crosstalk: Crosstalk,
     pub lines: u64,
     pub bytes: usize,
@@ -33,11 +25,11 @@ pub fn take_sheet(behind: &[u8], count: u64, c: Crosstalk, factors: &mut [f64]) 
     ensures { Took behind.now count c factors.old result factors.new }
 {
     match first_lines(behind, count) {
-        First::Bytes(n) => {
+        Some(n) => {
             let reading = read(&behind[..n], factors);
             sheeted(count, n, c, reading)
         }
-        First::Fewer => fewer(c),
+        None => fewer(c),
     }
 }
 
@@ -45,21 +37,16 @@ pub fn take_sheet(behind: &[u8], count: u64, c: Crosstalk, factors: &mut [f64]) 
 fn sheeted(lines: u64, bytes: usize, c: Crosstalk, reading: Reading) -> Taken
     ensures { result ≡ sheeted lines bytes c reading.answer reading.names }
 {
-    let answer = reading.answer;
-    let names = reading.names;
-    match answer {
-        Answer::Done(count) => Taken {
-            inset: Inset::Sheet(answer),
-            crosstalk: Crosstalk { count, names },
-            lines,
-            bytes,
-        },
-        Answer::Refused(_, _) => Taken {
-            inset: Inset::Sheet(answer),
-            crosstalk: c,
-            lines,
-            bytes,
-        },
+    let Reading { answer, names } = reading;
+    let crosstalk = match answer {
+        Ok(count) => Crosstalk { count, names },
+        Err(_) => c,
+    };
+    Taken {
+        inset: Some(answer),
+        crosstalk,
+        lines,
+        bytes,
     }
 }
 
@@ -68,7 +55,7 @@ pub fn fewer(c: Crosstalk) -> Taken
     ensures { result ≡ fewer c }
 {
     Taken {
-        inset: Inset::Fewer,
+        inset: None,
         crosstalk: c,
         lines: 0,
         bytes: 0,

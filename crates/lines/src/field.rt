@@ -4,19 +4,15 @@ ghost use Rattle.std.specs.Float.{binary64};
 ghost use Rattle.std.specs.Float.Ieee.{nan_bits, of_bits};
 ghost use Rattle.lines.specs.Field.{number_at};
 
-use hexadecimal::Word;
-
 // The number after the space at a place of a line.
-pub fn number_at(line: &[u8], at: usize) -> Word
+#[tactic(auto, unfolding(crate::specs::Field::number_at))]
+pub fn number_at(line: &[u8], at: usize) -> Option<u64>
     ensures { result ≡ number_at line.now at }
 {
-    if line.len() <= at {
-        return Word::Bad;
+    match line.get(at) {
+        Some(b' ') => hexadecimal::read(line, at + 1),
+        _ => None,
     }
-    if line[at] == b' ' {
-        return hexadecimal::read(line, at + 1);
-    }
-    Word::Bad
 }
 
 // The double that a pattern stands for. Only a pattern that is no NaN's may be taken for a double's bits, so a NaN is made.

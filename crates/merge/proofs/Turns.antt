@@ -1,14 +1,14 @@
 -- The loop of `sum_list`: what is left after record k is `kept_all` of the records from k on, so that a turn is one `kept_in`. Assumes nothing.
-use Prim.Native.Nat.{ℕ, suc, ◌+◌, ◌-◌, ◌<◌, ◌≤◌}
+use Prim.Native.Nat.{ℕ, ◌+◌, ◌-◌, ◌<◌, ◌≤◌}
 use native.Mathlib.Numerals.{add-one}
 use native.Mathlib.Omega.{arith}
-use mathlib.Core.Path.{◌≡◌, refl, ap, ◌∙◌}
+use mathlib.Core.Path.{◌≡◌, ap}
 use mathlib.Core.Bool.{Bool, true, false, cond, ◌&&◌}
 use mathlib.Core.List.{List}
 use lib.Dec.{ltb}
 use lib.Ieee.{Float}
-use lib.ListN.{length, get_or, take, drop, length-drop}
-use lib.Seq.{drop-cons, length-take-le}
+use lib.ListN.{length, get_or, drop, drop_of_length-le}
+use lib.Seq.{drop-cons}
 use Rattle.pulse.specs.declared.list.Pulse.{Pulse}
 use Rattle.pulse.proofs.Placed.{none}
 use Rattle.merge.specs.Sum.{together_in_bin, summed}
@@ -30,62 +30,30 @@ grown from t p ys ms n r zs us e = either (ltb from n && together_in_bin t (last
     either true x y u v h = record { least = omega arith; most = omega arith }
     either false x y u v h = record { least = omega arith; most = omega arith }
 
-module _ (ps : List Pulse) (from count : ℕ) (t : Float) (ws : Rows) (marks : List ℕ) (at : ℕ) where
-  abbrev end : ℕ
-  end = from + count
-
-  -- where the loop stands
-  pub record Upto : Type 0 where
-    pub k : ℕ
-    pub used : ℕ
-    pub ys : Rows
-    pub ms : List ℕ
-    pub within : k ≤ end
+-- of a list that is laid from `at` on
+module _ (ps : List Pulse) (t : Float) (ws : Rows) (marks : List ℕ) (at : ℕ) where
+  -- before record k: where the rows end, and that there is room for what is left
+  pub record Upto (k used : ℕ) (ys : Rows) (ms : List ℕ) : Type 0 where
     pub begun : at ≤ used
-    pub long-w : length ys ≡ length ws
-    pub long-m : length ms ≡ length marks
-    pub room-w : used + (end - k) ≤ length ws
-    pub room-m : used + (end - k) ≤ length marks
-    pub left : kept_all at t (take (end - k) (drop k ps)) (laid ys ms used) ≡ laid_on (summed t (take count (drop from ps))) at ws marks
+    pub room-w : used + (length ps - k) ≤ length ws
+    pub room-m : used + (length ps - k) ≤ length marks
+    pub left : kept_all at t (drop k ps) (laid ys ms used) ≡ laid_on (summed t ps) at ws marks
 
-  unfoldable pub begin : end ≤ length ps → at + count ≤ length ws → at + count ≤ length marks → Upto
-  begin hp hw hm =
-      let same : end - from ≡ count = omega arith in
-      let long : length (take count (drop from ps)) ≡ count = length-take-le count (drop from ps) (omega (arith, length-drop from ps)) in
-      record {
-        k = from;
-        used = at;
-        ys = ws;
-        ms = marks;
-        within = omega arith;
-        begun = omega arith;
-        long-w = refl;
-        long-m = refl;
-        room-w = omega arith;
-        room-m = omega arith;
-        left = rw same (kept-summed at t (take count (drop from ps)) ws marks (rw long hw) (rw long hm));
-      }
+  pub begin : at + length ps ≤ length ws → at + length ps ≤ length marks → Upto 0 at ws marks
+  begin hw hm = record { begun = omega arith; room-w = omega arith; room-m = omega arith; left = kept-summed at t ps ws marks hw hm }
 
-  unfoldable pub next : end ≤ length ps → (u : Upto) (r : ℕ) (zs : Rows) (us : List ℕ) → u.k < end → length zs ≡ length u.ys → length us ≡ length u.ms
-      → laid zs us r ≡ kept_in at t (get_or ps u.k none) (laid u.ys u.ms u.used) → Upto
+  pub next : (k used r : ℕ) (ys zs : Rows) (ms us : List ℕ) → k < length ps → Upto k used ys ms → laid zs us r ≡ kept_in at t (get_or ps k none) (laid ys ms used)
+      → Upto (k + 1) r zs us
   unfolding kept_all
-  next hp u r zs us less lz lu e =
-      let more : end - u.k ≡ suc (end - (u.k + 1)) = omega arith in
-      let grow = grown at t (get_or ps u.k none) u.ys u.ms u.used r zs us e in
+  next k used r ys zs ms us less u e =
+      let grow = grown at t (get_or ps k none) ys ms used r zs us e in
       record {
-        k = u.k + 1;
-        used = r;
-        ys = zs;
-        ms = us;
-        within = omega arith;
         begun = omega (arith, grow.least, u.begun);
-        long-w = lz ∙ u.long-w;
-        long-m = lu ∙ u.long-m;
         room-w = omega (arith, grow.most, u.room-w);
         room-m = omega (arith, grow.most, u.room-m);
-        left = rw (e, add-one u.k) (rw (more, drop-cons ps u.k none (omega arith), add-one u.k) at u.left);
+        left = rw (e, add-one k) (rw (drop-cons ps k none less) at u.left);
       }
 
-  pub at-end : (u : Upto) → end ≤ u.k → laid u.ys u.ms u.used ≡ laid_on (summed t (take count (drop from ps))) at ws marks
+  pub at-end : (k used : ℕ) (ys : Rows) (ms : List ℕ) → length ps ≤ k → Upto k used ys ms → laid ys ms used ≡ laid_on (summed t ps) at ws marks
   unfolding kept_all
-  at-end u h = let over : end - u.k ≡ 0 = omega arith in rw over at u.left
+  at-end k used ys ms h u = rw (drop_of_length-le ps h) at u.left

@@ -1,15 +1,14 @@
 // The summed lists in lent work rows: a row of five numbers for each pulse (time, amp, drag), and beside it the place of its bin.
-ghost use Rattle.std.specs.Prelude.{◌≡◌, ◌+◌, ◌<◌, ◌≤◌, length, get_or, take, drop};
-ghost use Rattle.merge.specs.Sum.{together_in_bin, summed};
+ghost use Rattle.std.specs.Prelude.{◌≡◌, ◌+◌, ◌<◌, ◌≤◌, length, get_or};
+ghost use Rattle.merge.specs.Sum.{summed};
 ghost use Rattle.merge.specs.Taking.{parts_in};
 ghost use Rattle.merge.specs.Work.{row_of_pulse, laid, laid_on, sizes_fit, gathered, gathered_of, no_ends};
-ghost use Rattle.merge.specs.Keep.{pulse_in, kept_in, lists_in, span_of, with_end};
+ghost use Rattle.merge.specs.Keep.{pulse_in, kept_in, lists_in, span_of};
 
 use super::sum::{is_near, plus};
 use super::taking::Taking;
 use pulse::list::Pulse;
 use quant::complex::Complex;
-use quant::judge::both;
 use quant::quantity::Time;
 use tables::Tables;
 
@@ -40,43 +39,35 @@ pub fn sum_lists(
     if !sizes_fit(pulses.len(), work.len(), marks.len()) {
         return ends;
     }
-    let lists = lists_in(taking);
-    let mut at: usize = 0;
-    let mut k: usize = 0;
-    while k < lists {
-        let s = span_of(t, taking, k);
-        at = sum_list(pulses, s.from, s.count, t.time, work, marks, at);
-        ends = with_end(ends, k, at);
-        k += 1;
+    let mut at = 0;
+    for k in 0..lists_in(taking) {
+        let Span { from, count } = span_of(t, taking, k);
+        at = sum_list(&pulses[from..from + count], t.time, work, marks, at);
+        ends.ends[k] = at;
     }
     ends
 }
 
-// Sums `count` records from `from` on into the rows from `at` on, and tells where they end.
-pub(crate) fn sum_list(
-    pulses: &[Pulse],
-    from: usize,
-    count: usize,
+// Sums a list's records into the rows from `at` on, and tells where they end.
+fn sum_list(
+    records: &[Pulse],
     tolerance: Time,
     work: &mut [[f64; 5]],
     marks: &mut [usize],
     at: usize,
 ) -> usize
-    requires { (from + count ≤ length pulses.now) × (at + count ≤ length work.old) × (at + count ≤ length marks.old) }
-    ensures { laid work.new marks.new result ≡ laid_on (summed tolerance.0 (take count (drop from pulses.now))) at work.old marks.old }
+    requires { (at + length records.now ≤ length work.old) × (at + length records.now ≤ length marks.old) }
+    ensures { laid work.new marks.new result ≡ laid_on (summed tolerance.0 records.now) at work.old marks.old }
 {
-    let end = from + count;
-    let mut k = from;
     let mut used = at;
-    while k < end {
-        let p = pulses[k];
-        used = keep(work, marks, at, used, p, tolerance);
-        k += 1;
+    for p in records {
+        used = keep(work, marks, at, used, *p, tolerance);
     }
     used
 }
 
 // Adds p to the last of the rows from `from` up to `at`, or appends a row; tells where the rows end.
+#[tactic(auto, unfolding(crate::specs::Keep::kept_in))]
 pub(crate) fn keep(
     work: &mut [[f64; 5]],
     marks: &mut [usize],
@@ -91,7 +82,7 @@ pub(crate) fn keep(
     if from < at {
         let last = at - 1;
         let kept = pulse_in(work[last], marks[last]);
-        if falls(kept, p, tolerance) {
+        if kept.bin == p.bin && is_near(kept.time, p.time, tolerance) {
             work[last] = row_of(plus(kept, p));
             return at;
         }
@@ -101,34 +92,33 @@ pub(crate) fn keep(
     at + 1
 }
 
-fn falls(kept: Pulse, p: Pulse, tolerance: Time) -> bool
-    ensures { result ≡ together_in_bin tolerance.0 kept p }
-{
-    both(kept.bin == p.bin, is_near(kept.time, p.time, tolerance))
-}
-
 fn row_of(p: Pulse) -> [f64; 5]
     ensures { result ≡ row_of_pulse p }
 {
-    let amp = p.amp;
-    let drag = p.drag;
-    [p.time.0, amp.re, amp.im, drag.re, drag.im]
+    let Pulse {
+        time,
+        amp,
+        drag,
+        ..
+    } = p;
+    [time.0, amp.re, amp.im, drag.re, drag.im]
 }
 
 // The pulse that a row and its mark stand for.
 fn pulse_in(row: [f64; 5], mark: usize) -> Pulse
     ensures { result ≡ pulse_in row mark }
 {
+    let [time, amp_re, amp_im, drag_re, drag_im] = row;
     Pulse {
         bin: mark,
-        time: Time(row[0]),
+        time: Time(time),
         amp: Complex {
-            re: row[1],
-            im: row[2],
+            re: amp_re,
+            im: amp_im,
         },
         drag: Complex {
-            re: row[3],
-            im: row[4],
+            re: drag_re,
+            im: drag_im,
         },
     }
 }
@@ -136,7 +126,7 @@ fn pulse_in(row: [f64; 5], mark: usize) -> Pulse
 pub(crate) fn sizes_fit(pulses: usize, rows: usize, marks: usize) -> bool
     ensures { result ≡ sizes_fit pulses rows marks }
 {
-    both(both(pulses == 8192, rows == 8192), marks == 8192)
+    pulses == 8192 && rows == 8192 && marks == 8192
 }
 
 pub(crate) fn no_ends() -> Ends
@@ -149,10 +139,7 @@ pub(crate) fn no_ends() -> Ends
 pub(crate) fn lists_in(taking: Taking) -> usize
     ensures { result ≡ lists_in taking }
 {
-    if taking.count < 8 {
-        return taking.count;
-    }
-    8
+    taking.count.min(8)
 }
 
 // The records of list k: none for a place that is none, at most 1,024 for another.
@@ -164,24 +151,8 @@ pub(crate) fn span_of(t: Tables, taking: Taking, k: usize) -> Span
     if 8 <= i {
         return Span { from: 0, count: 0 };
     }
-    let c = t.channels[i];
-    if c.pulses < 1024 {
-        return Span {
-            from: 1024 * i,
-            count: c.pulses,
-        };
-    }
     Span {
         from: 1024 * i,
-        count: 1024,
+        count: t.channels[i].pulses.min(1024),
     }
-}
-
-pub(crate) fn with_end(ends: Ends, k: usize, at: usize) -> Ends
-    requires { k < 8 }
-    ensures { result ≡ with_end ends k at }
-{
-    let mut e = ends;
-    e.ends[k] = at;
-    e
 }

@@ -21,31 +21,29 @@ pub(crate) fn envelope_rows(
     ensures i_after { i.new ≡ shaped_by real amp drag rotation points.now carrier i.old }
     ensures q_after { q.new ≡ shaped_by imaginary amp drag rotation points.now carrier q.old }
 {
-    if i.len() < 1 {
+    if i.is_empty() {
         return;
     }
     let mut left = point(points, 0);
     let mut here = point(points, 1);
     let first = wave(carrier, amp, drag, 0.0, left, here);
-    i[0] = i[0] + first.re;
-    q[0] = q[0] + first.im;
+    i[0] += first.re;
+    q[0] += first.im;
     let mut last = carrier;
     let second = carrier.mul(rotation);
     let mut re = second.re;
-    let mut k: usize = 1;
-    while k < i.len() {
+    for k in 1..i.len() {
         let turned = last.mul(rotation);
         let z = Complex { re, im: turned.im };
         let next = z.mul(rotation);
         re = next.re;
         let right = point(points, k + 1);
         let w = wave(z, amp, drag, left, here, right);
-        i[k] = i[k] + w.re;
-        q[k] = q[k] + w.im;
+        i[k] += w.re;
+        q[k] += w.im;
         last = z;
         left = here;
         here = right;
-        k += 1;
     }
 }
 
@@ -53,10 +51,7 @@ pub(crate) fn envelope_rows(
 pub(crate) fn point(points: &[f64], k: usize) -> f64
     ensures { result ≡ get_or points.now k nought }
 {
-    if k < points.len() {
-        return points[k];
-    }
-    0.0
+    points.get(k).copied().unwrap_or(0.0)
 }
 
 // The carrier z times the envelope and its slope at the point `here`.

@@ -37,9 +37,9 @@ pub fn add_plateau(
     let end = start + count;
     if rows == 1 {
         plateau_row(&mut i[start..end], carrier, rotation);
-        return;
+    } else {
+        plateau_rows(&mut i[start..end], &mut q[start..end], carrier, rotation);
     }
-    plateau_rows(&mut i[start..end], &mut q[start..end], carrier, rotation);
 }
 
 // The same under an envelope, a sample for each of its points. The drag is the pulse's times the rate.
@@ -64,15 +64,15 @@ pub fn add_envelope(
     let end = start + count;
     if rows == 1 {
         envelope_row(&mut i[start..end], points, amp, drag, carrier, rotation);
-        return;
+    } else {
+        envelope_rows(
+            &mut i[start..end],
+            &mut q[start..end],
+            points,
+            amp,
+            drag,
+            carrier,
+            rotation,
+        );
     }
-    envelope_rows(
-        &mut i[start..end],
-        &mut q[start..end],
-        points,
-        amp,
-        drag,
-        carrier,
-        rotation,
-    );
 }

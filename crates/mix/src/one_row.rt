@@ -1,4 +1,5 @@
 // One row takes only the I part: the loops of `plateau` and `envelope` without the second row.
+// Kept: called for each of two rows, these would turn the carrier twice; a trait over one row or two would be longer than they are.
 ghost use Rattle.std.specs.Prelude.{◌≡◌, length};
 ghost use Rattle.mix.specs.Plateau.{carried, real};
 ghost use Rattle.mix.specs.Envelope.{shaped_by};
@@ -10,11 +11,9 @@ pub(crate) fn plateau_row(i: &mut [f64], carrier: Complex, rotation: Complex)
     ensures { i.new ≡ carried real carrier rotation i.old }
 {
     let mut z = carrier;
-    let mut k: usize = 0;
-    while k < i.len() {
-        i[k] = i[k] + z.re;
+    for x in i {
+        *x += z.re;
         z = z.mul(rotation);
-        k += 1;
     }
 }
 
@@ -30,16 +29,13 @@ pub(crate) fn envelope_row(
     ensures { i.new ≡ shaped_by real amp drag rotation points.now carrier i.old }
 {
     let mut z = carrier;
-    let mut left: f64 = 0.0;
+    let mut left = 0.0;
     let mut here = point(points, 0);
-    let mut k: usize = 0;
-    while k < i.len() {
+    for k in 0..i.len() {
         let right = point(points, k + 1);
-        let w = wave(z, amp, drag, left, here, right);
-        i[k] = i[k] + w.re;
+        i[k] += wave(z, amp, drag, left, here, right).re;
         z = z.mul(rotation);
         left = here;
         here = right;
-        k += 1;
     }
 }

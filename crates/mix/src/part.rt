@@ -6,22 +6,15 @@ ghost use Rattle.mix.specs.Part.{holds, part_fits};
 pub(crate) fn part_fits(rows: usize, i: usize, q: usize, start: usize, count: usize) -> bool
     ensures { result ≡ part_fits rows i q start count }
 {
-    if rows == 1 {
-        return lies_within(i, start, count);
+    match rows {
+        1 => lies_within(i, start, count),
+        2 => lies_within(i, start, count) && lies_within(q, start, count),
+        _ => false,
     }
-    if rows == 2 {
-        if lies_within(i, start, count) {
-            return lies_within(q, start, count);
-        }
-    }
-    false
 }
 
 fn lies_within(len: usize, start: usize, count: usize) -> bool
     ensures { result ≡ holds len start count }
 {
-    if len < count {
-        return false;
-    }
-    start <= len - count
+    count <= len && start <= len - count
 }

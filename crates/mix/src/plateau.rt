@@ -10,11 +10,9 @@ pub(crate) fn plateau_rows(i: &mut [f64], q: &mut [f64], carrier: Complex, rotat
     ensures q_after { q.new ≡ carried imaginary carrier rotation q.old }
 {
     let mut z = carrier;
-    let mut k: usize = 0;
-    while k < i.len() {
-        i[k] = i[k] + z.re;
-        q[k] = q[k] + z.im;
+    for k in 0..i.len() {
+        i[k] += z.re;
+        q[k] += z.im;
         z = z.mul(rotation);
-        k += 1;
     }
 }

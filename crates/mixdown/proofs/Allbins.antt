@@ -1,4 +1,6 @@
 -- The lists that take part, one after another: what is left after k of them. Assumes nothing.
+use Rattle.quant.specs.Refusal.{Answer}
+use Rattle.std.specs.Prelude.{Ok, Err}
 use Prim.Native.Nat.{ℕ, ◌+◌, ◌*◌, ◌<◌, ◌≤◌}
 use native.Mathlib.Omega.{arith}
 use native.Mathlib.Numerals.{add-one}
@@ -7,9 +9,7 @@ use mathlib.Core.List.{List, [], ◌∷◌, ◌++◌}
 use lib.Ieee.{Float}
 use lib.ListN.{length, take, drop, get_or, drop_of_length-le}
 use lib.Seq.{drop-cons, take-suc}
-use Rattle.quant.specs.declared.refusal.Answer.{Answer}
-use Rattle.quant.specs.declared.refusal.Answer.TheVariants as answer
-use Rattle.quant.specs.declared.refusal.Refusal.{Refusal}
+use Rattle.quant.specs.declared.refusal.Refused.{Refused}
 use Rattle.quant.specs.declared.settings.Settings.{Settings}
 use Rattle.pulse.specs.declared.list.Pulse.{Pulse}
 use Rattle.tables.specs.declared.Tables.{Tables}
@@ -67,7 +67,7 @@ module _ {s : Settings} {rows : ℕ} {merged : List Float → List Pulse} {t : T
       pub like-it : Like st n (length (firsts_after before its) * 65536) (out a st')
       like-it = rw e (bins-like s rows merged few (firsts_after before its) n st (omega (arith, short, l.same-i, l.same-scratch)))
 
-      pub next-list : (m : ℕ) → a ≡ answer.Done m → Listings s rows merged t bins parts all st₀ st' m (k + 1)
+      pub next-list : (m : ℕ) → a ≡ Ok m → Listings s rows merged t bins parts all st₀ st' m (k + 1)
       next-list m done =
           let less = like-it.count m done in
           let some = firsts-length before its in
@@ -79,10 +79,10 @@ module _ {s : Settings} {rows : ℕ} {merged : List Float → List Pulse} {t : T
             whole = ap (λ (o : Out). and_then o (ran_bins s rows merged (firsts_after (all_rows t bins (take (k + 1) parts)) others))) (ap (λ (x : Answer). out x st') (sym done) ∙ e) ∙ in_two;
           }
 
-      pub list-refused : (why : Refusal) (m : ℕ) → a ≡ answer.Refused why m → out (answer.Refused why m) st' ≡ all
-      list-refused why m no_more = ap (λ (o : Out). and_then o (ran_bins s rows merged (firsts_after (all_rows t bins (take (k + 1) parts)) others))) (ap (λ (x : Answer). out x st') (sym no_more) ∙ e) ∙ in_two
+      pub list-refused : (r : Refused) → a ≡ Err r → out (Err r) st' ≡ all
+      list-refused r no_more = ap (λ (o : Out). and_then o (ran_bins s rows merged (firsts_after (all_rows t bins (take (k + 1) parts)) others))) (ap (λ (x : Answer). out x st') (sym no_more) ∙ e) ∙ in_two
 
-  pub all_done : length parts ≤ k → out (answer.Done n) st ≡ all
+  pub all_done : length parts ≤ k → out (Ok n) st ≡ all
   all_done h =
       sym (bins-none s rows merged n st)
       ∙ ap (λ (rs : List (List Float)). ran_bins s rows merged rs n st) (sym (ap (firsts_after (all_rows t bins (take k parts))) (ap (all_rows t bins) (drop_of_length-le parts h) ∙ rows-nil t bins) ∙ firsts-none (all_rows t bins (take k parts))))

@@ -1,4 +1,6 @@
 -- The pulses of one bin, run one after another while they are joined and summed: what is still to do equals what was to do. Assumes nothing.
+use Rattle.quant.specs.Refusal.{refuse}
+use Rattle.std.specs.Prelude.{Option, Some, None, Result, Ok, Err}
 use Prim.Native.Nat.{ℕ, suc, ◌+◌, ◌*◌, ◌-◌, ◌^◌, ◌<◌, ◌≤◌}
 use native.Mathlib.Omega.{arith}
 use native.Mathlib.Numerals.{add-one}
@@ -8,7 +10,6 @@ use mathlib.Core.List.{List, [], ◌∷◌, map}
 use lib.Dec.{eqb}
 use lib.Ieee.{Float, lt}
 use lib.ListN.{length, take, drop, length-take, length-drop, length-map}
-use Rattle.quant.specs.declared.refusal.Answer.TheVariants as answer
 use Rattle.quant.specs.declared.refusal.Refusal.{Refusal}
 use Rattle.quant.specs.declared.settings.Settings.{Settings}
 use Rattle.pulse.specs.declared.bin.Bin.{Bin}
@@ -21,11 +22,10 @@ use Rattle.placing.specs.Judged.{judged}
 use Rattle.mixdown.specs.declared.runs.Run.{Run}
 use Rattle.mixdown.specs.declared.runs.Runs.{Runs}
 use Rattle.mixdown.specs.declared.runs.Picked.{Picked}
-use Rattle.mixdown.specs.declared.onto.Held.{Held}
-use Rattle.mixdown.specs.Runs.{of_mark, run_in, runs_in, moved_on}
+use Rattle.mixdown.specs.Runs.{picked_in, of_mark, run_in, runs_in, moved_on}
 use Rattle.mixdown.specs.Sampled.{Rowed, Out, out, added_to, unless_refused, ran_pulses}
 use Rattle.mixdown.specs.Holding.{Holds, accepted}
-use Rattle.mixdown.proofs.Picks.{left, pulse_of, Picks, picked_next, picked_none}
+use Rattle.mixdown.proofs.Picks.{left, pulse_of, Ready, picked_next, picked_none}
 use Rattle.mixdown.proofs.Lengths.{i-length, q-length, scratch-length}
 
 -- ---- summing
@@ -53,26 +53,26 @@ summed-none falls = refl
 
 -- ---- running
 module _ (s : Settings) (b : Bin) (numbers : List Float) (rows : ℕ) where
-  pub ran-none : (n : ℕ) (st : Rowed) → ran_pulses s b numbers rows [] n st ≡ out (answer.Done n) st
+  pub ran-none : (n : ℕ) (st : Rowed) → ran_pulses s b numbers rows [] n st ≡ out (Ok n) st
   unfolding ran_pulses
   ran-none n st = refl
 
   module _ (p : Pulse) (ps : List Pulse) (n : ℕ) (st : Rowed) where
-    abbrev j : Judged
+    abbrev j : Result Judged Refusal
     j = judged s b numbers p (length st.i)
 
     pub ran_on : accepted j ≡ true → ran_pulses s b numbers rows (p ∷ ps) n st ≡ ran_pulses s b numbers rows ps (n + 1) (added_to s b numbers rows j st)
     unfolding ran_pulses
     ran_on e = go j e ∙ ap (λ (k : ℕ). ran_pulses s b numbers rows ps k (added_to s b numbers rows j st)) (sym (add-one n))
       where
-        go : (d : Judged) → accepted d ≡ true → unless_refused d n st (ran_pulses s b numbers rows ps (suc n) (added_to s b numbers rows j st)) ≡ ran_pulses s b numbers rows ps (suc n) (added_to s b numbers rows j st)
-        go (judgement.Plateau f) t = refl
-        go (judgement.Shaped c) t = refl
-        go (judgement.Refused r) t = absurd (true≢false (sym t))
+        go : (d : Result Judged Refusal) → accepted d ≡ true → unless_refused d n st (ran_pulses s b numbers rows ps (suc n) (added_to s b numbers rows j st)) ≡ ran_pulses s b numbers rows ps (suc n) (added_to s b numbers rows j st)
+        go (Ok (judgement.Plateau f)) t = refl
+        go (Ok (judgement.Shaped c)) t = refl
+        go (Err r) t = absurd (true≢false (sym t))
 
-    pub ran-refused : (r : Refusal) → j ≡ judgement.Refused r → ran_pulses s b numbers rows (p ∷ ps) n st ≡ out (answer.Refused r n) st
+    pub ran-refused : (r : Refusal) → j ≡ Err r → ran_pulses s b numbers rows (p ∷ ps) n st ≡ out (refuse r n) st
     unfolding ran_pulses
-    ran-refused r e = ap (λ (d : Judged). unless_refused d n st (ran_pulses s b numbers rows ps (suc n) (added_to s b numbers rows j st))) e
+    ran-refused r e = ap (λ (d : Result Judged Refusal). unless_refused d n st (ran_pulses s b numbers rows ps (suc n) (added_to s b numbers rows j st))) e
 
 -- ---- how many there are
 
@@ -124,48 +124,48 @@ abbrev pub todo : Settings → Bin → List Float → Float → List (List Float
 todo s b numbers tolerance work marks rows kept r n st = ran_pulses s b numbers rows (kept_from (together tolerance) kept (left work marks r)) n st
 
 module _ (s : Settings) (b : Bin) (numbers : List Float) (tolerance : Float) (work : List (List Float)) (marks : List ℕ) (rows : ℕ) where
-  pub record Going (all : Out) (st₀ st : Rowed) (r : Runs) (p : Picked) (kept : Pulse) (held : Held) (n : ℕ) : Type 0 where
+  pub record Going (all : Out) (st₀ st : Rowed) (r : Runs) (kept : Pulse) (held : Option Float) (n : ℕ) : Type 0 where
     pub same-i : length st.i ≡ length st₀.i
     pub same-q : length st.q ≡ length st₀.q
     pub same-scratch : length st.scratch ≡ length st₀.scratch
-    pub picks : Picks work marks r p
+    pub ready : Ready work marks r
     pub holds : Holds s b numbers held st.scratch
     pub few-added : n + length (left work marks r) ≤ 2 ^ 61
     pub whole : todo s b numbers tolerance work marks rows kept r n st ≡ all
 
 -- one turn, from what holds before it
-module _ {s : Settings} {b : Bin} {numbers : List Float} {tolerance : Float} {work : List (List Float)} {marks : List ℕ} {rows : ℕ} {all : Out} {st₀ st : Rowed} {r : Runs} {p : Picked} {kept : Pulse} {held : Held} {n : ℕ} (g : Going s b numbers tolerance work marks rows all st₀ st r p kept held n) where
-  abbrev x : Pulse
-  x = pulse_of work marks r p
+module _ {s : Settings} {b : Bin} {numbers : List Float} {tolerance : Float} {work : List (List Float)} {marks : List ℕ} {rows : ℕ} {all : Out} {st₀ st : Rowed} {r : Runs} {kept : Pulse} {held : Option Float} {n : ℕ} (g : Going s b numbers tolerance work marks rows all st₀ st r kept held n) where
+  abbrev x : Picked → Pulse
+  x p = pulse_of work marks r p
 
-  abbrev verdict : Judged
+  abbrev verdict : Result Judged Refusal
   verdict = judged s b numbers kept (length st.i)
 
-  pub less : p.some ≡ true → (r' : Runs) → r' ≡ moved_on marks r p → length (left work marks r') < length (left work marks r)
-  less e r' is = rw is (let k = ap length (picked_next g.picks e) in omega (arith, k))
+  pub less : (p : Picked) → picked_in work marks r ≡ Some p → (r' : Runs) → r' ≡ moved_on marks r p → length (left work marks r') < length (left work marks r)
+  less p e r' is = rw is (let k = ap length (picked_next g.ready p e) in omega (arith, k))
 
-  todo_next : p.some ≡ true → (r' : Runs) → r' ≡ moved_on marks r p → ran_pulses s b numbers rows (kept_from (together tolerance) kept (x ∷ left work marks r')) n st ≡ all
-  todo_next e r' is = rw is (ap (λ (ps : List Pulse). ran_pulses s b numbers rows (kept_from (together tolerance) kept ps) n st) (sym (picked_next g.picks e)) ∙ g.whole)
+  todo_next : (p : Picked) → picked_in work marks r ≡ Some p → (r' : Runs) → r' ≡ moved_on marks r p → ran_pulses s b numbers rows (kept_from (together tolerance) kept ((x p) ∷ left work marks r')) n st ≡ all
+  todo_next p e r' is = rw is (ap (λ (ps : List Pulse). ran_pulses s b numbers rows (kept_from (together tolerance) kept ps) n st) (sym (picked_next g.ready p e)) ∙ g.whole)
 
   -- the next falls together with the kept one
-  pub near-turn : p.some ≡ true → (r' : Runs) → r' ≡ moved_on marks r p → (p' : Picked) → Picks work marks r' p' → together tolerance kept x ≡ true → Going s b numbers tolerance work marks rows all st₀ st r' p' (plus_p kept x) held n
-  near-turn e r' is p' next near =
+  pub near-turn : (p : Picked) → picked_in work marks r ≡ Some p → (r' : Runs) → r' ≡ moved_on marks r p → Ready work marks r' → together tolerance kept (x p) ≡ true → Going s b numbers tolerance work marks rows all st₀ st r' (plus_p kept (x p)) held n
+  near-turn p e r' is next near =
       record {
         same-i = g.same-i;
         same-q = g.same-q;
         same-scratch = g.same-scratch;
-        picks = next;
+        ready = next;
         holds = g.holds;
-        few-added = let k = less e r' is in omega (arith, k, g.few-added);
-        whole = ap (λ (ps : List Pulse). ran_pulses s b numbers rows ps n st) (sym (kept_near (together tolerance) kept x (left work marks r') near)) ∙ todo_next e r' is;
+        few-added = let k = less p e r' is in omega (arith, k, g.few-added);
+        whole = ap (λ (ps : List Pulse). ran_pulses s b numbers rows ps n st) (sym (kept_near (together tolerance) kept (x p) (left work marks r') near)) ∙ todo_next p e r' is;
       }
 
   -- it does not: the kept one is added
-  apart-is : p.some ≡ true → (r' : Runs) → r' ≡ moved_on marks r p → together tolerance kept x ≡ false → ran_pulses s b numbers rows (kept ∷ kept_from (together tolerance) x (left work marks r')) n st ≡ all
-  apart-is e r' is apart = ap (λ (ps : List Pulse). ran_pulses s b numbers rows ps n st) (sym (kept-apart (together tolerance) kept x (left work marks r') apart)) ∙ todo_next e r' is
+  apart-is : (p : Picked) → picked_in work marks r ≡ Some p → (r' : Runs) → r' ≡ moved_on marks r p → together tolerance kept (x p) ≡ false → ran_pulses s b numbers rows (kept ∷ kept_from (together tolerance) (x p) (left work marks r')) n st ≡ all
+  apart-is p e r' is apart = ap (λ (ps : List Pulse). ran_pulses s b numbers rows ps n st) (sym (kept-apart (together tolerance) kept (x p) (left work marks r') apart)) ∙ todo_next p e r' is
 
-  last-is : p.some ≡ false → ran_pulses s b numbers rows (kept ∷ []) n st ≡ all
-  last-is e = ap (λ (ps : List Pulse). ran_pulses s b numbers rows ps n st) (sym (kept-last (together tolerance) kept) ∙ ap (kept_from (together tolerance) kept) (sym (picked_none g.picks e))) ∙ g.whole
+  last-is : picked_in work marks r ≡ None → ran_pulses s b numbers rows (kept ∷ []) n st ≡ all
+  last-is e = ap (λ (ps : List Pulse). ran_pulses s b numbers rows ps n st) (sym (kept-last (together tolerance) kept) ∙ ap (kept_from (together tolerance) kept) (sym (picked_none g.ready e))) ∙ g.whole
 
   module _ {st' : Rowed} (after : st' ≡ added_to s b numbers rows verdict st) where
     pub i-same : length st'.i ≡ length st₀.i
@@ -177,27 +177,27 @@ module _ {s : Settings} {b : Bin} {numbers : List Float} {tolerance : Float} {wo
     pub scratch-same : length st₀.i ≤ length st₀.scratch → length st'.scratch ≡ length st₀.scratch
     scratch-same h = ap (λ (o : Rowed). length o.scratch) after ∙ scratch-length s b numbers rows st (omega (arith, h, g.same-i, g.same-scratch)) verdict ∙ g.same-scratch
 
-    pub on-turn : length st₀.i ≤ length st₀.scratch → p.some ≡ true → (r' : Runs) → r' ≡ moved_on marks r p → (p' : Picked) → Picks work marks r' p' → together tolerance kept x ≡ false
-        → accepted verdict ≡ true → (h : Held) → Holds s b numbers h st'.scratch → Going s b numbers tolerance work marks rows all st₀ st' r' p' x h (n + 1)
-    on-turn short e r' is p' next apart taken h holds =
+    pub on-turn : length st₀.i ≤ length st₀.scratch → (p : Picked) → picked_in work marks r ≡ Some p → (r' : Runs) → r' ≡ moved_on marks r p → Ready work marks r' → together tolerance kept (x p) ≡ false
+        → accepted verdict ≡ true → (h : Option Float) → Holds s b numbers h st'.scratch → Going s b numbers tolerance work marks rows all st₀ st' r' (x p) h (n + 1)
+    on-turn short p e r' is next apart taken h holds =
         record {
           same-i = i-same;
           same-q = q-same;
           same-scratch = scratch-same short;
-          picks = next;
+          ready = next;
           holds = holds;
-          few-added = let k = less e r' is in omega (arith, k, g.few-added);
-          whole = ap (ran_pulses s b numbers rows (kept_from (together tolerance) x (left work marks r')) (n + 1)) after ∙ sym (ran_on s b numbers rows kept (kept_from (together tolerance) x (left work marks r')) n st taken) ∙ apart-is e r' is apart;
+          few-added = let k = less p e r' is in omega (arith, k, g.few-added);
+          whole = ap (ran_pulses s b numbers rows (kept_from (together tolerance) (x p) (left work marks r')) (n + 1)) after ∙ sym (ran_on s b numbers rows kept (kept_from (together tolerance) (x p) (left work marks r')) n st taken) ∙ apart-is p e r' is apart;
         }
 
-    stays : (why : Refusal) → verdict ≡ judgement.Refused why → st' ≡ st
-    stays why e = after ∙ ap (λ (d : Judged). added_to s b numbers rows d st) e
+    stays : (why : Refusal) → verdict ≡ Err why → st' ≡ st
+    stays why e = after ∙ ap (λ (d : Result Judged Refusal). added_to s b numbers rows d st) e
 
-    pub refused-turn : p.some ≡ true → together tolerance kept x ≡ false → (why : Refusal) → verdict ≡ judgement.Refused why → out (answer.Refused why n) st' ≡ all
-    refused-turn e apart why not-ok = ap (out (answer.Refused why n)) (stays why not-ok) ∙ sym (ran-refused s b numbers rows kept (kept_from (together tolerance) x (left work marks (moved_on marks r p))) n st why not-ok) ∙ apart-is e (moved_on marks r p) refl apart
+    pub refused-turn : (p : Picked) → picked_in work marks r ≡ Some p → together tolerance kept (x p) ≡ false → (why : Refusal) → verdict ≡ Err why → out (refuse why n) st' ≡ all
+    refused-turn p e apart why not-ok = ap (out (refuse why n)) (stays why not-ok) ∙ sym (ran-refused s b numbers rows kept (kept_from (together tolerance) (x p) (left work marks (moved_on marks r p))) n st why not-ok) ∙ apart-is p e (moved_on marks r p) refl apart
 
-    pub on-last : p.some ≡ false → accepted verdict ≡ true → out (answer.Done (n + 1)) st' ≡ all
-    on-last e taken = ap (out (answer.Done (n + 1))) after ∙ sym (ran-none s b numbers rows (n + 1) (added_to s b numbers rows verdict st)) ∙ sym (ran_on s b numbers rows kept [] n st taken) ∙ last-is e
+    pub on-last : picked_in work marks r ≡ None → accepted verdict ≡ true → out (Ok (n + 1)) st' ≡ all
+    on-last e taken = ap (out (Ok (n + 1))) after ∙ sym (ran-none s b numbers rows (n + 1) (added_to s b numbers rows verdict st)) ∙ sym (ran_on s b numbers rows kept [] n st taken) ∙ last-is e
 
-    pub refused-last : p.some ≡ false → (why : Refusal) → verdict ≡ judgement.Refused why → out (answer.Refused why n) st' ≡ all
-    refused-last e why not-ok = ap (out (answer.Refused why n)) (stays why not-ok) ∙ sym (ran-refused s b numbers rows kept [] n st why not-ok) ∙ last-is e
+    pub refused-last : picked_in work marks r ≡ None → (why : Refusal) → verdict ≡ Err why → out (refuse why n) st' ≡ all
+    refused-last e why not-ok = ap (out (refuse why n)) (stays why not-ok) ∙ sym (ran-refused s b numbers rows kept [] n st why not-ok) ∙ last-is e

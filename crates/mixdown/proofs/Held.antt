@@ -10,9 +10,9 @@ use lib.ListN.{length, take, drop, get_or, get_or-eq_default}
 use lib.Seq.{take-take, get_or-take, get_or-drop}
 use borrow.Author.Tests.{ltb-true, ltb-false}
 use Rattle.tables.specs.declared.Tables.{Tables}
-use Rattle.tables.specs.Tables.{no_channel, channel_at}
+use Rattle.tables.specs.Tables.{no_channel}
 use Rattle.commands.specs.Play.{rows_of}
-use Rattle.commands.proofs.Rows.{most, part-is, part_length}
+use Rattle.commands.proofs.Rows.{part-is, part_length}
 use Rattle.mixdown.specs.Starts.{bins_held}
 
 module _ (t : Tables) (i : ℕ) (eight : length t.channels ≡ 8) where
@@ -28,7 +28,7 @@ module _ (t : Tables) (i : ℕ) (eight : length t.channels ≡ 8) where
 
 module _ (t : Tables) (bins : List (List Float)) (i : ℕ) where
   pub held-most : bins_held t i ≤ 64
-  held-most = most (channel_at t i).bins
+  held-most = omega arith
 
   pub rows-held : take (bins_held t i) (drop (64 * i) bins) ≡ rows_of t bins i
   rows-held = part-is t bins i (bins_held t i) refl

@@ -1,9 +1,10 @@
 -- The pulse that is picked is the first of the lists joined, and the runs moved on behind it join to the rest. By the lists in turn: `joined`
 -- takes its first list's pulse unless one of those behind is earlier, and so does the picking. Assumes nothing.
+use Rattle.std.specs.Prelude.{Option, Some, None}
 use Prim.Native.Nat.{ℕ, suc, ◌-◌, ◌≤◌, ◌<◌}
 use native.Mathlib.Omega.{arith}
-use mathlib.Core.Path.{◌≡◌, refl, sym, ap, ◌∙◌}
-use mathlib.Core.Bool.{Bool, true, false, ◌&&◌, cond, true≢false}
+use mathlib.Core.Path.{◌≡◌, refl, sym, ap, subst, ◌∙◌}
+use mathlib.Core.Bool.{Bool, true, false, cond}
 use mathlib.Core.List.{List, [], ◌∷◌, map}
 use lib.Dec.{ltb, eqb}
 use lib.Ieee.{Float, lt}
@@ -43,25 +44,30 @@ module _ (work : List (List Float)) (marks : List ℕ) (same : length work ≡ l
   abbrev later : List Run → ℕ → ℕ → List Run
   later rs i at = set rs i (behind marks at (get_or rs i no_run))
 
-  -- p is the picked one of runs whose first is list k
-  pub record First (k : ℕ) (rs : List Run) (p : Picked) : Type 0 where
-    pub none : p.some ≡ false → joined (lists rs) ≡ []
-    pub one : p.some ≡ true → joined (lists rs) ≡ pulse rs (p.list - k) p.at ∷ joined (lists (later rs (p.list - k) p.at))
-    pub from : p.some ≡ true → k ≤ p.list
-    pub under : p.some ≡ true → p.list - k < length rs
-    pub row : p.some ≡ true → p.at < 8192
+  -- q is picked from runs whose first is list k
+  pub record One (k : ℕ) (rs : List Run) (q : Picked) : Type 0 where
+    pub is : joined (lists rs) ≡ pulse rs (q.list - k) q.at ∷ joined (lists (later rs (q.list - k) q.at))
+    pub from : k ≤ q.list
+    pub under : q.list - k < length rs
+    pub row : q.at < 8192
+
+  -- so is p, or nothing is left
+  abbrev pub First : ℕ → List Run → Option Picked → Type 0
+  First k rs (Some q) = One k rs q
+  First k rs None = joined (lists rs) ≡ []
 
   -- ---- one list before others
   module _ (k : ℕ) (r : Run) (rs : List Run) (within : r.end ≤ length marks) where
     -- none is left of it
-    passed_over : (p : Picked) → r.end ≤ advanced_by marks r → First (suc k) rs p → First k (r ∷ rs) p
+    passed_over : (p : Option Picked) → r.end ≤ advanced_by marks r → First (suc k) rs p → First k (r ∷ rs) p
     unfolding joined
-    passed_over p h rest =
+    passed_over None h rest = rw (run_none work marks same r within h) (nil-two _ ∙ rest)
+    passed_over (Some q) h rest =
+        let i : q.list - k ≡ suc (q.list - suc k) = omega (arith, rest.from) in
         record {
-          none = λ e. rw (run_none work marks same r within h) (nil-two _ ∙ rest.none e);
-          one = λ e. let i : p.list - k ≡ suc (p.list - suc k) = omega (arith, rest.from e) in rw (i, run_none work marks same r within h) (nil-two _ ∙ rest.one e ∙ ap (λ (ps : List Pulse). pulse rs (p.list - suc k) p.at ∷ ps) (sym (nil-two _)));
-          from = λ e. omega (arith, rest.from e);
-          under = λ e. let i : p.list - k ≡ suc (p.list - suc k) = omega (arith, rest.from e) in omega (arith, rest.under e, i);
+          is = rw (i, run_none work marks same r within h) (nil-two _ ∙ rest.is ∙ ap (λ (ps : List Pulse). pulse rs (q.list - suc k) q.at ∷ ps) (sym (nil-two _)));
+          from = omega (arith, rest.from);
+          under = omega (arith, rest.under, i);
           row = rest.row;
         }
 
@@ -79,52 +85,43 @@ module _ (work : List (List Float)) (marks : List ℕ) (same : length work ≡ l
       next = run-next work marks same r within h
 
       -- it is picked: nothing is left of the others, or their best is not earlier
-      taken : joined (lists (r ∷ rs)) ≡ x ∷ joined_two (run_in all (behind marks j r)) (joined (lists rs)) → First k (r ∷ rs) (picked k j)
+      taken : joined (lists (r ∷ rs)) ≡ x ∷ joined_two (run_in all (behind marks j r)) (joined (lists rs)) → One k (r ∷ rs) (record { list = k; at = j })
       unfolding joined
-      taken e =
-          record {
-            none = λ f. absurd (true≢false f);
-            one = λ t. rw mine e;
-            from = λ t. omega arith;
-            under = λ t. omega (arith, mine);
-            row = λ t. omega (arith, h, within, full);
-          }
+      taken e = record { is = rw mine e; from = omega arith; under = omega (arith, mine); row = omega (arith, h, within, full) }
 
-      alone : (p : Picked) → p.some ≡ false → First (suc k) rs p → First k (r ∷ rs) (picked k j)
+      alone : joined (lists rs) ≡ [] → One k (r ∷ rs) (record { list = k; at = j })
       unfolding joined
-      alone p e rest = taken (rw (next, rest.none e) (joined-none _ ∙ ap (λ (ps : List Pulse). x ∷ ps) (sym (joined-none _))))
+      alone rest = taken (rw (next, rest) (joined-none _ ∙ ap (λ (ps : List Pulse). x ∷ ps) (sym (joined-none _))))
 
-      module _ (p : Picked) (e : p.some ≡ true) (rest : First (suc k) rs p) where
+      module _ (q : Picked) (rest : One (suc k) rs q) where
         abbrev y : Pulse
-        y = pulse rs (p.list - suc k) p.at
+        y = pulse rs (q.list - suc k) q.at
 
-        both : joined (lists (r ∷ rs)) ≡ cond (lt (time_at work p.at) (time_at work j)) (y ∷ joined_two (x ∷ run_in all (behind marks j r)) (joined (lists (later rs (p.list - suc k) p.at)))) (x ∷ joined_two (run_in all (behind marks j r)) (joined (lists rs)))
+        both : joined (lists (r ∷ rs)) ≡ cond (lt (time_at work q.at) (time_at work j)) (y ∷ joined_two (x ∷ run_in all (behind marks j r)) (joined (lists (later rs (q.list - suc k) q.at)))) (x ∷ joined_two (run_in all (behind marks j r)) (joined (lists rs)))
         unfolding joined
-        both = rw (next, rest.one e) (two-cons x y _ _)
+        both = rw (next, rest.is) (two-cons x y _ _)
 
-        beaten : lt (time_at work p.at) (time_at work j) ≡ true → First k (r ∷ rs) p
+        beaten : lt (time_at work q.at) (time_at work j) ≡ true → One k (r ∷ rs) q
         unfolding joined
         beaten t =
-            let i : p.list - k ≡ suc (p.list - suc k) = omega (arith, rest.from e) in
-            record {
-              none = λ f. absurd (true≢false (sym e ∙ f));
-              one = λ _. rw i (both ∙ rw (t, next) refl);
-              from = λ _. omega (arith, rest.from e);
-              under = λ _. omega (arith, rest.under e, i);
-              row = rest.row;
-            }
+            let i : q.list - k ≡ suc (q.list - suc k) = omega (arith, rest.from) in
+            record { is = rw i (both ∙ rw (t, next) refl); from = omega (arith, rest.from); under = omega (arith, rest.under, i); row = rest.row }
 
-        kept : lt (time_at work p.at) (time_at work j) ≡ false → First k (r ∷ rs) (picked k j)
+        kept : lt (time_at work q.at) (time_at work j) ≡ false → One k (r ∷ rs) (record { list = k; at = j })
         kept t = taken (both ∙ rw t refl)
 
-    first_of : (p : Picked) → First (suc k) rs p → First k (r ∷ rs) (better work k j r.end p)
-    first_of p rest = go (ltb j r.end) refl p.some refl (lt (time_at work p.at) (time_at work j)) refl
-      where
-        go : (b : Bool) → ltb j r.end ≡ b → (s : Bool) → p.some ≡ s → (d : Bool) → lt (time_at work p.at) (time_at work j) ≡ d → First k (r ∷ rs) (cond b (cond (s && d) p (picked k j)) p)
-        go false e s f d g = passed_over p (ltb-false j r.end e) rest
-        go true e false f d g = alone (ltb-true j r.end e) p f rest
-        go true e true f true g = beaten (ltb-true j r.end e) p f rest g
-        go true e true f false g = kept (ltb-true j r.end e) p f rest g
+    of_none : joined (lists rs) ≡ [] → (b : Bool) → ltb j r.end ≡ b → First k (r ∷ rs) (cond b (picked k j) None)
+    of_none rest false e = passed_over None (ltb-false j r.end e) rest
+    of_none rest true e = alone (ltb-true j r.end e) rest
+
+    of_some : (q : Picked) → One (suc k) rs q → (b : Bool) → ltb j r.end ≡ b → (d : Bool) → lt (time_at work q.at) (time_at work j) ≡ d → First k (r ∷ rs) (cond b (cond d (Some q) (picked k j)) (Some q))
+    of_some q rest false e d g = passed_over (Some q) (ltb-false j r.end e) rest
+    of_some q rest true e true g = beaten (ltb-true j r.end e) q rest g
+    of_some q rest true e false g = kept (ltb-true j r.end e) q rest g
+
+    first_of : (p : Option Picked) → First (suc k) rs p → First k (r ∷ rs) (better work k j r.end p)
+    first_of None rest = of_none rest (ltb j r.end) refl
+    first_of (Some q) rest = of_some q rest (ltb j r.end) refl (lt (time_at work q.at) (time_at work j)) refl
 
   joined-nil : joined (lists []) ≡ []
   unfolding joined
@@ -132,15 +129,7 @@ module _ (work : List (List Float)) (marks : List ℕ) (same : length work ≡ l
 
   pub first : (k : ℕ) (rs : List Run) → ((i : ℕ) → (get_or rs i no_run).end ≤ 8192) → First k rs (picked_from work marks k rs)
   unfolding picked_from
-  first k [] w =
-      let no : true ≡ false → ⊥ = true≢false in
-      record {
-        none = λ e. joined-nil;
-        one = λ e. absurd (no (sym e));
-        from = λ e. absurd (no (sym e));
-        under = λ e. absurd (no (sym e));
-        row = λ e. absurd (no (sym e));
-      }
+  first k [] w = joined-nil
   first k (r ∷ rs) w = first_of k r rs (omega (arith, w 0, full)) _ (first (suc k) rs (λ i. w (suc i)))
 
 -- ---- runs by value
@@ -163,33 +152,35 @@ within-set rs k r h w = record { each = λ i. by i (eqb i k) refl (ltb k (length
     by i true e false t = rw (set_out rs k r (ltb-false k (length rs) t)) (w.each i)
 
 module _ (work : List (List Float)) (marks : List ℕ) (same : length work ≡ length marks) (full : length marks ≡ 8192) (r : Runs) (most : r.count ≤ length r.runs) (w : Within r.runs) where
-  abbrev p : Picked
+  abbrev p : Option Picked
   p = picked_in work marks r
 
-  abbrev run : Run
-  run = get_or r.runs p.list no_run
+  abbrev run : Picked → Run
+  run q = get_or r.runs q.list no_run
 
-  abbrev found : First work marks same full 0 (take r.count r.runs) p
+  found : First work marks same full 0 (take r.count r.runs) p
   found = first work marks same full 0 (take r.count r.runs) (within-take r.count r.runs w)
 
-  pub none_left : p.some ≡ false → joined (runs_in (pulses_in work marks) r) ≡ []
-  none_left e = found.none e
+  pub none_left : p ≡ None → joined (runs_in (pulses_in work marks) r) ≡ []
+  none_left e = subst (First work marks same full 0 (take r.count r.runs)) e found
 
-  pub in_lists : p.some ≡ true → p.list < r.count
-  in_lists e = let under = found.under e in let long = length-take r.count r.runs in omega (arith, under, long)
+  module _ (q : Picked) (e : p ≡ Some q) where
+    one : One work marks same full 0 (take r.count r.runs) q
+    one = subst (First work marks same full 0 (take r.count r.runs)) e found
 
-  pub in_rows : p.some ≡ true → p.at < 8192
-  in_rows e = found.row e
+    pub in_lists : q.list < r.count
+    in_lists = let under = one.under in let long = length-take r.count r.runs in omega (arith, under, long)
 
-  -- the pulse picked, and the rest
-  pub next-left : p.some ≡ true → joined (runs_in (pulses_in work marks) r) ≡ scaled_p run.factor (pulse_at work marks p.at) ∷ joined (runs_in (pulses_in work marks) (moved_on marks r p))
-  next-left e =
-      let here = in_lists e in
-      let cell = get_or-take r.count r.runs p.list no_run here in
-      let whole = take-set-lt r.count r.runs p.list (behind marks p.at run) here in
-      let it : First work marks same full 0 (take r.count r.runs) p = found in
-      let off : p.list - 0 ≡ p.list = omega arith in
-      it.one e ∙ ap (λ (i : ℕ). pulse work marks same full (take r.count r.runs) i p.at ∷ joined (lists work marks same full (later work marks same full (take r.count r.runs) i p.at))) off ∙ ap (λ (x : Run). scaled_p x.factor (pulse_at work marks p.at) ∷ joined (lists work marks same full (set (take r.count r.runs) p.list (behind marks p.at x)))) cell ∙ ap (λ (rs : List Run). scaled_p run.factor (pulse_at work marks p.at) ∷ joined (lists work marks same full rs)) (sym whole)
+    pub in_rows : q.at < 8192
+    in_rows = one.row
 
-  pub within-moved : Within (moved_on marks r p).runs
-  within-moved = within-set r.runs p.list (behind marks p.at run) (w.each p.list) w
+    -- the pulse picked, and the rest
+    pub next-left : joined (runs_in (pulses_in work marks) r) ≡ scaled_p (run q).factor (pulse_at work marks q.at) ∷ joined (runs_in (pulses_in work marks) (moved_on marks r q))
+    next-left =
+        let cell = get_or-take r.count r.runs q.list no_run in_lists in
+        let whole = take-set-lt r.count r.runs q.list (behind marks q.at (run q)) in_lists in
+        let off : q.list - 0 ≡ q.list = omega arith in
+        one.is ∙ ap (λ (i : ℕ). pulse work marks same full (take r.count r.runs) i q.at ∷ joined (lists work marks same full (later work marks same full (take r.count r.runs) i q.at))) off ∙ ap (λ (x : Run). scaled_p x.factor (pulse_at work marks q.at) ∷ joined (lists work marks same full (set (take r.count r.runs) q.list (behind marks q.at x)))) cell ∙ ap (λ (rs : List Run). scaled_p (run q).factor (pulse_at work marks q.at) ∷ joined (lists work marks same full rs)) (sym whole)
+
+  pub within-moved : (q : Picked) → Within (moved_on marks r q).runs
+  within-moved q = within-set r.runs q.list (behind marks q.at (run q)) (w.each q.list) w

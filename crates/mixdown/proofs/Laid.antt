@@ -1,5 +1,6 @@
 -- The work rows hold the summed lists one behind the other; so the runs of a bin over them are the lists' pulses of that bin, each times its
 -- list's factor. By the lists in turn: each stands behind those before it. Assumes nothing.
+use Rattle.std.specs.Prelude.{Some, None}
 use Prim.Native.Nat.{ℕ, zero, suc, ◌+◌, ◌-◌, ◌≤◌}
 use native.Mathlib.Omega.{arith}
 use mathlib.Core.Path.{◌≡◌, refl, sym, ap, ◌∙◌}
@@ -15,7 +16,7 @@ use Rattle.commands.specs.Play.{rows_of}
 use Rattle.merge.specs.Sum.{scaled_p}
 use Rattle.merge.specs.Taking.{Part, list_of}
 use Rattle.merge.specs.Work.{row_of_pulse, mark_of, over, lists_of, in_one, ends_from}
-use Rattle.mixdown.specs.Runs.{pulses_in, of_mark, run_in, advanced}
+use Rattle.mixdown.specs.Runs.{pulses_in, of_mark, run_in}
 use Rattle.mixdown.specs.Bins.{is_among, run_of}
 use Rattle.mixdown.specs.Starts.{target_of, run_for, runs_for_from, Ended}
 use Rattle.mixdown.proofs.Spans.{span_none}
@@ -69,7 +70,7 @@ module _ (t : Tables) (bins : List (List Float)) (pulses : List Pulse) (row : Li
     unfolding of_mark
     one-run = go (is_among row its)
       where
-        go : (b : Bool) → map (scaled_p p.factor) (of_mark (place_of row its) (take (end - cond b (advanced marks begin end (place_of row its)) end) (drop (cond b (advanced marks begin end (place_of row its)) end) all))) ≡ cond b (map (scaled_p p.factor) (of_mark (place_of row its) list)) []
+        go : (b : Bool) → run_in all (run_for marks (cond b (Some (place_of row its)) None) begin end p.factor) ≡ cond b (map (scaled_p p.factor) (of_mark (place_of row its) list)) []
         go true = ap (map (scaled_p p.factor)) (sym (front rows marks same end (place_of row its) ends begin).moved ∙ ap (of_mark (place_of row its)) spans)
         go false = rw (span_none all end end (omega arith)) refl
 

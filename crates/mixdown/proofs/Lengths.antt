@@ -1,4 +1,6 @@
 -- A pulse changes no length: neither of the rows nor of the scratch. Assumes nothing.
+use Rattle.quant.specs.declared.refusal.Refusal.{Refusal}
+use Rattle.std.specs.Prelude.{Result, Ok, Err}
 use Prim.Native.Nat.{ℕ, ◌+◌, ◌-◌, ◌≤◌}
 use native.Mathlib.Omega.{arith}
 use mathlib.Core.Path.{◌≡◌, refl, sym, ◌∙◌}
@@ -14,7 +16,7 @@ use Rattle.mix.specs.Part.{part_fits, on_part, first_row, second_row}
 use Rattle.mix.proofs.Parts.{first_holds, second_holds}
 use Rattle.mix.proofs.Samples.{carried-length, shaped-length}
 use Rattle.placing.specs.declared.Judged.{Judged}
-use Rattle.placing.specs.declared.Judged.TheVariants.{Plateau, Shaped, Refused}
+use Rattle.placing.specs.declared.Judged.TheVariants.{Plateau, Shaped}
 use Rattle.mixdown.specs.Sampled.{Rowed, added_to}
 use Rattle.mixdown.proofs.Holdings.{after-length}
 
@@ -48,17 +50,17 @@ module _ (rows s n : ℕ) (i q : List Float) (f : List Float → List Float) (sa
       go false e d g o h = refl
 
 module _ (s : Settings) (b : Bin) (numbers : List Float) (rows : ℕ) (st : Rowed) where
-  pub i-length : (j : Judged) → length (added_to s b numbers rows j st).i ≡ length st.i
-  i-length (Plateau f) = first-length rows f.start f.count st.i st.q _ (carried-length _ _ _)
-  i-length (Shaped c) = first-length rows c.start c.points st.i st.q _ (λ xs. shaped-length _ _ _ _ _ _ _ xs)
-  i-length (Refused r) = refl
+  pub i-length : (j : Result Judged Refusal) → length (added_to s b numbers rows j st).i ≡ length st.i
+  i-length (Ok (Plateau f)) = first-length rows f.start f.count st.i st.q _ (carried-length _ _ _)
+  i-length (Ok (Shaped c)) = first-length rows c.start c.points st.i st.q _ (λ xs. shaped-length _ _ _ _ _ _ _ xs)
+  i-length (Err r) = refl
 
-  pub q-length : (j : Judged) → length (added_to s b numbers rows j st).q ≡ length st.q
-  q-length (Plateau f) = second-length rows f.start f.count st.i st.q _ (carried-length _ _ _)
-  q-length (Shaped c) = second-length rows c.start c.points st.i st.q _ (λ xs. shaped-length _ _ _ _ _ _ _ xs)
-  q-length (Refused r) = refl
+  pub q-length : (j : Result Judged Refusal) → length (added_to s b numbers rows j st).q ≡ length st.q
+  q-length (Ok (Plateau f)) = second-length rows f.start f.count st.i st.q _ (carried-length _ _ _)
+  q-length (Ok (Shaped c)) = second-length rows c.start c.points st.i st.q _ (λ xs. shaped-length _ _ _ _ _ _ _ xs)
+  q-length (Err r) = refl
 
-  pub scratch-length : length st.i ≤ length st.scratch → (j : Judged) → length (added_to s b numbers rows j st).scratch ≡ length st.scratch
-  scratch-length h (Plateau f) = refl
-  scratch-length h (Shaped c) = after-length s b numbers c.offset (length st.i - c.start) st.scratch (omega (arith, h))
-  scratch-length h (Refused r) = refl
+  pub scratch-length : length st.i ≤ length st.scratch → (j : Result Judged Refusal) → length (added_to s b numbers rows j st).scratch ≡ length st.scratch
+  scratch-length h (Ok (Plateau f)) = refl
+  scratch-length h (Ok (Shaped c)) = after-length s b numbers c.offset (length st.i - c.start) st.scratch (omega (arith, h))
+  scratch-length h (Err r) = refl

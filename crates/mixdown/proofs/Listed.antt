@@ -1,6 +1,8 @@
 -- Bins run one after another: how a list of bins parts, what is left of it after one bin, how many pulses are added, and that no length changes.
 -- Assumes nothing.
-use Prim.Native.Nat.{ℕ, suc, ◌+◌, ◌*◌, ◌-◌, ◌<◌, ◌≤◌}
+use Rattle.quant.specs.Refusal.{Answer, refuse}
+use Rattle.std.specs.Prelude.{Result, Ok, Err}
+use Prim.Native.Nat.{ℕ, suc, ◌+◌, ◌*◌, ◌<◌, ◌≤◌}
 use native.Mathlib.Omega.{arith}
 use native.Mathlib.Numerals.{add-one}
 use mathlib.Core.Path.{◌≡◌, refl, sym, ap, ◌∙◌}
@@ -9,9 +11,8 @@ use mathlib.Core.List.{List, [], ◌∷◌, ◌++◌, map, append-nil, append_as
 use lib.Ieee.{Float}
 use lib.ListN.{length, take, drop, get_or, drop_of_length-le}
 use lib.Seq.{drop-cons, take-suc}
-use Rattle.quant.specs.declared.refusal.Answer.{Answer}
-use Rattle.quant.specs.declared.refusal.Answer.TheVariants as answer
 use Rattle.quant.specs.declared.refusal.Refusal.{Refusal}
+use Rattle.quant.specs.declared.refusal.Refused.{Refused}
 use Rattle.quant.specs.declared.settings.Settings.{Settings}
 use Rattle.pulse.specs.declared.bin.Bin.{Bin}
 use Rattle.pulse.specs.declared.list.Pulse.{Pulse}
@@ -74,18 +75,18 @@ firsts-length before (r ∷ rs) = go (is_among r before) (firsts-length (before 
 
 -- what a part of a call is like: where it is done it has added so many pulses, and no length changes
 pub record Like (st : Rowed) (k most : ℕ) (o : Out) : Type 0 where
-  pub count : (m : ℕ) → o.answer ≡ answer.Done m → m ≤ k + most
+  pub count : (m : ℕ) → o.answer ≡ Ok m → m ≤ k + most
   pub i-same : length o.left.i ≡ length st.i
   pub q-same : length o.left.q ≡ length st.q
   pub scratch-same : length o.left.scratch ≡ length st.scratch
 
-pub done_inj : (k m : ℕ) → answer.Done k ≡ answer.Done m → k ≡ m
+pub done_inj : (k m : ℕ) → ◌≡◌ {A = Answer} (Ok k) (Ok m) → k ≡ m
 done_inj k m e = cc
 
-like-done : (st : Rowed) (k : ℕ) → Like st k 0 (out (answer.Done k) st)
+like-done : (st : Rowed) (k : ℕ) → Like st k 0 (out (Ok k) st)
 like-done st k = record { count = λ m e. let same = done_inj k m e in omega (arith, same); i-same = refl; q-same = refl; scratch-same = refl }
 
-like-refused : (st : Rowed) (k most : ℕ) (r : Refusal) → Like st k most (out (answer.Refused r k) st)
+like-refused : (st : Rowed) (k most : ℕ) (r : Refusal) → Like st k most (out (refuse r k) st)
 like-refused st k most r = record { count = λ m e. let z : ◌≡◌ {A = ℕ} 0 1 = cc in absurd (omega arith); i-same = refl; q-same = refl; scratch-same = refl }
 
 -- a part behind another
@@ -112,25 +113,25 @@ module _ (s : Settings) (rows : ℕ) where
       let short : length st'.i ≤ length st'.scratch = rw (i-length s b numbers rows st d, scratch-length s b numbers rows st h d) h in
       go d (like-more st k (1 + length ps) (suc (length ps)) _ (omega arith) (like-later st st' k (suc k) 1 (length ps) _ (omega arith) (i-length s b numbers rows st d) (q-length s b numbers rows st d) (scratch-length s b numbers rows st h d) (pulses-like b numbers ps (suc k) st' short)))
     where
-      go : (d : Judged) → Like st k (suc (length ps)) (ran_pulses s b numbers rows ps (suc k) (added_to s b numbers rows (judged s b numbers p (length st.i)) st)) → Like st k (suc (length ps)) (unless_refused d k st (ran_pulses s b numbers rows ps (suc k) (added_to s b numbers rows (judged s b numbers p (length st.i)) st)))
-      go (judgement.Refused r) l = like-refused st k (suc (length ps)) r
-      go (judgement.Plateau f) l = l
-      go (judgement.Shaped c) l = l
+      go : (d : Result Judged Refusal) → Like st k (suc (length ps)) (ran_pulses s b numbers rows ps (suc k) (added_to s b numbers rows (judged s b numbers p (length st.i)) st)) → Like st k (suc (length ps)) (unless_refused d k st (ran_pulses s b numbers rows ps (suc k) (added_to s b numbers rows (judged s b numbers p (length st.i)) st)))
+      go (Err r) l = like-refused st k (suc (length ps)) r
+      go (Ok (judgement.Plateau f)) l = l
+      go (Ok (judgement.Shaped c)) l = l
 
   module _ (merged : List Float → List Pulse) where
-    pub bins-none : (k : ℕ) (st : Rowed) → ran_bins s rows merged [] k st ≡ out (answer.Done k) st
+    pub bins-none : (k : ℕ) (st : Rowed) → ran_bins s rows merged [] k st ≡ out (Ok k) st
     unfolding ran_bins
     bins-none k st = refl
 
     -- one bin, by what it came to
     module _ (r : List Float) (rs : List (List Float)) (k : ℕ) (st st' : Rowed) where
-      pub bins-on : (m : ℕ) → out (answer.Done m) st' ≡ ran_pulses s (bin_of r) (numbers_of r) rows (merged r) k st → ran_bins s rows merged (r ∷ rs) k st ≡ ran_bins s rows merged rs m st'
+      pub bins-on : (m : ℕ) → out (Ok m) st' ≡ ran_pulses s (bin_of r) (numbers_of r) rows (merged r) k st → ran_bins s rows merged (r ∷ rs) k st ≡ ran_bins s rows merged rs m st'
       unfolding ran_bins
       bins-on m e = ap (λ (o : Out). and_then o (ran_bins s rows merged rs)) (sym e)
 
-      pub bins-refused : (why : Refusal) (m : ℕ) → out (answer.Refused why m) st' ≡ ran_pulses s (bin_of r) (numbers_of r) rows (merged r) k st → ran_bins s rows merged (r ∷ rs) k st ≡ out (answer.Refused why m) st'
+      pub bins-refused : (x : Refused) → out (Err x) st' ≡ ran_pulses s (bin_of r) (numbers_of r) rows (merged r) k st → ran_bins s rows merged (r ∷ rs) k st ≡ out (Err x) st'
       unfolding ran_bins
-      bins-refused why m e = ap (λ (o : Out). and_then o (ran_bins s rows merged rs)) (sym e)
+      bins-refused x e = ap (λ (o : Out). and_then o (ran_bins s rows merged rs)) (sym e)
 
     -- two parts of a list of bins
     pub bins-append : (xs ys : List (List Float)) (k : ℕ) (st : Rowed) → ran_bins s rows merged (xs ++ ys) k st ≡ and_then (ran_bins s rows merged xs k st) (ran_bins s rows merged ys)
@@ -140,8 +141,8 @@ module _ (s : Settings) (rows : ℕ) where
       where
         by : (a : Answer) (l : Rowed) → ((m : ℕ) (st' : Rowed) → ran_bins s rows merged (xs ++ ys) m st' ≡ and_then (ran_bins s rows merged xs m st') (ran_bins s rows merged ys))
             → and_then (out a l) (ran_bins s rows merged (xs ++ ys)) ≡ and_then (and_then (out a l) (ran_bins s rows merged xs)) (ran_bins s rows merged ys)
-        by (answer.Done m) l f = f m l
-        by (answer.Refused r m) l f = refl
+        by (Ok m) l f = f m l
+        by (Err e) l f = refl
 
     -- all bins
     pub bins-like : ((r : List Float) → length (merged r) ≤ 65536) → (rs : List (List Float)) (k : ℕ) (st : Rowed) → length st.i ≤ length st.scratch → Like st k (length rs * 65536) (ran_bins s rows merged rs k st)
@@ -152,11 +153,11 @@ module _ (s : Settings) (rows : ℕ) where
         by o.answer o.left (pulses-like (bin_of r) (numbers_of r) (merged r) k st h) (bins-like few rs)
       where
         by : (a : Answer) (l : Rowed) → Like st k (length (merged r)) (out a l) → ((m : ℕ) (st' : Rowed) → length st'.i ≤ length st'.scratch → Like st' m (length rs * 65536) (ran_bins s rows merged rs m st')) → Like st k (suc (length rs) * 65536) (and_then (out a l) (ran_bins s rows merged rs))
-        by (answer.Done m) l like rest =
+        by (Ok m) l like rest =
             let less = like.count m refl in
             let short : length l.i ≤ length l.scratch = rw (like.i-same, like.scratch-same) h in
             like-more st k (65536 + length rs * 65536) (suc (length rs) * 65536) _ (omega arith) (like-later st l k m 65536 (length rs * 65536) _ (let f = few r in omega (arith, less, f)) like.i-same like.q-same like.scratch-same (rest m l short))
-        by (answer.Refused why m) l like rest = record { count = λ n e. let z : ◌≡◌ {A = ℕ} 0 1 = cc in absurd (omega arith); i-same = like.i-same; q-same = like.q-same; scratch-same = like.scratch-same }
+        by (Err x) l like rest = record { count = λ n e. let z : ◌≡◌ {A = ℕ} 0 1 = cc in absurd (omega arith); i-same = like.i-same; q-same = like.q-same; scratch-same = like.scratch-same }
 
     -- the same pulses, the same call
     pub bins-alike : (other : List Float → List Pulse) → ((r : List Float) → merged r ≡ other r) → (rs : List (List Float)) (k : ℕ) (st : Rowed) → ran_bins s rows merged rs k st ≡ ran_bins s rows other rs k st
@@ -167,8 +168,8 @@ module _ (s : Settings) (rows : ℕ) where
         ap (λ (ps : List Pulse). and_then (ran_pulses s (bin_of r) (numbers_of r) rows ps k st) (ran_bins s rows merged rs)) (same r) ∙ by o.answer o.left (bins-alike other same rs)
       where
         by : (a : Answer) (l : Rowed) → ((m : ℕ) (st' : Rowed) → ran_bins s rows merged rs m st' ≡ ran_bins s rows other rs m st') → and_then (out a l) (ran_bins s rows merged rs) ≡ and_then (out a l) (ran_bins s rows other rs)
-        by (answer.Done m) l f = f m l
-        by (answer.Refused why m) l f = refl
+        by (Ok m) l f = f m l
+        by (Err e) l f = refl
 
 -- ---- the bins of one list, of which p are passed
 
@@ -211,9 +212,9 @@ module _ {s : Settings} {rows : ℕ} {merged : List Float → List Pulse} {befor
   pub same_after : length st₀.i ≤ length st₀.scratch → (a : Answer) (st' : Rowed) → out a st' ≡ ran_pulses s (bin_of r) (numbers_of r) rows (merged r) n st → Like st n (length (merged r)) (out a st')
   same_after h a st' e = rw e (pulses-like s rows (bin_of r) (numbers_of r) (merged r) n st (omega (arith, h, l.same-i, l.same-scratch)))
 
-  pub new-step : length st₀.i ≤ length st₀.scratch → length (merged r) ≤ 65536 → p < length its → is_among r (before ++ take p its) ≡ false → (m : ℕ) (st' : Rowed) → out (answer.Done m) st' ≡ ran_pulses s (bin_of r) (numbers_of r) rows (merged r) n st → Listing s rows merged before its all st₀ added st' m (p + 1)
+  pub new-step : length st₀.i ≤ length st₀.scratch → length (merged r) ≤ 65536 → p < length its → is_among r (before ++ take p its) ≡ false → (m : ℕ) (st' : Rowed) → out (Ok m) st' ≡ ran_pulses s (bin_of r) (numbers_of r) rows (merged r) n st → Listing s rows merged before its all st₀ added st' m (p + 1)
   new-step short few h new m st' e =
-      let like = same_after short (answer.Done m) st' e in
+      let like = same_after short (Ok m) st' e in
       let less = like.count m refl in
       record {
         same-i = like.i-same ∙ l.same-i;
@@ -224,10 +225,10 @@ module _ {s : Settings} {rows : ℕ} {merged : List Float → List Pulse} {befor
         whole = sym (bins-on s rows merged r behind n st st' m e) ∙ new_is h new;
       }
 
-  pub refused-step : p < length its → is_among r (before ++ take p its) ≡ false → (why : Refusal) (m : ℕ) (st' : Rowed) → out (answer.Refused why m) st' ≡ ran_pulses s (bin_of r) (numbers_of r) rows (merged r) n st → out (answer.Refused why m) st' ≡ all
-  refused-step h new why m st' e = sym (bins-refused s rows merged r behind n st st' why m e) ∙ new_is h new
+  pub refused-step : p < length its → is_among r (before ++ take p its) ≡ false → (x : Refused) (st' : Rowed) → out (Err x) st' ≡ ran_pulses s (bin_of r) (numbers_of r) rows (merged r) n st → out (Err x) st' ≡ all
+  refused-step h new x st' e = sym (bins-refused s rows merged r behind n st st' x e) ∙ new_is h new
 
-  pub list-end : length its ≤ p → out (answer.Done n) st ≡ all
+  pub list-end : length its ≤ p → out (Ok n) st ≡ all
   list-end h = sym (bins-none s rows merged n st) ∙ ap (λ (rs : List (List Float)). ran_bins s rows merged rs n st) (sym (ap (firsts_after (before ++ take p its)) (drop_of_length-le its h) ∙ firsts-none (before ++ take p its))) ∙ l.whole
 
 pub list-start : (s : Settings) (rows : ℕ) (merged : List Float → List Pulse) (before its : List (List Float)) (st : Rowed) (added : ℕ) → Listing s rows merged before its (ran_bins s rows merged (firsts_after before its) added st) st added st added 0

@@ -1,22 +1,23 @@
 -- The picking of the next pulse, list by list from the last to the first. Assumes nothing.
+use Rattle.std.specs.Prelude.{Option, Some, None}
 use Prim.Native.Nat.{ℕ, ◌+◌, ◌≤◌, ◌<◌}
 use native.Mathlib.Omega.{arith}
 use native.Mathlib.Numerals.{add-one}
-use mathlib.Core.Path.{◌≡◌, refl}
-use mathlib.Core.Bool.{Bool, true, false, ◌&&◌, cond}
+use mathlib.Core.Path.{◌≡◌, refl, ap}
+use mathlib.Core.Bool.{Bool, true, false, cond}
 use mathlib.Core.List.{List}
 use lib.Dec.{ltb}
-use lib.Ieee.{Float, lt}
+use lib.Ieee.{Float}
 use lib.ListN.{length, take, drop, get_or}
 use borrow.Author.Tests.{ltb-true}
 use Rattle.tables.proofs.Finding.{none_left, next-left}
 use Rattle.mixdown.specs.declared.runs.Run.{Run}
 use Rattle.mixdown.specs.declared.runs.Picked.{Picked}
-use Rattle.mixdown.specs.Runs.{no_run, none_picked, picked, time_at, advanced_by, better, picked_from}
+use Rattle.mixdown.specs.Runs.{InRows, no_run, picked, is_earlier, advanced_by, better, picked_from}
 
 -- what is picked from none, and from one list more
 module _ (work : List (List Float)) (marks : List ℕ) (count : ℕ) (runs : List Run) where
-  pub picked_none : none_picked ≡ picked_from work marks count (drop count (take count runs))
+  pub picked_none : None ≡ picked_from work marks count (drop count (take count runs))
   unfolding picked_from
   picked_none = rw (none_left runs count count (omega arith))
 
@@ -25,10 +26,17 @@ module _ (work : List (List Float)) (marks : List ℕ) (count : ℕ) (runs : Lis
   picked_more k h e = rw (next-left runs count k no_run h e, add-one k) refl
 
 -- its row is one of the work rows
-pub better-within : (work : List (List Float)) (k at end n : ℕ) (best : Picked) → best.at < n → end ≤ n → (better work k at end best).at < n
-better-within work k at end n best h e = go (ltb at end) refl (best.some && lt (time_at work best.at) (time_at work at))
+abbrev at_or : Option Picked → ℕ
+at_or (Some q) = q.at
+at_or None = 0
+
+pub better-within : (work : List (List Float)) (k at end n : ℕ) (best : Option Picked) → InRows n best → end ≤ n → InRows n (better work k at end best)
+better-within work k at end n best h e = record { row = go (ltb at end) refl (is_earlier work best at) }
   where
-    go : (b : Bool) → ltb at end ≡ b → (d : Bool) → (cond b (cond d best (picked k at)) best).at < n
-    go false t d = h
-    go true t true = h
-    go true t false = let under = ltb-true at end t in omega (arith, e, under)
+    go : (b : Bool) → ltb at end ≡ b → (d : Bool) → (q : Picked) → cond b (cond d best (picked k at)) best ≡ Some q → q.at < n
+    go false t d q f = h.row q f
+    go true t true q f = h.row q f
+    go true t false q f = let under = ltb-true at end t in let same : at ≡ q.at = ap at_or f in omega (arith, e, under, same)
+
+pub none-within : (n : ℕ) → InRows n None
+none-within n = record { row = λ q e. let z : ◌≡◌ {A = ℕ} 0 1 = cc in absurd (omega arith) }

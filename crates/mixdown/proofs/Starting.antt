@@ -1,8 +1,9 @@
 -- The runs of a bin, made list by list. Assumes nothing.
+use Rattle.std.specs.Prelude.{Option, Some, None}
 use Prim.Native.Nat.{ℕ, zero, suc, ◌+◌, ◌<◌, ◌≤◌}
 use native.Mathlib.Omega.{arith}
 use native.Mathlib.Numerals.{add-one}
-use mathlib.Core.Path.{◌≡◌}
+use mathlib.Core.Path.{◌≡◌, refl}
 use mathlib.Core.List.{List, [], ◌∷◌, ◌++◌, append-nil}
 use lib.Ieee.{Float}
 use lib.ListN.{length, take, drop, get_or, set, replicate, drop_of_length-le}
@@ -29,6 +30,10 @@ within-cons r rs h w = record { each = go }
 pub within-replicate : (n : ℕ) (r : Run) → r.end ≤ 8192 → Within (replicate n r)
 within-replicate zero r h = within-nil
 within-replicate (suc n) r h = within-cons r (replicate n r) h (within-replicate n r h)
+
+pub run-end : (marks : List ℕ) (found : Option ℕ) (begin end : ℕ) (factor : Float) → (run_for marks found begin end factor).end ≡ end
+run-end marks (Some mark) begin end factor = refl
+run-end marks None begin end factor = refl
 
 -- ---- one list more
 module _ (t : Tables) (bins : List (List Float)) (marks : List ℕ) (row : List Float) (parts : List Part) (ends : List ℕ) (runs : List Run) (begin k : ℕ) where

@@ -1,5 +1,5 @@
 -- What is left of each list that takes part, for one bin: cursors over the work rows. Definitions only.
-use Rattle.std.specs.Prelude.{ℕ, suc, ◌+◌, ◌-◌, ◌≤◌, true, false, ◌&&◌, cond, List, [], ◌∷◌, map, ltb, eqb, take, drop, get_or, set, Float}
+use Rattle.std.specs.Prelude.{ℕ, suc, ◌+◌, ◌-◌, ◌≤◌, ◌<◌, ◌≡◌, Bool, false, cond, List, [], ◌∷◌, map, ltb, eqb, take, drop, get_or, set, Float, Option, Some, None}
 use Rattle.std.specs.Float.{nan}
 use Rattle.std.specs.Float.Ieee.{lt}
 use Rattle.pulse.specs.declared.list.Pulse.{Pulse}
@@ -47,21 +47,23 @@ advanced_by marks r = advanced marks r.at r.end r.mark
 abbrev pub time_at : List (List Float) → ℕ → Float
 time_at work at = get_or (get_or work at []) 0 nan
 
-abbrev pub none_picked : Picked
-none_picked = record { some = false; list = 0; at = 0 }
+abbrev pub picked : ℕ → ℕ → Option Picked
+picked k at = Some (record { list = k; at = at })
 
-abbrev pub picked : ℕ → ℕ → Picked
-picked k at = record { some = true; list = k; at = at }
+-- whether the best so far is earlier than a row
+abbrev pub is_earlier : List (List Float) → Option Picked → ℕ → Bool
+is_earlier work (Some best) at = lt (time_at work best.at) (time_at work at)
+is_earlier work None at = false
 
 -- list k's next row beside the best of the lists behind it
-abbrev pub better : List (List Float) → ℕ → ℕ → ℕ → Picked → Picked
-better work k at end best = cond (ltb at end) (cond (best.some && lt (time_at work best.at) (time_at work at)) best (picked k at)) best
+abbrev pub better : List (List Float) → ℕ → ℕ → ℕ → Option Picked → Option Picked
+better work k at end best = cond (ltb at end) (cond (is_earlier work best at) best (picked k at)) best
 
-unfoldable pub picked_from : List (List Float) → List ℕ → ℕ → List Run → Picked
-picked_from work marks k [] = none_picked
+unfoldable pub picked_from : List (List Float) → List ℕ → ℕ → List Run → Option Picked
+picked_from work marks k [] = None
 picked_from work marks k (r ∷ rs) = better work k (advanced_by marks r) r.end (picked_from work marks (suc k) rs)
 
-abbrev pub picked_in : List (List Float) → List ℕ → Runs → Picked
+abbrev pub picked_in : List (List Float) → List ℕ → Runs → Option Picked
 picked_in work marks r = picked_from work marks 0 (take r.count r.runs)
 
 -- no run, and one that begins behind a row
@@ -73,6 +75,10 @@ behind marks at r = record { at = advanced marks (at + 1) r.end r.mark; end = r.
 
 abbrev pub moved_on : List ℕ → Runs → Picked → Runs
 moved_on marks r p = record { count = r.count; runs = set r.runs p.list (behind marks p.at (get_or r.runs p.list no_run)) }
+
+-- the best so far is one of the work rows
+pub record InRows (n : ℕ) (best : Option Picked) : Type 0 where
+  pub row : (q : Picked) → best ≡ Some q → q.at < n
 
 -- no run ends past the work rows
 pub record Within (rs : List Run) : Type 0 where

@@ -1,8 +1,9 @@
 -- Document 01: pulses added onto rows one after another, up to the first that is refused: "a refused pulse writes no sample, pulses before it
 -- in the same call stay added"; the answer's place and count are pulses added. Definitions only.
-use Rattle.std.specs.Prelude.{ℕ, suc, ◌-◌, Bool, true, ◌&&◌, cond, List, [], ◌∷◌, leb, eqb, Float, length, take}
-use Rattle.quant.specs.declared.refusal.Answer.{Answer}
-use Rattle.quant.specs.declared.refusal.Answer.TheVariants as answer
+use Rattle.quant.specs.Refusal.{Answer, refuse}
+use Rattle.std.specs.Prelude.{ℕ, suc, ◌-◌, Bool, true, ◌&&◌, cond, List, [], ◌∷◌, leb, eqb, Float, length, take, Result, Ok, Err}
+use Rattle.quant.specs.declared.refusal.Refusal.{Refusal}
+use Rattle.shape.specs.declared.parts.Parts.{Parts}
 use Rattle.quant.specs.declared.refusal.Refusal.TheVariants.{WrongSize}
 use Rattle.quant.specs.declared.settings.Settings.{Settings}
 use Rattle.rows.specs.Rows.{rows_fit}
@@ -10,7 +11,6 @@ use Rattle.tables.specs.declared.Tables.{Tables}
 use Rattle.merge.specs.declared.taking.Taking.{Taking}
 use Rattle.merge.specs.declared.work.Ends.{Ends}
 use Rattle.merge.specs.Taking.{parts_in}
-use Rattle.shape.specs.declared.parts.Parted.{Parted}
 use Rattle.shape.specs.Parts.{parted_of}
 use Rattle.shape.specs.Envelope.{least, scratch_after}
 use Rattle.mix.specs.Part.{first_row, second_row}
@@ -22,7 +22,7 @@ use Rattle.pulse.specs.Bin.{bin_of, numbers_of}
 use Rattle.placing.specs.declared.Flat.{Flat}
 use Rattle.placing.specs.declared.Curved.{Curved}
 use Rattle.placing.specs.declared.Judged.{Judged}
-use Rattle.placing.specs.declared.Judged.TheVariants.{Plateau, Shaped, Refused}
+use Rattle.placing.specs.declared.Judged.TheVariants.{Plateau, Shaped}
 use Rattle.placing.specs.Judged.{judged}
 use Rattle.mixdown.specs.Bins.{all_rows, firsts_after}
 use Rattle.mixdown.specs.Starts.{merged_in}
@@ -55,7 +55,7 @@ with_plateau rows f st =
     st.scratch
 
 -- the parts of its envelope in what is left of a row
-abbrev pub parts_at : Settings → Bin → Float → ℕ → Parted
+abbrev pub parts_at : Settings → Bin → Float → ℕ → Result Parts Refusal
 parts_at s b offset room = parted_of b.envelope.width.0 b.envelope.plateau.0 offset s.rate.0 s.dt.0 (least room 65536)
 
 -- with the envelope's points in the scratch
@@ -71,22 +71,22 @@ abbrev pub with_shape : Settings → Bin → List Float → ℕ → Curved → R
 with_shape s b numbers rows c st =
     with_points rows c st.i st.q (scratch_after b.envelope.shape numbers (parts_at s b c.offset (length st.i - c.start)) st.scratch)
 
-abbrev pub added_to : Settings → Bin → List Float → ℕ → Judged → Rowed → Rowed
-added_to s b numbers rows (Plateau f) st = with_plateau rows f st
-added_to s b numbers rows (Shaped c) st = with_shape s b numbers rows c st
-added_to s b numbers rows (Refused r) st = st
+abbrev pub added_to : Settings → Bin → List Float → ℕ → Result Judged Refusal → Rowed → Rowed
+added_to s b numbers rows (Ok (Plateau f)) st = with_plateau rows f st
+added_to s b numbers rows (Ok (Shaped c)) st = with_shape s b numbers rows c st
+added_to s b numbers rows (Err r) st = st
 
 -- ---- one after another
 
 -- a refusal ends the call, with k pulses added before; else it goes on
-abbrev pub unless_refused : Judged → ℕ → Rowed → Out → Out
-unless_refused (Refused r) k st next = out (answer.Refused r k) st
-unless_refused (Plateau f) k st next = next
-unless_refused (Shaped c) k st next = next
+abbrev pub unless_refused : Result Judged Refusal → ℕ → Rowed → Out → Out
+unless_refused (Err r) k st next = out (refuse r k) st
+unless_refused (Ok (Plateau f)) k st next = next
+unless_refused (Ok (Shaped c)) k st next = next
 
 -- the pulses of a bin
 unfoldable pub ran_pulses : Settings → Bin → List Float → ℕ → List Pulse → ℕ → Rowed → Out
-ran_pulses s b numbers rows [] k st = out (answer.Done k) st
+ran_pulses s b numbers rows [] k st = out (Ok k) st
 ran_pulses s b numbers rows (p ∷ ps) k st =
     let j = judged s b numbers p (length st.i) in
     unless_refused j k st (ran_pulses s b numbers rows ps (suc k) (added_to s b numbers rows j st))
@@ -96,12 +96,12 @@ abbrev pub and_then : Out → (ℕ → Rowed → Out) → Out
 and_then o next = go o.answer
   where
     go : Answer → Out
-    go (answer.Done k) = next k o.left
-    go (answer.Refused r k) = o
+    go (Ok k) = next k o.left
+    go (Err e) = o
 
 -- the bins in order, each with its pulses
 unfoldable pub ran_bins : Settings → ℕ → (List Float → List Pulse) → List (List Float) → ℕ → Rowed → Out
-ran_bins s rows merged [] k st = out (answer.Done k) st
+ran_bins s rows merged [] k st = out (Ok k) st
 ran_bins s rows merged (r ∷ rs) k st = and_then (ran_pulses s (bin_of r) (numbers_of r) rows (merged r) k st) (ran_bins s rows merged rs)
 
 -- ---- the whole of it, for anything that is lent
@@ -121,4 +121,4 @@ unfoldable pub mixed_down : Settings → Tables → Taking → Ends → List (Li
 mixed_down s t taking ends bins work marks rows st =
     cond (mix_fits taking ends (length bins) (length work) (length marks) rows (length st.i) (length st.q) (length st.scratch))
     (ran_bins s rows (merged_in t bins work marks (parts_in taking) ends.ends) (firsts_after [] (all_rows t bins (parts_in taking))) 0 st)
-    (out (answer.Refused WrongSize 0) st)
+    (out (refuse WrongSize 0) st)

@@ -1,5 +1,5 @@
 -- Where the runs of a bin begin: in each list, whose rows stand from one end to the next, the first row of the bin. Definitions only.
-use Rattle.std.specs.Prelude.{ℕ, ◌≤◌, cond, List, [], ◌∷◌, map, ltb, Float, get_or}
+use Rattle.std.specs.Prelude.{ℕ, ◌≤◌, min, cond, List, [], ◌∷◌, map, Float, get_or, Option, Some, None}
 use Rattle.pulse.specs.Bin.{place_of}
 use Rattle.tables.specs.declared.Tables.{Tables}
 use Rattle.tables.specs.Tables.{channel_at}
@@ -8,21 +8,20 @@ use Rattle.pulse.specs.declared.list.Pulse.{Pulse}
 use Rattle.merge.specs.Sum.{summed_again}
 use Rattle.merge.specs.Join.{joined}
 use Rattle.merge.specs.Taking.{Part}
-use Rattle.mixdown.specs.declared.bins.Target.{Target}
 use Rattle.mixdown.specs.declared.runs.Run.{Run}
 use Rattle.mixdown.specs.Runs.{advanced, pulses_in, run_in}
 use Rattle.mixdown.specs.Bins.{is_among}
 
 -- how many bins a channel has: 64 places, of which the first so many are there
 abbrev pub bins_held : Tables → ℕ → ℕ
-bins_held t i = cond (ltb (channel_at t i).bins 64) (channel_at t i).bins 64
+bins_held t i = min (channel_at t i).bins 64
 
-abbrev pub target_of : List (List Float) → List Float → Target
-target_of rows row = record { some = is_among row rows; place = place_of row rows }
+abbrev pub target_of : List (List Float) → List Float → Option ℕ
+target_of rows row = cond (is_among row rows) (Some (place_of row rows)) None
 
-abbrev pub run_for : List ℕ → Target → ℕ → ℕ → Float → Run
-run_for marks found begin end factor =
-    record { at = cond found.some (advanced marks begin end found.place) end; end = end; mark = found.place; factor = factor }
+abbrev pub run_for : List ℕ → Option ℕ → ℕ → ℕ → Float → Run
+run_for marks (Some mark) begin end factor = record { at = advanced marks begin end mark; end = end; mark = mark; factor = factor }
+run_for marks None begin end factor = record { at = end; end = end; mark = 0; factor = factor }
 
 unfoldable pub runs_for_from : Tables → List (List Float) → List ℕ → List Float → ℕ → List Part → List ℕ → List Run
 runs_for_from t bins marks row begin [] ends = []

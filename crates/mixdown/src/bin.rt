@@ -8,7 +8,7 @@ ghost use Rattle.merge.specs.Join.{joined};
 ghost use Rattle.mixdown.specs.Runs.{Within, no_run, pulse_at, pulses_in, runs_in};
 ghost use Rattle.mixdown.specs.Sampled.{rowed, out, ran_pulses};
 
-use super::onto::{Added, Held, add_pulse};
+use super::onto::add_pulse;
 use super::runs::{Picked, Runs, move_on, pick, pulse_at};
 use merge::sum::{is_near, plus, scaled};
 use pulse::bin::bin_of;
@@ -34,42 +34,35 @@ pub(crate) fn sample_bin(
     requires q_value { (rows_fit rows (length i.old) (length q.old) ≡ true) × (length i.old ≤ length scratch.old) × (added ≤ 2 ^ 60) }
     ensures { out result (rowed i.new q.new scratch.new) ≡ ran_pulses s (bin_of row) (numbers_of row) rows (summed_again tolerance.0 (joined (runs_in (pulses_in work.now marks.now) runs))) added (rowed i.old q.old scratch.old) }
 {
-    let mut r = runs;
-    let mut p = pick(r, work, marks);
-    if !p.some {
-        return Answer::Done(added);
-    }
-    let b = bin_of(row);
-    let mut kept = picked_pulse(r, p, work, marks);
-    let mut held = Held {
-        some: false,
-        offset: 0.0,
+    let Some(first) = pick(runs, work, marks) else {
+        return Ok(added);
     };
+    let b = bin_of(row);
+    let mut kept = picked_pulse(runs, first, work, marks);
+    let mut held = None;
     let mut n = added;
-    r = move_on(r, p, marks);
-    p = pick(r, work, marks);
-    while p.some {
+    let mut r = move_on(runs, first, marks);
+    while let Some(p) = pick(r, work, marks) {
         let next = picked_pulse(r, p, work, marks);
         r = move_on(r, p, marks);
-        p = pick(r, work, marks);
         if is_near(kept.time, next.time, tolerance) {
             kept = plus(kept, next);
         } else {
             match add_pulse(s, b, &row[5..77], kept, held, rows, i, q, scratch) {
-                Added::Onto(h) => {
+                Ok(h) => {
                     held = h;
                     kept = next;
                     n += 1;
                 }
-                Added::Refused(why) => {
-                    return Answer::Refused(why, n);
+                Err(why) => {
+                    return Err(why.at(n));
                 }
             }
         }
     }
     match add_pulse(s, b, &row[5..77], kept, held, rows, i, q, scratch) {
-        Added::Onto(_) => Answer::Done(n + 1),
-        Added::Refused(why) => Answer::Refused(why, n),
+        Ok(_) => Ok(n + 1),
+        Err(why) => Err(why.at(n)),
     }
 }
 

@@ -12,13 +12,6 @@ use merge::work::Ends;
 use pulse::bin::{head_in, place};
 use tables::Tables;
 
-// Where a bin stands among those of one list.
-#[derive(Clone, Copy)]
-pub struct Target {
-    pub some: bool,
-    pub place: usize,
-}
-
 // How many bins channel i has.
 pub(crate) fn bins_held(t: Tables, i: usize) -> usize
     ensures { result ≡ bins_held t i }
@@ -26,30 +19,24 @@ pub(crate) fn bins_held(t: Tables, i: usize) -> usize
     if 8 <= i {
         return 0;
     }
-    let c = t.channels[i];
-    if c.bins < 64 {
-        return c.bins;
-    }
-    64
+    t.channels[i].bins.min(64)
 }
 
-pub(crate) fn place_in(t: Tables, bins: &[[f64; 77]], i: usize, row: [f64; 77]) -> Target
+// Where a bin stands among those of one list.
+pub(crate) fn place_in(t: Tables, bins: &[[f64; 77]], i: usize, row: [f64; 77]) -> Option<usize>
     requires { length bins.now ≡ 512 }
     ensures { result ≡ target_of (rows_of t bins.now i) row }
 {
     let many = bins_held(t, i);
     if many == 0 {
-        return Target {
-            some: false,
-            place: 0,
-        };
+        return None;
     }
     let first = 64 * i;
     let at = place(head_in(row), &row[5..77], &bins[first..first + many]);
-    Target {
-        some: at < many,
-        place: at,
+    if at < many {
+        return Some(at);
     }
+    None
 }
 
 // Whether one of the first `k` lists has the bin.
@@ -63,13 +50,10 @@ pub(crate) fn appeared(
     requires { (length bins.now ≡ 512) × (taking.count ≤ 8) × (k ≤ taking.count) }
     ensures { result ≡ is_among row (all_rows t bins.now (take k (parts_in taking))) }
 {
-    let mut j: usize = 0;
-    while j < k {
-        let found = place_in(t, bins, taking.places[j], row);
-        if found.some {
+    for j in 0..k {
+        if place_in(t, bins, taking.places[j], row).is_some() {
             return true;
         }
-        j += 1;
     }
     false
 }
@@ -93,34 +77,35 @@ pub(crate) fn runs_for(
         factor: 0.0,
     }; 8];
     let mut begin: usize = 0;
-    let mut k: usize = 0;
-    while k < taking.count {
+    for k in 0..taking.count {
         let end = ends.ends[k];
         let found = place_in(t, bins, taking.places[k], row);
         runs[k] = run_for(marks, found, begin, end, taking.factors[k]);
         begin = end;
-        k += 1;
     }
-    Runs { count: k, runs }
+    Runs {
+        count: taking.count,
+        runs,
+    }
 }
 
 // A list whose rows stand from `begin` to `end`.
-fn run_for(marks: &[usize], found: Target, begin: usize, end: usize, factor: f64) -> Run
+fn run_for(marks: &[usize], found: Option<usize>, begin: usize, end: usize, factor: f64) -> Run
     requires { end ≤ length marks.now }
     ensures { result ≡ run_for marks.now found begin end factor }
 {
-    if found.some {
-        return Run {
-            at: advance(marks, begin, end, found.place),
+    match found {
+        Some(mark) => Run {
+            at: advance(marks, begin, end, mark),
             end,
-            mark: found.place,
+            mark,
             factor,
-        };
-    }
-    Run {
-        at: end,
-        end,
-        mark: found.place,
-        factor,
+        },
+        None => Run {
+            at: end,
+            end,
+            mark: 0,
+            factor,
+        },
     }
 }

@@ -13,7 +13,6 @@ mod runs;
 use lists::sample_lists;
 use merge::taking::Taking;
 use merge::work::Ends;
-use quant::judge::both;
 use quant::refusal::{Answer, Refusal};
 use quant::settings::Settings;
 use rows::rows_fit;
@@ -21,6 +20,7 @@ use tables::Tables;
 
 // The lists that take part lie in the work rows, each from the end of the one before it up to its own; the marks are the places of their
 // pulses' bins. The work rows stay as they are.
+#[tactic(auto, unfolding(crate::specs::Sampled::mixed_down), using(crate::proofs::Ending::ended))]
 pub fn mix_lists(
     s: Settings,
     t: Tables,
@@ -37,28 +37,27 @@ pub fn mix_lists(
     ensures scratch_after { out result (rowed i.new q.new scratch.new) ≡ mixed_down s t taking ends bins.now work.old marks.old rows (rowed i.old q.old scratch.old) }
     ensures work_unchanged { (work.new ≡ work.old) × (marks.new ≡ marks.old) }
 {
-    let sizes = both(
-        both(bins.len() == 512, work.len() == 8192),
-        marks.len() == 8192,
-    );
-    let lists = both(taking.count <= 8, ends_fit(ends));
-    let room = both(rows_fit(rows, i.len(), q.len()), i.len() <= scratch.len());
-    if both(both(sizes, lists), room) {
+    if bins.len() == 512
+        && work.len() == 8192
+        && marks.len() == 8192
+        && taking.count <= 8
+        && ends_fit(ends)
+        && rows_fit(rows, i.len(), q.len())
+        && i.len() <= scratch.len()
+    {
         return sample_lists(s, t, taking, ends, bins, work, marks, rows, i, q, scratch);
     }
-    Answer::Refused(Refusal::WrongSize, 0)
+    Err(Refusal::WrongSize.at(0))
 }
 
 // Whether no list ends past the work rows.
 fn ends_fit(e: Ends) -> bool
     ensures { result ≡ ends_fit e.ends }
 {
-    let mut k: usize = 0;
-    while k < 8 {
+    for k in 0..8 {
         if 8192 < e.ends[k] {
             return false;
         }
-        k += 1;
     }
     true
 }

@@ -33,23 +33,13 @@ pub(crate) fn sample_lists(
     requires q_value { (rows_fit rows (length i.old) (length q.old) ≡ true) × (length i.old ≤ length scratch.old) }
     ensures { out result (rowed i.new q.new scratch.new) ≡ ran_bins s rows (merged_in t bins.now work.now marks.now (parts_in taking) ends.ends) (firsts_after [] (all_rows t bins.now (parts_in taking))) 0 (rowed i.old q.old scratch.old) }
 {
-    let mut n: usize = 0;
-    let mut k: usize = 0;
-    while k < taking.count {
-        let list = k;
-        k += 1;
-        match sample_list(
-            s, t, taking, ends, list, bins, work, marks, rows, i, q, scratch, n,
-        ) {
-            Answer::Done(m) => {
-                n = m;
-            }
-            Answer::Refused(why, m) => {
-                return Answer::Refused(why, m);
-            }
-        }
+    let mut n = 0;
+    for k in 0..taking.count {
+        n = sample_list(
+            s, t, taking, ends, k, bins, work, marks, rows, i, q, scratch, n,
+        )?;
     }
-    Answer::Done(n)
+    Ok(n)
 }
 
 // The bins of list k that no list before it has.
@@ -76,25 +66,14 @@ fn sample_list(
     let many = bins_held(t, at);
     let tolerance = t.time;
     let mut n = added;
-    let mut p: usize = 0;
-    while p < many {
-        let j = 64 * at + p;
-        let row = bins[j];
-        let known = seen(t, taking, bins, k, at, p, row);
-        p += 1;
-        if !known {
+    for p in 0..many {
+        let row = bins[64 * at + p];
+        if !seen(t, taking, bins, k, at, p, row) {
             let runs = runs_for(t, taking, ends, bins, marks, row);
-            match sample_bin(s, row, tolerance, runs, work, marks, rows, i, q, scratch, n) {
-                Answer::Done(m) => {
-                    n = m;
-                }
-                Answer::Refused(why, m) => {
-                    return Answer::Refused(why, m);
-                }
-            }
+            n = sample_bin(s, row, tolerance, runs, work, marks, rows, i, q, scratch, n)?;
         }
     }
-    Answer::Done(n)
+    Ok(n)
 }
 
 // Whether a bin's row stands in one of the first k lists, or among the first p of the bins of the channel at a place.

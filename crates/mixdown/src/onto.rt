@@ -1,7 +1,6 @@
 // One pulse onto the rows. An envelope that the scratch holds already is not worked out again: the Rust has a cache for this.
-ghost use Rattle.std.specs.Prelude.{◌≡◌, ◌≤◌, ◌+◌, ◌-◌, true, length};
+ghost use Rattle.std.specs.Prelude.{◌≡◌, ◌≤◌, ◌+◌, ◌-◌, true, length, Ok, Some};
 ghost use Rattle.rows.specs.Rows.{rows_fit};
-ghost use Rattle.shape.specs.declared.envelope.Enveloped.TheVariants.{Points};
 ghost use Rattle.shape.specs.Envelope.{enveloped_of, scratch_after};
 ghost use Rattle.placing.specs.Judged.{judged};
 ghost use Rattle.mixdown.specs.Sampled.{rowed, parts_at, added_to, with_shape};
@@ -15,41 +14,31 @@ use quant::refusal::Refusal;
 use quant::settings::Settings;
 use shape::envelope::envelope;
 
-// Whether the scratch holds an envelope of the bin at hand, and at which offset.
-#[derive(Clone, Copy)]
-pub struct Held {
-    pub some: bool,
-    pub offset: f64,
-}
-
-#[derive(Clone, Copy)]
-pub enum Added {
-    Onto(Held),
-    Refused(Refusal),
-}
-
+// `held` is the offset of the envelope that the scratch holds, if it holds one of the bin at hand; so is the answer.
 pub(crate) fn add_pulse(
     s: Settings,
     b: Bin,
     numbers: &[f64],
     p: Pulse,
-    held: Held,
+    held: Option<f64>,
     rows: usize,
     i: &mut [f64],
     q: &mut [f64],
     scratch: &mut [f64],
-) -> Added
+) -> Result<Option<f64>, Refusal>
     requires { (rows_fit rows (length i.old) (length q.old) ≡ true) × (length i.old ≤ length scratch.old) × Holds s b numbers.now held scratch.old }
     ensures scratch_after { rowed i.new q.new scratch.new ≡ added_to s b numbers.now rows (judged s b numbers.now p (length i.old)) (rowed i.old q.old scratch.old) }
     ensures told { Told s b numbers.now (judged s b numbers.now p (length i.old)) result scratch.new }
 {
-    match judge(s, b, numbers, p, i.len()) {
+    match judge(s, b, numbers, p, i.len())? {
         Judged::Plateau(f) => {
             add_plateau(rows, i, q, f.start, f.count, f.carrier, f.rotation);
-            Added::Onto(held)
+            Ok(held)
         }
-        Judged::Shaped(c) => Added::Onto(add_shaped(s, b, numbers, c, held, rows, i, q, scratch)),
-        Judged::Refused(r) => Added::Refused(r),
+        Judged::Shaped(c) => {
+            add_shaped(s, b, numbers, c, held, rows, i, q, scratch);
+            Ok(Some(c.offset))
+        }
     }
 }
 
@@ -59,15 +48,15 @@ fn add_shaped(
     b: Bin,
     numbers: &[f64],
     c: Curved,
-    held: Held,
+    held: Option<f64>,
     rows: usize,
     i: &mut [f64],
     q: &mut [f64],
     scratch: &mut [f64],
-) -> Held
-    requires { (c.start + c.points ≤ length i.old) × (enveloped_of b.envelope.shape numbers.now (parts_at s b c.offset (length i.old - c.start)) ≡ Points c.points) × (length i.old ≤ length scratch.old) × Holds s b numbers.now held scratch.old }
+)
+    requires { (c.start + c.points ≤ length i.old) × (enveloped_of b.envelope.shape numbers.now (parts_at s b c.offset (length i.old - c.start)) ≡ Ok c.points) × (length i.old ≤ length scratch.old) × Holds s b numbers.now held scratch.old }
     ensures scratch_after { rowed i.new q.new scratch.new ≡ with_shape s b numbers.now rows c (rowed i.old q.old scratch.old) }
-    ensures holds { Holds s b numbers.now result scratch.new }
+    ensures holds { Holds s b numbers.now (Some c.offset) scratch.new }
 {
     let start = c.start;
     let points = c.points;
@@ -83,10 +72,6 @@ fn add_shaped(
         c.carrier,
         c.rotation,
     );
-    Held {
-        some: true,
-        offset: c.offset,
-    }
 }
 
 // The envelope at an offset into the scratch, unless it is there.
@@ -95,22 +80,22 @@ fn hold(
     b: Bin,
     numbers: &[f64],
     offset: f64,
-    held: Held,
+    held: Option<f64>,
     room: usize,
     scratch: &mut [f64],
 )
     requires { (room ≤ length scratch.old) × Holds s b numbers.now held scratch.old }
     ensures { scratch.new ≡ scratch_after b.envelope.shape numbers.now (parts_at s b offset room) scratch.old }
 {
-    if held.some {
-        if same_offset(held.offset, offset) {
+    if let Some(at) = held {
+        if same_offset(at, offset) {
             return;
         }
     }
     let e = b.envelope;
-    let shape = e.shape;
-    envelope(
-        shape, numbers, e.width, e.plateau, offset, s.rate, s.dt, room, scratch,
+    // A refusal was told when the pulse was judged.
+    let _ = envelope(
+        e.shape, numbers, e.width, e.plateau, offset, s.rate, s.dt, room, scratch,
     );
 }
 
@@ -118,11 +103,5 @@ fn hold(
 fn same_offset(a: f64, b: f64) -> bool
     ensures { result ≡ true → a ≡ b }
 {
-    if a != a {
-        return false;
-    }
-    if b != b {
-        return false;
-    }
-    f64::to_bits(a) == f64::to_bits(b)
+    a == a && b == b && f64::to_bits(a) == f64::to_bits(b)
 }

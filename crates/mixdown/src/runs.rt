@@ -1,7 +1,7 @@
 // The pulses of one bin, out of all lists that take part, in order of time: a cursor for each list, over the work rows. The Rust's
 // `kmerge_by`, with ties by the lists' order.
 ghost use Rattle.std.specs.Prelude.{◌≡◌, ◌<◌, ◌≤◌, length};
-ghost use Rattle.mixdown.specs.Runs.{Within, advanced, better, picked_in, pulse_at, moved_on};
+ghost use Rattle.mixdown.specs.Runs.{InRows, Within, advanced, better, picked_in, pulse_at, moved_on};
 
 use pulse::list::Pulse;
 use quant::complex::Complex;
@@ -26,24 +26,17 @@ pub struct Runs {
 // The pulse that comes next: its list, and its row.
 #[derive(Clone, Copy)]
 pub struct Picked {
-    pub some: bool,
     pub list: usize,
     pub at: usize,
 }
 
 // From the last list to the first, each takes over unless the one picked so far is earlier: so of equal times the first list's is picked.
-pub(crate) fn pick(r: Runs, work: &[[f64; 5]], marks: &[usize]) -> Picked
+pub(crate) fn pick(r: Runs, work: &[[f64; 5]], marks: &[usize]) -> Option<Picked>
     requires { (length work.now ≡ 8192) × (length marks.now ≡ 8192) × (r.count ≤ 8) × Within r.runs }
     ensures { result ≡ picked_in work.now marks.now r }
 {
-    let mut best = Picked {
-        some: false,
-        list: 0,
-        at: 0,
-    };
-    let mut k = r.count;
-    while 0 < k {
-        k -= 1;
+    let mut best = None;
+    for k in (0..r.count).rev() {
         let run = r.runs[k];
         let at = advance(marks, run.at, run.end, run.mark);
         best = better(best, work, k, at, run.end);
@@ -52,26 +45,25 @@ pub(crate) fn pick(r: Runs, work: &[[f64; 5]], marks: &[usize]) -> Picked
 }
 
 // The row at `at` is picked in place of the best so far, where it is one of the list's and the best is not earlier.
-fn better(best: Picked, work: &[[f64; 5]], k: usize, at: usize, end: usize) -> Picked
-    requires { (best.at < length work.now) × (end ≤ length work.now) }
+fn better(
+    best: Option<Picked>,
+    work: &[[f64; 5]],
+    k: usize,
+    at: usize,
+    end: usize,
+) -> Option<Picked>
+    requires { InRows (length work.now) best × (end ≤ length work.now) }
     ensures { result ≡ better work.now k at end best }
 {
     if end <= at {
         return best;
     }
-    if best.some {
-        let j = best.at;
-        let kept = work[j];
-        let row = work[at];
-        if kept[0] < row[0] {
+    if let Some(kept) = best {
+        if work[kept.at][0] < work[at][0] {
             return best;
         }
     }
-    Picked {
-        some: true,
-        list: k,
-        at,
-    }
+    Some(Picked { list: k, at })
 }
 
 // The first row from `from` on that has the mark, or the end.
@@ -79,6 +71,7 @@ pub(crate) fn advance(marks: &[usize], from: usize, end: usize, mark: usize) -> 
     requires { end ≤ length marks.now }
     ensures { result ≡ advanced marks.now from end mark }
 {
+    // Kept: where the loop ends is the answer, also where it begins past the end; `from.max(end)` behind a `for` is no plainer.
     let mut at = from;
     while at < end {
         if marks[at] == mark {

@@ -1,4 +1,5 @@
 -- The step is the lone two, one after the other: of every row and number, and so of every call, accepted or refused. Assumes nothing.
+use Rattle.quant.specs.Refusal.{Answer}
 use mathlib.Core.Path.{◌≡◌, refl, sym, ap, ◌∙◌}
 use mathlib.Core.Bool.{Bool, true, false, ◌&&◌}
 use mathlib.Core.List.{List, [], ◌∷◌}
@@ -9,7 +10,6 @@ use lib.Dec.{eqb, leb}
 use lib.ListN.{length}
 use lib.Ieee.{Float}
 use Rattle.exact.proofs.Truth.{both}
-use Rattle.quant.specs.declared.refusal.Answer.{Answer}
 use Rattle.rows.specs.Rows.{rows_fit, all_finite, answer_of, after}
 use Rattle.mixer.specs.Mixer.{corrected, corrected_row, mixer_fits, mixer_answer, Mixer}
 use Rattle.mixer.specs.Lone.{mixed_row, raised_row, iq_fits, offset_fits, Iq, Offset, jointly}

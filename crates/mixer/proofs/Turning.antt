@@ -1,50 +1,15 @@
 -- The loop of `correct`: the first k samples of both rows are corrected, and a turn adds one or two. What doubles settle is the fused sum. Assumes nothing.
 use mathlib.Core.Path.{◌≡◌, refl, sym, ap, ◌∙◌, subst}
-use mathlib.Core.Bool.{true, false}
 use mathlib.Core.List.{List}
-use Prim.Native.Nat.{ℕ, ◌+◌, ◌-◌, ◌≤◌, ◌<◌}
+use Prim.Native.Nat.{ℕ, ◌+◌, ◌≤◌, ◌<◌}
 use native.Mathlib.Omega.{arith}
-use lib.Dec.{T}
 use lib.ListN.{length, get_or, set, length-set}
 use lib.Seq.{get_or-set_other}
-use lib.Ieee.{Float, nan, binary64, fits, sub, mul, eq, ne}
-use lib.Ieee.Fits.{mul-fits}
-use Rattle.exact.specs.Doubles.{nought}
-use Rattle.exact.proofs.Truth.{both}
-use Rattle.quant.proofs.Judging.{taken, passed}
-use Rattle.quick_fma.specs.Quick.{roomy_of, upper_of, trial_of}
-use Rattle.quick_fma.proofs.Settles.{tried}
+use lib.Ieee.{Float, nan}
 use Rattle.rows.proofs.Turns.{upto, upto-get, upto_next, upto-end}
-use Rattle.mixer.specs.Mixer.{mixed, corrected, corrected_row}
-use Rattle.mixer.specs.declared.Fused.{Fused}
-use Rattle.mixer.specs.Turns.{InHalves, one_on, two_on, fused_of}
+use Rattle.mixer.specs.Mixer.{corrected, corrected_row}
+use Rattle.mixer.specs.Turns.{one_on, two_on}
 use Rattle.mixer.proofs.Samples.{corrected-length, corrected-at}
-
--- ---- the test `!=`
-pub equal : (x y : Float) → ne x y ≡ false → eq x y ≡ true
-unfolding ne
-equal x y h = passed (eq x y) (eq x y) refl h
-
-pub unequal : (x y : Float) → ne x y ≡ true → eq x y ≡ false
-unfolding ne
-unequal x y h = taken (eq x y) (eq x y) refl h
-
--- ---- what doubles settle
-module _ (m h l n x y g z w u : Float) (r : Fused) (fm : T (fits binary64 m)) (fx : T (fits binary64 x)) (fz : T (fits binary64 z)) (rm : roomy_of m ≡ true) (rx : roomy_of x ≡ true) (rz : roomy_of z ≡ true)
-    (p : InHalves m h l) (gi : g ≡ upper_of x) (ui : u ≡ upper_of z) (is : r ≡ fused_of m h l n x g (sub binary64 x g) y z u (sub binary64 z u) w) (settled : r.settled ≡ true) where
-  one-settled : (x y g : Float) → T (fits binary64 x) → roomy_of x ≡ true → g ≡ upper_of x → eq (trial_of m h l x g (sub binary64 x g) (mul binary64 n y)).off nought ≡ true
-      → (trial_of m h l x g (sub binary64 x g) (mul binary64 n y)).far ≡ mixed m n x y
-  one-settled x y g fx rx gi z =
-      tried m x (mul binary64 n y) fm fx (mul-fits binary64 n y) rm rx h l g (sub binary64 x g) (trial_of m h l x g (sub binary64 x g) (mul binary64 n y)) p.upper p.lower gi refl refl z
-
-  both-settled : (eq (trial_of m h l x g (sub binary64 x g) (mul binary64 n y)).off nought ≡ true) × (eq (trial_of m h l z u (sub binary64 z u) (mul binary64 n w)).off nought ≡ true)
-  both-settled = both _ _ (sym (ap (λ (f : Fused). f.settled) is) ∙ settled)
-
-  pub first-is : r.first ≡ mixed m n x y
-  first-is = ap (λ (f : Fused). f.first) is ∙ one-settled x y g fx rx gi both-settled.0
-
-  pub second_is : r.second ≡ mixed m n z w
-  second_is = ap (λ (f : Fused). f.second) is ∙ one-settled z w u fz rz ui both-settled.1
 
 -- ---- the first k samples are corrected
 pub record FirstDone (i₀ q₀ : List Float) (m00 m01 o0 m10 m11 o1 : Float) (i q : List Float) (k : ℕ) : Type 0 where

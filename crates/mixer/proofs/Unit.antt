@@ -1,5 +1,7 @@
 -- One part alone. Beside a finite neighbour the unit matrix gives the sample itself, but for the sign of a zero; beside any other, 0.0 times the neighbour
 -- is NaN. An offset of 0.0 changes a -0 only, and one of -0.0 nothing. Assumes nothing.
+use Rattle.quant.specs.Refusal.{Answer}
+use Rattle.std.specs.Prelude.{Ok}
 use mathlib.Core.Path.{◌≡◌, refl, sym, ap, ◌∙◌, subst}
 use mathlib.Core.Bool.{Bool, true, false, ◌&&◌, cond}
 use mathlib.Core.List.{List}
@@ -17,8 +19,6 @@ use Rattle.exact.proofs.Unit.{one-times}
 use Rattle.exact.proofs.Zeros.{add_comm, beside-zero, plus-zero, plus-minus, beside-fits, beside-plain, beside-minus, beside-either, nought-times, nought-times_wild}
 use Rattle.fma.specs.Fused.{fma}
 use Rattle.fma.proofs.Fusing.{at_zero, first-zero, second-zero, third-zero, second_wild, third_wild, fma-fits}
-use Rattle.quant.specs.declared.refusal.Answer.{Answer}
-use Rattle.quant.specs.declared.refusal.Answer.TheVariants.{Done}
 use Rattle.rows.specs.Rows.{all_finite, answer_of}
 use Rattle.mixer.specs.Mixer.{mixed, corrected, mixer_fits, Mixer}
 use Rattle.mixer.specs.Lone.{unit_matrix, no_offsets, unit_sample}
@@ -107,7 +107,7 @@ minus-zero-lost y h = ap (λ (b : Bool). cond b (plain_zero minus_nought) nan) h
 
 -- of any two rows: the call is accepted, and sample k of either goes by sample k of the other
 pub record UnitLeft (i q : List Float) (r : Answer) (i' q' : List Float) : Type 0 where
-  pub answer : r ≡ Done 0
+  pub answer : r ≡ Ok 0
   pub first : (k : ℕ) → k < length i → T (fits binary64 (get_or i k nan)) → get_or i' k nan ≡ unit_sample (get_or i k nan) (get_or q k nan)
   pub second : (k : ℕ) → k < length q → T (fits binary64 (get_or q k nan)) → get_or q' k nan ≡ unit_sample (get_or q k nan) (get_or i k nan)
 
@@ -115,7 +115,7 @@ pub unit_left : (i q : List Float) (r : Answer) (i' q' : List Float) → length 
 unfolding all_finite mixer_fits of_bits
 unit_left i q r i' q' e l h =
     let fit : mixer_fits 2 (length i) (length q) 4 2 ≡ true = rw (le-leb _ _ l, eq-eqb _ _ e) in
-    let done : r ≡ Done 0 = h.answer ∙ ap (λ (b : Bool). answer_of b true) fit in
+    let done : r ≡ Ok 0 = h.answer ∙ ap (λ (b : Bool). answer_of b true) fit in
     let left = done_corrects 2 i q unit_matrix no_offsets i' q' 0 (subst (λ (a : Answer). Mixer 2 i q unit_matrix no_offsets a i' q') done h) in
     record {
       answer = done;

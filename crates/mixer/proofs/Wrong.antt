@@ -1,12 +1,11 @@
 -- Programs that the promise rules out, each by its smallest input: whatever keeps the promise answers and leaves so. Assumes nothing.
+use Rattle.quant.specs.Refusal.{Answer, refuse}
 use mathlib.Core.Path.{◌≡◌}
 use mathlib.Core.Bool.{false}
 use mathlib.Core.List.{List, [], ◌∷◌}
 use lib.Ieee.{Float, nan, inf, binary64, round, units, odd, sum, add, mul, of_bits}
 use Rattle.exact.specs.Doubles.{nought, one}
 use Rattle.fma.specs.Fused.{fma}
-use Rattle.quant.specs.declared.refusal.Answer.{Answer}
-use Rattle.quant.specs.declared.refusal.Answer.TheVariants.{Refused}
 use Rattle.quant.specs.declared.refusal.Refusal.TheVariants.{Malformed, WrongSize}
 use Rattle.rows.specs.Rows.{all_finite}
 use Rattle.mixer.specs.Mixer.{corrected_row, mixer_fits, Mixer}
@@ -59,16 +58,16 @@ module _ (r : Answer) (i' q' : List Float) where
   first-is_fused h = h.first
 
   -- one by which 2 does not read the offsets, and one that mixes before it does
-  pub offsets-finite : Corrects nought nought (one ∷ one ∷ one ∷ one ∷ []) (nought ∷ inf false ∷ []) → (r ≡ Refused Malformed 0) × (i' ≡ nought ∷ []) × (q' ≡ nought ∷ [])
+  pub offsets-finite : Corrects nought nought (one ∷ one ∷ one ∷ one ∷ []) (nought ∷ inf false ∷ []) → (r ≡ refuse Malformed 0) × (i' ≡ nought ∷ []) × (q' ≡ nought ∷ [])
   unfolding mixer_fits all_finite of_bits
   offsets-finite h = (h.answer, h.first, h.second)
 
   -- one by which 2 comes before 13: of a matrix that is not finite, and a third offset
-  pub sizes-first : Corrects nought nought (nan ∷ one ∷ one ∷ one ∷ []) (nought ∷ nought ∷ nought ∷ []) → (r ≡ Refused WrongSize 0) × (i' ≡ nought ∷ []) × (q' ≡ nought ∷ [])
+  pub sizes-first : Corrects nought nought (nan ∷ one ∷ one ∷ one ∷ []) (nought ∷ nought ∷ nought ∷ []) → (r ≡ refuse WrongSize 0) × (i' ≡ nought ∷ []) × (q' ≡ nought ∷ [])
   unfolding mixer_fits all_finite of_bits
   sizes-first h = (h.answer, h.first, h.second)
 
   -- one that still offsets one row
-  pub one-row-refused : Mixer 1 (nought ∷ []) [] unit_matrix (one ∷ []) r i' q' → (r ≡ Refused WrongSize 0) × (i' ≡ nought ∷ [])
+  pub one-row-refused : Mixer 1 (nought ∷ []) [] unit_matrix (one ∷ []) r i' q' → (r ≡ refuse WrongSize 0) × (i' ≡ nought ∷ [])
   unfolding mixer_fits all_finite of_bits
   one-row-refused h = (h.answer, h.first)

@@ -1,13 +1,11 @@
 -- The two lone steps, the matrix and the offset, as document 01 has them and document 02's P6 takes them away: words of the law that says what became of
 -- them. Definitions only.
-use Rattle.std.specs.Prelude.{◌≡◌, Bool, ◌&&◌, cond, List, [], ◌∷◌, ℕ, eqb, length, get_or, Float}
+use Rattle.std.specs.Prelude.{◌≡◌, Bool, ◌&&◌, cond, List, [], ◌∷◌, ℕ, eqb, length, get_or, Float, Ok, Err}
 use Rattle.std.specs.Float.{nan, binary64}
 use Rattle.std.specs.Float.Ieee.{add}
 use Rattle.std.specs.Float.Ieee.Scale.{finite}
 use Rattle.exact.specs.Doubles.{nought, one, plain_zero}
-use Rattle.quant.specs.declared.refusal.Answer.{Answer}
-use Rattle.quant.specs.declared.refusal.Answer.TheVariants.{Done, Refused}
-use Rattle.quant.specs.Refusal.{number_of}
+use Rattle.quant.specs.Refusal.{number_of, Answer}
 use Rattle.rows.specs.Rows.{rows_fit, all_finite, answer_of, after}
 use Rattle.mixer.specs.Mixer.{mixed}
 
@@ -42,9 +40,9 @@ pub record Offset (rows : ℕ) (i q o : List Float) (r : Answer) (i' q' : List F
 
 -- what both answer together: done where both are; of two refusals the first where it is 13, else the second
 abbrev pub jointly : Answer → Answer → Answer
-jointly (Done k) b = b
-jointly (Refused why k) (Done l) = Refused why k
-jointly (Refused why k) (Refused other l) = cond (eqb (number_of why) 13) (Refused why k) (Refused other l)
+jointly (Ok k) b = b
+jointly (Err e) (Ok l) = Err e
+jointly (Err e) (Err x) = cond (eqb (number_of e.why) 13) (Err e) (Err x)
 
 -- "callers that want only one give the unit matrix or zeros"
 abbrev pub unit_matrix : List Float

@@ -2,15 +2,16 @@
 // `apply_offset_inplace`, one after the other.
 #![tactic(auto)]
 
-ghost use Rattle.std.specs.Prelude.{◌≡◌, cond, ◌&&◌, ◌+◌, ◌<◌, length};
-ghost use Rattle.std.specs.Float.Ieee.{eq};
-ghost use Rattle.exact.specs.Doubles.{nought};
+ghost use Rattle.std.specs.Prelude.{◌≡◌, cond, ◌&&◌, ◌+◌, ◌<◌, true, length};
 ghost use Rattle.quick_fma.specs.Quick.{roomy_of};
 ghost use Rattle.mixer.specs.Mixer.{corrected_row, mixer_fits, Mixer};
-ghost use Rattle.mixer.specs.Turns.{Factors, one_on, two_on, fused_of};
+ghost use Rattle.mixer.specs.Turns.{one_on, two_on};
 
+mod line;
+
+use line::{Line, Sample};
 use quant::refusal::Answer;
-use quick_fma::{mul_add, roomy, trial, upper};
+use quick_fma::roomy;
 use rows::{all_finite, answer, rows_fit};
 
 // Two rows, the four numbers of a matrix, row by row, and two offsets. Refuses sizes by 13, then a number that is not finite by 2, before any sample
@@ -21,112 +22,61 @@ pub fn mixer(rows: usize, i: &mut [f64], q: &mut [f64], matrix: &[f64], offsets:
     if !fits(rows, i.len(), q.len(), matrix.len(), offsets.len()) {
         return answer(false, true);
     }
-    if !all_finite(matrix) {
+    if !(all_finite(matrix) && all_finite(offsets)) {
         return answer(true, false);
     }
-    if !all_finite(offsets) {
-        return answer(true, false);
-    }
-    correct(
-        i, q, matrix[0], matrix[1], offsets[0], matrix[2], matrix[3], offsets[1],
-    );
+    let first = Line::new(matrix[0], matrix[1], offsets[0]);
+    let second = Line::new(matrix[2], matrix[3], offsets[1]);
+    correct(i, q, first, second);
     answer(true, true)
 }
 
 // Two rows that fit, four numbers and two.
+#[tactic(auto, unfolding(crate::specs::Mixer::mixer_fits))]
 fn fits(rows: usize, i: usize, q: usize, matrix: usize, offsets: usize) -> bool
     ensures { result ≡ mixer_fits rows i q matrix offsets }
 {
-    if !rows_fit(rows, i, q) {
-        return false;
-    }
-    if rows != 2 {
-        return false;
-    }
-    if matrix != 4 {
-        return false;
-    }
-    offsets == 2
+    rows_fit(rows, i, q) && rows == 2 && matrix == 4 && offsets == 2
 }
 
-// The new I from m00, m01 and o0, the new Q from m10, m11 and o1; both from the samples as they came. Two samples a turn, so that the compiler can work on both at once.
-fn correct(i: &mut [f64], q: &mut [f64], m00: f64, m01: f64, o0: f64, m10: f64, m11: f64, o1: f64)
+// The new I by the first line, the new Q by the second; both from the samples as they came. Two samples a turn, so that the compiler can work on both at once.
+fn correct(i: &mut [f64], q: &mut [f64], first: Line, second: Line)
     requires { length i.old ≡ length q.old }
-    ensures first { i.new ≡ corrected_row m00 m01 o0 i.old q.old }
-    ensures second { q.new ≡ corrected_row m10 m11 o1 i.old q.old }
+    ensures first { i.new ≡ corrected_row first.m first.n first.offset i.old q.old }
+    ensures second { q.new ≡ corrected_row second.m second.n second.offset i.old q.old }
 {
-    let fit = both_roomy(m00, m10);
-    let h0 = upper(m00);
-    let l0 = m00 - h0;
-    let h1 = upper(m10);
-    let l1 = m10 - h1;
-    let mut k: usize = 0;
-    while i.len() - k >= 2 {
-        two(i, q, k, fit, m00, h0, l0, m01, o0, m10, h1, l1, m11, o1);
-        k += 2;
+    let fit = roomy(first.m) && roomy(second.m);
+    for pair in 0..i.len() / 2 {
+        two(i, q, 2 * pair, fit, first, second);
     }
-    if k < i.len() {
-        one(i, q, k, m00, m01, o0, m10, m11, o1);
+    if i.len() % 2 == 1 {
+        let last = i.len() - 1;
+        one(i, q, last, first, second);
     }
-}
-
-fn both_roomy(a: f64, b: f64) -> bool
-    ensures { result ≡ (roomy_of a && roomy_of b) }
-{
-    if !roomy(a) {
-        return false;
-    }
-    roomy(b)
 }
 
 // Sample k of both rows.
-fn one(
-    i: &mut [f64],
-    q: &mut [f64],
-    k: usize,
-    m00: f64,
-    m01: f64,
-    o0: f64,
-    m10: f64,
-    m11: f64,
-    o1: f64,
-)
+fn one(i: &mut [f64], q: &mut [f64], k: usize, first: Line, second: Line)
     requires { (length i.old ≡ length q.old) × (k < length i.old) }
-    ensures first { i.new ≡ one_on k m00 m01 o0 i.old q.old i.old }
-    ensures second { q.new ≡ one_on k m10 m11 o1 i.old q.old q.old }
+    ensures first { i.new ≡ one_on k first.m first.n first.offset i.old q.old i.old }
+    ensures second { q.new ≡ one_on k second.m second.n second.offset i.old q.old q.old }
 {
     let x = i[k];
     let y = q[k];
-    i[k] = mul_add(m00, x, m01 * y) + o0;
-    q[k] = mul_add(m10, x, m11 * y) + o1;
+    i[k] = first.corrected(x, y);
+    q[k] = second.corrected(x, y);
 }
 
-// Samples k and k + 1 of both rows; fit says whether m00 and m10 leave room, and these come in parts.
-fn two(
-    i: &mut [f64],
-    q: &mut [f64],
-    k: usize,
-    fit: bool,
-    m00: f64,
-    h0: f64,
-    l0: f64,
-    m01: f64,
-    o0: f64,
-    m10: f64,
-    h1: f64,
-    l1: f64,
-    m11: f64,
-    o1: f64,
-)
-    requires { (length i.old ≡ length q.old) × (k + 1 < length i.old) × Factors fit m00 h0 l0 m10 h1 l1 }
-    ensures first { i.new ≡ two_on k m00 m01 o0 i.old q.old i.old }
-    ensures second { q.new ≡ two_on k m10 m11 o1 i.old q.old q.old }
+// Samples k and k + 1 of both rows; fit says whether the first numbers of both lines leave room.
+fn two(i: &mut [f64], q: &mut [f64], k: usize, fit: bool, first: Line, second: Line)
+    requires { (length i.old ≡ length q.old) × (k + 1 < length i.old) × (fit ≡ (roomy_of first.m && roomy_of second.m)) }
+    ensures first { i.new ≡ two_on k first.m first.n first.offset i.old q.old i.old }
+    ensures second { q.new ≡ two_on k second.m second.n second.offset i.old q.old q.old }
 {
-    if two_by_doubles(i, q, k, fit, m00, h0, l0, m01, o0, m10, h1, l1, m11, o1) {
-        return;
+    if !two_by_doubles(i, q, k, fit, first, second) {
+        one(i, q, k, first, second);
+        one(i, q, k + 1, first, second);
     }
-    one(i, q, k, m00, m01, o0, m10, m11, o1);
-    one(i, q, k + 1, m00, m01, o0, m10, m11, o1);
 }
 
 // The same, where doubles settle all four; else the rows stay.
@@ -135,91 +85,28 @@ fn two_by_doubles(
     q: &mut [f64],
     k: usize,
     fit: bool,
-    m00: f64,
-    h0: f64,
-    l0: f64,
-    m01: f64,
-    o0: f64,
-    m10: f64,
-    h1: f64,
-    l1: f64,
-    m11: f64,
-    o1: f64,
+    first: Line,
+    second: Line,
 ) -> bool
-    requires { (length i.old ≡ length q.old) × (k + 1 < length i.old) × Factors fit m00 h0 l0 m10 h1 l1 }
-    ensures first { i.new ≡ cond result (two_on k m00 m01 o0 i.old q.old i.old) i.old }
-    ensures second { q.new ≡ cond result (two_on k m10 m11 o1 i.old q.old q.old) q.old }
+    requires { (length i.old ≡ length q.old) × (k + 1 < length i.old) × (fit ≡ (roomy_of first.m && roomy_of second.m)) }
+    ensures first { i.new ≡ cond result (two_on k first.m first.n first.offset i.old q.old i.old) i.old }
+    ensures second { q.new ≡ cond result (two_on k second.m second.n second.offset i.old q.old q.old) q.old }
 {
     if !fit {
         return false;
     }
-    let x = i[k];
-    let y = q[k];
-    let z = i[k + 1];
-    let w = q[k + 1];
-    if !roomy(x) {
+    let Some(a) = Sample::split(i[k], q[k]) else {
         return false;
-    }
-    if !roomy(z) {
+    };
+    let Some(b) = Sample::split(i[k + 1], q[k + 1]) else {
         return false;
-    }
-    let g = upper(x);
-    let u = upper(z);
-    let s = x - g;
-    let v = z - u;
-    let a = two_sums(m00, h0, l0, m01, x, g, s, y, z, u, v, w);
-    let b = two_sums(m10, h1, l1, m11, x, g, s, y, z, u, v, w);
-    if !a.settled {
+    };
+    let (Some((x, z)), Some((y, w))) = (first.sums(a, b), second.sums(a, b)) else {
         return false;
-    }
-    if !b.settled {
-        return false;
-    }
-    i[k] = a.first + o0;
-    i[k + 1] = a.second + o0;
-    q[k] = b.first + o1;
-    q[k + 1] = b.second + o1;
+    };
+    i[k] = x + first.offset;
+    i[k + 1] = z + first.offset;
+    q[k] = y + second.offset;
+    q[k + 1] = w + second.offset;
     true
-}
-
-// m x + n y and m z + n w, fused: m is h + l, x is g + s, and z is u + v.
-#[derive(Clone, Copy)]
-struct Fused {
-    first: f64,
-    second: f64,
-    settled: bool,
-}
-
-fn two_sums(
-    m: f64,
-    h: f64,
-    l: f64,
-    n: f64,
-    x: f64,
-    g: f64,
-    s: f64,
-    y: f64,
-    z: f64,
-    u: f64,
-    v: f64,
-    w: f64,
-) -> Fused
-    ensures { result ≡ fused_of m h l n x g s y z u v w }
-{
-    let a = trial(m, h, l, x, g, s, n * y);
-    let b = trial(m, h, l, z, u, v, n * w);
-    Fused {
-        first: a.far,
-        second: b.far,
-        settled: both_none(a.off, b.off),
-    }
-}
-
-fn both_none(a: f64, b: f64) -> bool
-    ensures { result ≡ (eq a nought && eq b nought) }
-{
-    if a != 0.0 {
-        return false;
-    }
-    b == 0.0
 }

@@ -1,6 +1,7 @@
 -- Laws of names: which lists of bytes are one; a name's bytes and its three numbers say the same, so what was read is written back,
 -- and names are compared byte by byte. The one idea: byte i of the two words, zero past the length, is byte i of the list.
 -- Assumes nothing.
+use Rattle.std.specs.Prelude.{Some, None}
 use Prim.Native.Nat.{ℕ, zero, suc, ◌+◌, ◌-◌, ◌^◌, ◌≤◌, ◌<◌}
 use mathlib.Core.Path.{◌≡◌, refl, ap, sym, ◌∙◌}
 use mathlib.Core.Bool.{Bool, true, false, ◌&&◌, not, true≢false}
@@ -14,7 +15,6 @@ use lib.ListN.{length, get_or, take, drop, length-append, length-take, length-dr
 use lib.Seq.{ext_get_or, get_or-drop, get_or-take, length-take-le, take_at, drop_at}
 use Rattle.exact.proofs.Naturals.{below_or}
 use Rattle.naming.specs.declared.Name.{Name}
-use Rattle.naming.specs.declared.Naming.TheVariants.{Named, Bad}
 use Rattle.naming.specs.Name.{name_byte, is_zero, every, accepted, word_of, low_bytes, bytes_of_word, sixteen, bytes_of, past_end, named, naming_of, is_name, same_name, writable, written}
 use Rattle.exact.proofs.Truth.{both}
 use Rattle.naming.proofs.Places.{every-all, every-at, cut-zeros, part-le, part_same}
@@ -67,27 +67,27 @@ pub record Read (bytes : List ℕ) (n : Name) : Type 0 where
   pub ok : accepted bytes ≡ true
   pub is : n ≡ named bytes
 
-pub read : (bytes : List ℕ) (n : Name) → naming_of bytes ≡ Named n → Read bytes n
+pub read : (bytes : List ℕ) (n : Name) → naming_of bytes ≡ Some n → Read bytes n
 unfolding naming_of
 read bytes n e = by (accepted bytes) refl
   where
     by : (t : Bool) → accepted bytes ≡ t → Read bytes n
-    by true a = let this : naming_of bytes ≡ Named (named bytes) = simp a in record { ok = a; is = cc }
+    by true a = let this : naming_of bytes ≡ Some (named bytes) = simp a in record { ok = a; is = cc }
     by false a =
-        let this : naming_of bytes ≡ Bad = simp a in
+        let this : naming_of bytes ≡ None = simp a in
         let never : true ≡ false = cc in
         absurd (true≢false never)
 
 -- `from_bytes` accepts exactly the lists that are fit, and refuses every other
-pub accepts : (bytes : List ℕ) → (naming_of bytes ≡ Named (named bytes)) ↔ Fit bytes
+pub accepts : (bytes : List ℕ) → (naming_of bytes ≡ Some (named bytes)) ↔ Fit bytes
 unfolding naming_of
 accepts bytes = (λ e. (fit bytes).0 (read bytes (named bytes) e).ok, λ f. simp ((fit bytes).1 f))
 
-pub refuses : (bytes : List ℕ) → (Fit bytes → ⊥) → naming_of bytes ≡ Bad
+pub refuses : (bytes : List ℕ) → (Fit bytes → ⊥) → naming_of bytes ≡ None
 unfolding naming_of
 refuses bytes unfit = by (accepted bytes) refl
   where
-    by : (t : Bool) → accepted bytes ≡ t → naming_of bytes ≡ Bad
+    by : (t : Bool) → accepted bytes ≡ t → naming_of bytes ≡ None
     by true a = absurd (unfit ((fit bytes).0 a))
     by false a = simp a
 
@@ -313,7 +313,7 @@ module _ (n : Name) (text : List ℕ) (at : ℕ) (ok : is_name n ≡ true) (room
         behind = rw long (drop_at (front ++ bytes_of n) rest (at + n.len) (simp (length-append, till, long)));
       })
 
-module _ (bytes : List ℕ) (n : Name) (text : List ℕ) (at : ℕ) (e : naming_of bytes ≡ Named n) (room : at + length bytes ≤ length text) where
+module _ (bytes : List ℕ) (n : Name) (text : List ℕ) (at : ℕ) (e : naming_of bytes ≡ Some n) (room : at + length bytes ≤ length text) where
   pub answers_true : writable n text at ≡ true
   unfolding named
   answers_true =

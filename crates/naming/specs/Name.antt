@@ -1,9 +1,7 @@
 -- Names of channels and shapes. Document 01: "A name is 1..16 bytes of 0x21..0x7E without `=`, compared byte by byte"; "names by
 -- value as two 64-bit words and a length". Definitions only.
-use Rattle.std.specs.Prelude.{ℕ, zero, suc, ◌+◌, ◌*◌, ◌/◌, ◌%◌, ◌^◌, ◌≡◌, Bool, true, false, ◌&&◌, ◌||◌, not, cond, List, [], ◌∷◌, ◌++◌, leb, ltb, eqb, length, take, drop}
+use Rattle.std.specs.Prelude.{ℕ, zero, suc, ◌+◌, ◌*◌, ◌/◌, ◌%◌, ◌^◌, ◌≡◌, Bool, true, false, ◌&&◌, ◌||◌, not, cond, List, [], ◌∷◌, ◌++◌, leb, ltb, eqb, length, take, drop, Option, Some, None}
 use Rattle.naming.specs.declared.Name.{Name}
-use Rattle.naming.specs.declared.Naming.{Naming}
-use Rattle.naming.specs.declared.Naming.TheVariants.{Named, Bad}
 
 -- ---- bytes that are a name
 
@@ -54,8 +52,8 @@ past_end n = drop n.len (sixteen n.first n.second)
 unfoldable pub named : List ℕ → Name
 named bytes = record { first = word_of (take 8 bytes); second = word_of (drop 8 bytes); len = length bytes }
 
-unfoldable pub naming_of : List ℕ → Naming
-naming_of text = cond (accepted text) (Named (named text)) Bad
+unfoldable pub naming_of : List ℕ → Option Name
+naming_of text = cond (accepted text) (Some (named text)) None
 
 abbrev pub is_zero : ℕ → Bool
 is_zero b = eqb b 0

@@ -7,37 +7,30 @@ ghost use Rattle.naming.specs.Name.{name_byte, every, word_of, bytes_of_word, si
 
 // Byte i of a name is byte i of first, counted from the least significant, for i < 8, and byte i - 8 of second from 8 on.
 // The three numbers may be any: `is_name` judges them.
-#[derive(Clone, Copy)]
+#[derive(Clone, Copy, PartialEq, Eq)]
 pub struct Name {
     pub first: u64,
     pub second: u64,
     pub len: usize,
 }
 
-#[derive(Clone, Copy)]
-pub enum Naming {
-    Named(Name),
-    // The text breaks the rule: refusal 2.
-    Bad,
-}
-
-// The name that a whole text is.
-pub fn from_bytes(text: &[u8]) -> Naming
+// The name that a whole text is; none where the text breaks the rule (refusal 2).
+pub fn from_bytes(text: &[u8]) -> Option<Name>
     ensures { result ≡ naming_of text.now }
 {
-    if text.len() < 1 {
-        return Naming::Bad;
+    if text.is_empty() {
+        return None;
     }
     if 16 < text.len() {
-        return Naming::Bad;
+        return None;
     }
     if !all_stand(text) {
-        return Naming::Bad;
+        return None;
     }
     let len = text.len();
     if len <= 8 {
         let first = word_of(text);
-        return Naming::Named(Name {
+        return Some(Name {
             first,
             second: 0,
             len,
@@ -45,44 +38,34 @@ pub fn from_bytes(text: &[u8]) -> Naming
     }
     let first = word_of(&text[..8]);
     let second = word_of(&text[8..]);
-    Naming::Named(Name { first, second, len })
+    Some(Name { first, second, len })
 }
 
 // Whether the three numbers are well formed, as those of `from_bytes` are.
 pub fn is_name(n: Name) -> bool
     ensures { result ≡ is_name n }
 {
-    let first = n.first;
-    let second = n.second;
-    let len = n.len;
+    let Name { first, second, len } = n;
     if len < 1 {
         return false;
     }
     if 16 < len {
         return false;
     }
-    let mut i: usize = 0;
-    while i < 16 {
-        let b = byte_at(first, second, i);
-        if !in_place(b, i, len) {
+    for i in 0..16 {
+        if !in_place(byte_at(first, second, i), i, len) {
             return false;
         }
-        i += 1;
     }
     true
 }
 
 // Whether two names are the same. Well-formed ones are exactly when their bytes are.
+#[tactic(auto, unfolding(crate::specs::Name::same_name))]
 pub fn same(a: Name, b: Name) -> bool
     ensures { result ≡ same_name a b }
 {
-    if a.first != b.first {
-        return false;
-    }
-    if a.second != b.second {
-        return false;
-    }
-    a.len == b.len
+    a == b
 }
 
 // Puts the bytes of n at out[at..at + len] and answers true. Where they do not fit, or n is no name, it leaves out as it is and answers false.
@@ -92,45 +75,34 @@ pub fn write(n: Name, out: &mut [u8], at: usize) -> bool
     if !is_name(n) {
         return false;
     }
-    let first = n.first;
-    let second = n.second;
-    let len = n.len;
+    let Name { first, second, len } = n;
     if out.len() < len {
         return false;
     }
     if out.len() - len < at {
         return false;
     }
-    let mut put: usize = 0;
-    while put < len {
+    for put in 0..len {
         out[at + put] = byte_at(first, second, put);
-        put += 1;
     }
     true
 }
 
 // Whether a byte may stand in a name.
+#[tactic(auto, unfolding(crate::specs::Name::name_byte))]
 fn stands(b: u8) -> bool
     ensures { result ≡ name_byte b }
 {
-    if b < 0x21 {
-        return false;
-    }
-    if 0x7E < b {
-        return false;
-    }
-    b != b'='
+    0x21 <= b && b <= 0x7E && b != b'='
 }
 
 fn all_stand(text: &[u8]) -> bool
     ensures { result ≡ every name_byte text.now }
 {
-    let mut i: usize = 0;
-    while i < text.len() {
-        if !stands(text[i]) {
+    for b in text {
+        if !stands(*b) {
             return false;
         }
-        i += 1;
     }
     true
 }
@@ -141,10 +113,8 @@ fn word_of(part: &[u8]) -> u64
     ensures { result ≡ word_of part.now }
 {
     let mut word: u64 = 0;
-    let mut left = part.len();
-    while 0 < left {
-        word = word * 256 + part[left - 1] as u64;
-        left -= 1;
+    for i in (0..part.len()).rev() {
+        word = word * 256 + part[i] as u64;
     }
     word
 }
@@ -169,11 +139,9 @@ fn byte_of(word: u64, i: usize) -> u8
 }
 
 // Whether b may be byte i of the two words of a name of len bytes.
+#[tactic(auto, unfolding(crate::specs::Name::in_place))]
 fn in_place(b: u8, i: usize, len: usize) -> bool
     ensures { result ≡ in_place len i b }
 {
-    if i < len {
-        return stands(b);
-    }
-    b == 0
+    if i < len { stands(b) } else { b == 0 }
 }

@@ -1,4 +1,5 @@
 -- Numbers one after another: where they begin, and what is stored of them. Assumes nothing.
+use Rattle.std.specs.Prelude.{Some, None}
 use Prim.Native.Nat.{ℕ, zero, suc, ◌+◌, ◌-◌, ◌≤◌, ◌<◌}
 use mathlib.Core.List.{List, [], ◌∷◌, ◌++◌, append-nil}
 use mathlib.Core.Path.{◌≡◌, refl, sym, ap, ◌∙◌}
@@ -11,7 +12,6 @@ use lib.ListN.{length, take, drop, set, take-append-drop, length-set, drop_of_le
 use lib.Seq.{drop-drop, drop-nil, drop-set-lt, take-suc-set, append_snoc, take_at, length-take-le, take_all}
 use Rattle.decimal.specs.Digits.{place_of}
 use Rattle.decimal.specs.Number.{decimal_of, number_of}
-use Rattle.decimal.specs.declared.number.Number.TheVariants.{Double, Bad}
 use Rattle.fields.specs.Words.{words_of, first_word}
 use Rattle.job.proofs.Listing.{first, last, more, end-within}
 use Rattle.numbers.specs.Numbers.{numbers_of, listed, Begun, Stored}
@@ -45,10 +45,10 @@ module _ (line : List ℕ) (at left p : ℕ) (within : at ≤ length line) (plac
         ap numbers_of (sym next) ∙ so_far
 
   -- ---- the number of a word
-  pub number-none : number_of (take (at + p - at) (drop at line)) ≡ Bad → numbers_of (words_of (drop at line)) ≡ []
+  pub number-none : number_of (take (at + p - at) (drop at line)) ≡ None → numbers_of (words_of (drop at line)) ≡ []
   unfolding numbers_of
   number-none e =
-      let bad : number_of (first_word (drop at line)) ≡ Bad = rw (first line at left p within place) at e in
+      let bad : number_of (first_word (drop at line)) ≡ None = rw (first line at left p within place) at e in
       elim (eq-or-lt_of_le (end-within line at left p within place)) [
         | inl z ↦ rw (last line at left p within place z, bad)
         | inr h ↦ rw (more line at left p within place (λ z. under z h), bad)
@@ -57,17 +57,17 @@ module _ (line : List ℕ) (at left p : ℕ) (within : at ≤ length line) (plac
       under : at + p ≡ length line → at + p < length line → ⊥
       under z h = omega arith
 
-  module _ (x : Float) (e : number_of (take (at + p - at) (drop at line)) ≡ Double x) where
+  module _ (x : Float) (e : number_of (take (at + p - at) (drop at line)) ≡ Some x) where
     pub number-last : at + p ≡ length line → numbers_of (words_of (drop at line)) ≡ x ∷ []
     unfolding numbers_of
     number-last z =
-        let is : number_of (first_word (drop at line)) ≡ Double x = rw (first line at left p within place) at e in
+        let is : number_of (first_word (drop at line)) ≡ Some x = rw (first line at left p within place) at e in
         rw (last line at left p within place z, is)
 
     pub number_more : (at + p ≡ length line → ⊥) → numbers_of (words_of (drop at line)) ≡ x ∷ numbers_of (words_of (drop (at + p + 1) line))
     unfolding numbers_of
     number_more n =
-        let is : number_of (first_word (drop at line)) ≡ Double x = rw (first line at left p within place) at e in
+        let is : number_of (first_word (drop at line)) ≡ Some x = rw (first line at left p within place) at e in
         rw (more line at left p within place n, is)
 
 -- ---- n numbers are laid, and with the rest they make up all

@@ -1,12 +1,11 @@
 -- Where every word is a number, there are as many numbers as words. Assumes nothing.
+use Rattle.std.specs.Prelude.{Option, Some, None, Float}
 use Prim.Native.Nat.{ℕ, suc}
 use mathlib.Core.Bool.{true, ◌&&◌}
 use mathlib.Core.List.{List, [], ◌∷◌}
 use mathlib.Core.Path.{◌≡◌, refl, ap}
 use lib.ListN.{length}
 use Rattle.decimal.specs.Number.{number_of}
-use Rattle.decimal.specs.declared.number.Number.{Number}
-use Rattle.decimal.specs.declared.number.Number.TheVariants.{Double, Bad}
 use Rattle.job.specs.List.{all_numbers, is_number}
 use Rattle.numbers.specs.Numbers.{numbers_of, onto}
 
@@ -15,6 +14,6 @@ unfolding all_numbers numbers_of
 as_many [] e = refl
 as_many (w ∷ ws) e = by (number_of w) e (as_many ws)
   where
-    by : (x : Number) → is_number x && all_numbers ws ≡ true → (all_numbers ws ≡ true → length (numbers_of ws) ≡ length ws) → length (onto x (numbers_of ws)) ≡ suc (length ws)
-    by (Double x) e rest = ap suc (rest e)
-    by Bad e rest = cc
+    by : (x : Option Float) → is_number x && all_numbers ws ≡ true → (all_numbers ws ≡ true → length (numbers_of ws) ≡ length ws) → length (onto x (numbers_of ws)) ≡ suc (length ws)
+    by (Some x) e rest = ap suc (rest e)
+    by None e rest = cc

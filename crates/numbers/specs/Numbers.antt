@@ -1,13 +1,11 @@
 -- The numbers of a list, and what storing them leaves. Definitions only.
-use Rattle.std.specs.Prelude.{ℕ, ◌≤◌, List, [], ◌∷◌, ◌++◌, ◌≡◌, Float, length, take, drop}
+use Rattle.std.specs.Prelude.{ℕ, ◌≤◌, List, [], ◌∷◌, ◌++◌, ◌≡◌, Float, length, take, drop, Option, Some, None}
 use Rattle.decimal.specs.Number.{number_of}
-use Rattle.decimal.specs.declared.number.Number.{Number}
-use Rattle.decimal.specs.declared.number.Number.TheVariants.{Double, Bad}
 use Rattle.fields.specs.Words.{words_of}
 
-abbrev pub onto : Number → List Float → List Float
-onto (Double x) xs = x ∷ xs
-onto Bad xs = []
+abbrev pub onto : Option Float → List Float → List Float
+onto (Some x) xs = x ∷ xs
+onto None xs = []
 
 -- the numbers that words are, up to the first that is none
 unfoldable pub numbers_of : List (List ℕ) → List Float

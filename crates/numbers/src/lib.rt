@@ -4,28 +4,24 @@
 ghost use Rattle.numbers.specs.Numbers.{Begun, Stored};
 
 use decimal::digits::place;
-use decimal::number::Number;
 
 // Stores the numbers from word k on, up to the first word that is none and as many as out has room for, and answers how many.
 pub fn numbers(line: &[u8], k: usize, out: &mut [f64]) -> usize
     ensures { Stored line.now k out.old result out.new }
 {
     let mut at = begin(line, k);
-    let mut n: usize = 0;
-    while n < out.len() {
+    for n in 0..out.len() {
         let end = at + place(&line[at..], b' ');
-        let number = decimal::number::read(&line[at..end]);
-        let Number::Double(x) = number else {
+        let Some(x) = decimal::number::read(&line[at..end]) else {
             return n;
         };
         out[n] = x;
-        n += 1;
         if end == line.len() {
-            return n;
+            return n + 1;
         }
         at = end + 1;
     }
-    n
+    out.len()
 }
 
 // Where the numbers from word k on begin; the line's end where there is no such word.
@@ -33,14 +29,12 @@ fn begin(line: &[u8], k: usize) -> usize
     ensures { Begun line.now k result }
 {
     let mut at: usize = 0;
-    let mut left = k;
-    while 0 < left {
+    for _ in 0..k {
         let end = at + place(&line[at..], b' ');
         if end == line.len() {
             return end;
         }
         at = end + 1;
-        left -= 1;
     }
     at
 }

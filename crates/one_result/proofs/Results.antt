@@ -1,6 +1,7 @@
 -- Any two results that a contract allows for one input are equal, buffers too. A contract that is one equation with a definition is `one` by
 -- itself; here are the others, each a record of several equations. Assumes nothing.
 use Prim.Native.Nat.{ℕ, ◌*◌, ◌^◌}
+use Rattle.std.specs.Prelude.{Option}
 use mathlib.Core.Path.{◌≡◌, refl, sym, ap, ◌∙◌}
 use mathlib.Core.Bool.{Bool, true, false, true≢false}
 use mathlib.Core.List.{List, ◌++◌}
@@ -8,8 +9,7 @@ use mathlib.Core.Logic.{inl}
 use lib.ListN.{length, take, drop}
 use lib.Ieee.{Float, binary64, round}
 use Rattle.naming.specs.declared.Name.{Name}
-use Rattle.quant.specs.declared.refusal.Answer.{Answer}
-use Rattle.quant.specs.Refusal.{code_of}
+use Rattle.quant.specs.Refusal.{code_of, Answer}
 use Rattle.naming.specs.Name as Name
 use Rattle.hexadecimal.specs.Hex as Hex
 use Rattle.fma.specs.Words.{words}
@@ -20,7 +20,6 @@ use Rattle.iir.specs.Iir.{Iir}
 use Rattle.fir.specs.Fir.{Fir}
 use Rattle.host.specs.Coded.{Coded}
 use Rattle.sheet.specs.declared.read.Reading.{Reading}
-use Rattle.sheet.specs.declared.print.Printed.{Printed}
 use Rattle.sheet.specs.Sheet.{Behind, value, other, Read, Print}
 use Rattle.sheet.specs.Reader.{Starts, parted}
 use Rattle.sheet_answer.specs.Answer.{Answered}
@@ -95,11 +94,11 @@ pub one-sheet : (text : List ℕ) (before : List Float) (r s : Reading) (m n : L
     → (r.answer ≡ s.answer) × (r.names ≡ s.names) × (m ≡ n)
 one-sheet text before r s m n a b = (one a.answered b.answered, one a.named b.named, one a.left b.left)
 
-pub one-print : (count : ℕ) (names : List Name) (matrix : List Float) (before : List ℕ) (r s : Printed) (t u : List ℕ)
+pub one-print : (count : ℕ) (names : List Name) (matrix : List Float) (before : List ℕ) (r s : Answer) (t u : List ℕ)
     → Print count names matrix before r t → Print count names matrix before s u → (r ≡ s) × (t ≡ u)
 one-print count names matrix before r s t u a b = (one a.answered b.answered, one a.left b.left)
 
-pub one-sheet-answer : (text before : List ℕ) (r s : Printed) (t u : List ℕ) → Answered text before r t → Answered text before s u → (r ≡ s) × (t ≡ u)
+pub one-sheet-answer : (text before : List ℕ) (r s : Answer) (t u : List ℕ) → Answered text before r t → Answered text before s u → (r ≡ s) × (t ≡ u)
 one-sheet-answer text before r s t u a b = (one a.answer b.answer, one a.left b.left)
 
 -- the sheet behind a job's line
@@ -130,5 +129,5 @@ one_list line k before r s m n a b =
     (same, a.left ∙ ap (λ (c : ℕ). take (length before) (listed line k) ++ drop c before) same ∙ sym b.left)
 
 -- The one exception: two answers of `value_at` may be two places, but the same bytes stand there.
-pub same-value : (line : List ℕ) (k : ℕ) (key : List ℕ) (r s : Span) → Found line k key r → Found line k key s → spanned r line ≡ spanned s line
+pub same-value : (line : List ℕ) (k : ℕ) (key : List ℕ) (r s : Option Span) → Found line k key r → Found line k key s → spanned r line ≡ spanned s line
 same-value line k key r s a b = sym a.is ∙ b.is

@@ -3,7 +3,7 @@
 
 ghost use Rattle.std.specs.Prelude.{◌≡◌};
 ghost use Rattle.commands.specs.Run.{ran_to};
-ghost use Rattle.owned.specs.Owned.{executed_owned, to_run, told_of, executed_with};
+ghost use Rattle.owned.specs.Owned.{executed_owned, executed_with, to_run, told_of};
 
 use commands::command::Arranged;
 use commands::execute::execute;
@@ -24,45 +24,34 @@ pub fn execute_owned(
     commands: [Arranged; 1024],
     count: usize,
     bins: &mut [[f64; 77]],
-    pulses: [Pulse; 8192],
+    mut pulses: [Pulse; 8192],
 ) -> Executed
     ensures { ran_to result.tabled bins.new result.pulses ≡ executed_owned t splines.now commands count bins.old pulses }
 {
-    let mut lent = pulses;
     let n = to_run(count);
-    let tabled = execute(t, splines, &commands[..n], bins, &mut lent);
-    let left = lent;
-    with_pulses(count, tabled, left)
+    let tabled = execute(t, splines, &commands[..n], bins, &mut pulses);
+    with_pulses(count, tabled, pulses)
 }
 
 fn to_run(count: usize) -> usize
     ensures { result ≡ to_run count }
 {
-    if count <= 1024 {
-        return count;
-    }
-    0
+    if count <= 1024 { count } else { 0 }
 }
 
 fn with_pulses(count: usize, tabled: Tabled, pulses: [Pulse; 8192]) -> Executed
     ensures { result ≡ executed_with count tabled pulses }
 {
-    let told = told(count, tabled);
-    Executed {
-        tabled: told,
-        pulses: pulses,
-    }
+    let tabled = told(count, tabled);
+    Executed { tabled, pulses }
 }
 
 fn told(count: usize, tabled: Tabled) -> Tabled
     ensures { result ≡ told_of count tabled }
 {
-    if 1024 < count {
-        let t = tabled.tables;
-        return Tabled {
-            answer: Answer::Refused(Refusal::WrongSize, 0),
-            tables: t,
-        };
+    if count <= 1024 {
+        return tabled;
     }
-    tabled
+    let answer = Err(Refusal::WrongSize.at(0));
+    Tabled { answer, ..tabled }
 }

@@ -1,13 +1,14 @@
 -- The numbers 9 to 11 are given exactly when document 01's table says (12: proofs/Twelve.antt; 8 is given in every other refusal: proofs/Ways.antt). Read
 -- off the ways that a pulse is judged; an envelope is refused by 11, 12 or 8 only. Assumes nothing.
+use Rattle.quant.specs.Aligned.{starts_at}
+use Rattle.std.specs.Prelude.{Err, Result}
+use Rattle.quant.specs.declared.aligned.Misplaced.TheVariants as placed
 use Rattle.std.proofs.Common.{◌≡◌, ℕ, ◌-◌, ◌≤◌, true, ◌⊎◌, List, sym, refl, ap, ◌∙◌, inl, inr, arith}
 use lib.Ieee.{Float, lt}
 use Rattle.exact.specs.Doubles.{nought}
-use Rattle.quant.specs.declared.aligned.Placed.TheVariants as placed
 use Rattle.quant.specs.declared.refusal.Refusal.{Refusal}
 use Rattle.quant.specs.declared.refusal.Refusal.TheVariants.{NotFinite, BeforeRow, StartPastRow, ShapeTooShort, EndPastRow}
 use Rattle.quant.specs.declared.settings.Settings.{Settings}
-use Rattle.shape.specs.declared.envelope.Enveloped.TheVariants as enveloped
 use Rattle.shape.specs.Parts.{t1}
 use Rattle.shape.specs.Envelope.{enveloped_of, least}
 use Rattle.shape.proofs.Envelopes.{eleven, refused-by}
@@ -16,7 +17,6 @@ use Rattle.pulse.specs.declared.bin.Bin.{Bin}
 use Rattle.pulse.specs.declared.list.Pulse.{Pulse}
 use Rattle.pulse.specs.Envelope.{is_shaped}
 use Rattle.placing.specs.declared.Judged.{Judged}
-use Rattle.placing.specs.declared.Judged.TheVariants.{Refused}
 use Rattle.placing.specs.Judged.{placed_at, measured_at, judged}
 use Rattle.placing.proofs.Ways.{Inside, Way, no_index, before, beyond, past, unshaped, over, plain-rest, curved-rest, flat, curved, way, way-given}
 
@@ -25,7 +25,7 @@ module _ (s : Settings) (b : Bin) (p : Pulse) (len : ℕ) where
   pub record Past : Type 0 where
     pub start : ℕ
     pub offset : Float
-    pub placed : placed_at s p ≡ placed.Start start offset
+    pub placed : placed_at s p ≡ starts_at start offset
     pub past : len ≤ start
 
   -- a shaped pulse that starts within the row, with t1 < 0
@@ -36,27 +36,27 @@ module _ (s : Settings) (b : Bin) (p : Pulse) (len : ℕ) where
 
 module _ (s : Settings) (b : Bin) (numbers : List Float) (p : Pulse) (len : ℕ) where
   -- an envelope that is refused
-  measured-by : (o : Float) (room : ℕ) (r : Refusal) → measured_at s b numbers o room ≡ enveloped.Refused r → (r ≡ ShapeTooShort) ⊎ ((r ≡ EndPastRow) ⊎ (r ≡ NotFinite))
+  measured-by : (o : Float) (room : ℕ) (r : Refusal) → measured_at s b numbers o room ≡ Err r → (r ≡ ShapeTooShort) ⊎ ((r ≡ EndPastRow) ⊎ (r ≡ NotFinite))
   measured-by o room r m = refused-by b.envelope.shape numbers b.envelope.width.0 b.envelope.plateau.0 o s.rate.0 s.dt.0 (least room 65536) r m
 
-  not-nine : (r : Refusal) → (r ≡ ShapeTooShort) ⊎ ((r ≡ EndPastRow) ⊎ (r ≡ NotFinite)) → ◌≡◌ {A = Judged} (Refused r) (Refused BeforeRow) → ⊥
+  not-nine : (r : Refusal) → (r ≡ ShapeTooShort) ⊎ ((r ≡ EndPastRow) ⊎ (r ≡ NotFinite)) → ◌≡◌ {A = (Result Judged Refusal)} (Err r) (Err BeforeRow) → ⊥
   not-nine r (inl h) e = let z : ◌≡◌ {A = ℕ} 0 1 = cc in omega arith
   not-nine r (inr (inl h)) e = let z : ◌≡◌ {A = ℕ} 0 1 = cc in omega arith
   not-nine r (inr (inr h)) e = let z : ◌≡◌ {A = ℕ} 0 1 = cc in omega arith
 
-  not_ten : (r : Refusal) → (r ≡ ShapeTooShort) ⊎ ((r ≡ EndPastRow) ⊎ (r ≡ NotFinite)) → ◌≡◌ {A = Judged} (Refused r) (Refused StartPastRow) → ⊥
+  not_ten : (r : Refusal) → (r ≡ ShapeTooShort) ⊎ ((r ≡ EndPastRow) ⊎ (r ≡ NotFinite)) → ◌≡◌ {A = (Result Judged Refusal)} (Err r) (Err StartPastRow) → ⊥
   not_ten r (inl h) e = let z : ◌≡◌ {A = ℕ} 0 1 = cc in omega arith
   not_ten r (inr (inl h)) e = let z : ◌≡◌ {A = ℕ} 0 1 = cc in omega arith
   not_ten r (inr (inr h)) e = let z : ◌≡◌ {A = ℕ} 0 1 = cc in omega arith
 
   -- ---- 9: the aligned start is below 0
-  pub nine-given : placed_at s p ≡ placed.Before → judged s b numbers p len ≡ Refused BeforeRow
-  nine-given g = way-given s b numbers p len (Refused BeforeRow) (before g refl)
+  pub nine-given : placed_at s p ≡ Err placed.Before → judged s b numbers p len ≡ Err BeforeRow
+  nine-given g = way-given s b numbers p len (Err BeforeRow) (before g refl)
 
-  pub nine : judged s b numbers p len ≡ Refused BeforeRow → placed_at s p ≡ placed.Before
-  nine e = by (way s b numbers p len (Refused BeforeRow) e)
+  pub nine : judged s b numbers p len ≡ Err BeforeRow → placed_at s p ≡ Err placed.Before
+  nine e = by (way s b numbers p len (Err BeforeRow) e)
     where
-      by : Way s b numbers p len (Refused BeforeRow) → placed_at s p ≡ placed.Before
+      by : Way s b numbers p len (Err BeforeRow) → placed_at s p ≡ Err placed.Before
       by (no_index g e) = let z : ◌≡◌ {A = ℕ} 0 1 = cc in absurd (omega arith)
       by (before g e) = g
       by (beyond g e) = let z : ◌≡◌ {A = ℕ} 0 1 = cc in absurd (omega arith)
@@ -69,14 +69,14 @@ module _ (s : Settings) (b : Bin) (numbers : List Float) (p : Pulse) (len : ℕ)
       by (curved k n z m h e) = let z : ◌≡◌ {A = ℕ} 0 1 = cc in absurd (omega arith)
 
   -- ---- 10: the start is not below the row length, or is from 2^64 on
-  pub ten_given : (placed_at s p ≡ placed.Beyond) ⊎ Past s b p len → judged s b numbers p len ≡ Refused StartPastRow
-  ten_given (inl g) = way-given s b numbers p len (Refused StartPastRow) (beyond g refl)
-  ten_given (inr h) = way-given s b numbers p len (Refused StartPastRow) (past h.start h.offset h.placed h.past refl)
+  pub ten_given : (placed_at s p ≡ Err placed.Beyond) ⊎ Past s b p len → judged s b numbers p len ≡ Err StartPastRow
+  ten_given (inl g) = way-given s b numbers p len (Err StartPastRow) (beyond g refl)
+  ten_given (inr h) = way-given s b numbers p len (Err StartPastRow) (past h.start h.offset h.placed h.past refl)
 
-  pub ten : judged s b numbers p len ≡ Refused StartPastRow → (placed_at s p ≡ placed.Beyond) ⊎ Past s b p len
-  ten e = by (way s b numbers p len (Refused StartPastRow) e)
+  pub ten : judged s b numbers p len ≡ Err StartPastRow → (placed_at s p ≡ Err placed.Beyond) ⊎ Past s b p len
+  ten e = by (way s b numbers p len (Err StartPastRow) e)
     where
-      by : Way s b numbers p len (Refused StartPastRow) → (placed_at s p ≡ placed.Beyond) ⊎ Past s b p len
+      by : Way s b numbers p len (Err StartPastRow) → (placed_at s p ≡ Err placed.Beyond) ⊎ Past s b p len
       by (no_index g e) = let z : ◌≡◌ {A = ℕ} 0 1 = cc in absurd (omega arith)
       by (before g e) = let z : ◌≡◌ {A = ℕ} 0 1 = cc in absurd (omega arith)
       by (beyond g e) = inl g
@@ -89,16 +89,16 @@ module _ (s : Settings) (b : Bin) (numbers : List Float) (p : Pulse) (len : ℕ)
       by (curved k n z m h e) = let z : ◌≡◌ {A = ℕ} 0 1 = cc in absurd (omega arith)
 
   -- ---- 11: a shaped pulse that starts within the row, with t1 < 0
-  pub eleven_given : Short s b p len → judged s b numbers p len ≡ Refused ShapeTooShort
+  pub eleven_given : Short s b p len → judged s b numbers p len ≡ Err ShapeTooShort
   eleven_given h =
       let k = h.at in
       let parted = too_short b.envelope.width.0 b.envelope.plateau.0 k.offset s.rate.0 s.dt.0 (least (len - k.start) 65536) h.short in
-      way-given s b numbers p len (Refused ShapeTooShort) (unshaped k ShapeTooShort h.shape (sym (ap (enveloped_of b.envelope.shape numbers) parted)) refl)
+      way-given s b numbers p len (Err ShapeTooShort) (unshaped k ShapeTooShort h.shape (sym (ap (enveloped_of b.envelope.shape numbers) parted)) refl)
 
-  pub only_eleven : judged s b numbers p len ≡ Refused ShapeTooShort → Short s b p len
-  only_eleven e = by (way s b numbers p len (Refused ShapeTooShort) e)
+  pub only_eleven : judged s b numbers p len ≡ Err ShapeTooShort → Short s b p len
+  only_eleven e = by (way s b numbers p len (Err ShapeTooShort) e)
     where
-      by : Way s b numbers p len (Refused ShapeTooShort) → Short s b p len
+      by : Way s b numbers p len (Err ShapeTooShort) → Short s b p len
       by (no_index g e) = let z : ◌≡◌ {A = ℕ} 0 1 = cc in absurd (omega arith)
       by (before g e) = let z : ◌≡◌ {A = ℕ} 0 1 = cc in absurd (omega arith)
       by (beyond g e) = let z : ◌≡◌ {A = ℕ} 0 1 = cc in absurd (omega arith)
@@ -108,7 +108,7 @@ module _ (s : Settings) (b : Bin) (numbers : List Float) (p : Pulse) (len : ℕ)
           record {
             at = k;
             shape = z;
-            short = eleven b.envelope.shape numbers b.envelope.width.0 b.envelope.plateau.0 k.offset s.rate.0 s.dt.0 (least (len - k.start) 65536) (m ∙ ap enveloped.Refused same);
+            short = eleven b.envelope.shape numbers b.envelope.width.0 b.envelope.plateau.0 k.offset s.rate.0 s.dt.0 (least (len - k.start) 65536) (m ∙ ap Err same);
           }
       by (over k z h e) = let z : ◌≡◌ {A = ℕ} 0 1 = cc in absurd (omega arith)
       by (plain-rest k z h m e) = let z : ◌≡◌ {A = ℕ} 0 1 = cc in absurd (omega arith)

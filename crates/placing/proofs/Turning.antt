@@ -1,42 +1,14 @@
--- The phases' numbers as the code works them out and judges them, and what an answer of `turn` says of them. Assumes nothing.
-use Rattle.std.proofs.Common.{◌≡◌, ℕ, Bool, true, false, cond, ◌&&◌, List, [], ◌∷◌, ◌++◌, sym, refl, ap, ◌∙◌, arith}
-use mathlib.Core.Bool.{and-false}
+-- The phases' numbers as the code works them out and judges them. Assumes nothing.
+use Rattle.std.specs.Prelude.{Some, None}
+use Rattle.std.proofs.Common.{◌≡◌, ℕ, Bool, true, false, ◌&&◌, List, [], ◌∷◌, ◌++◌, sym, refl, ap, ◌∙◌}
 use lib.Ieee.{Float, binary64, add, sub, mul}
 use lib.Ieee.Scale.{finite}
-use Rattle.quant.specs.declared.complex.Complex.{Complex}
-use Rattle.quant.specs.declared.phaser.Phased.TheVariants as phased
 use Rattle.quant.specs.declared.settings.Settings.{Settings}
-use Rattle.quant.specs.Phaser.{radians_of, pair_at, phased_of}
+use Rattle.quant.specs.Phaser.{radians_of, phased_of}
 use Rattle.rows.specs.Rows.{all_finite}
 use Rattle.exact.proofs.Truth.{both}
 use Rattle.pulse.specs.declared.bin.Bin.{Bin}
-use Rattle.placing.specs.declared.phases.Turned.TheVariants.{Pairs, NotFinite}
 use Rattle.placing.specs.Phases.{start_time, since_delay, global_phase, local_slip, local_phase, total_of, phase0, dphase, start_pair, rotation_pair, phase_numbers, turned_of, pairs_of}
-
--- ---- a phaser that is given, and one that is not
-pub pair-given : (p : Float) (u : Complex) → phased_of p ≡ phased.Pair u → (finite (radians_of p) ≡ true) × (pair_at (radians_of p) ≡ u)
-pair-given p u e = by (finite (radians_of p)) refl e
-  where
-    by : (b : Bool) → finite (radians_of p) ≡ b → Rattle.quant.specs.Phaser.phased b (radians_of p) ≡ phased.Pair u → (finite (radians_of p) ≡ true) × (pair_at (radians_of p) ≡ u)
-    by true f e = (f, cc)
-    by false f e = let z : ◌≡◌ {A = ℕ} 0 1 = cc in absurd (omega arith)
-
-pub no-pair : (p : Float) → phased_of p ≡ phased.NotFinite → finite (radians_of p) ≡ false
-no-pair p e = by (finite (radians_of p)) refl e
-  where
-    by : (b : Bool) → finite (radians_of p) ≡ b → Rattle.quant.specs.Phaser.phased b (radians_of p) ≡ phased.NotFinite → finite (radians_of p) ≡ false
-    by true f e = let z : ◌≡◌ {A = ℕ} 0 1 = cc in absurd (omega arith)
-    by false f e = f
-
-module _ (p d : Float) where
-  pub both-given : (u v : Complex) → phased_of p ≡ phased.Pair u → phased_of d ≡ phased.Pair v → Pairs u v ≡ pairs_of p d
-  both-given u v e f = let e' = pair-given p u e in let f' = pair-given d v f in rw (e'.0, f'.0, e'.1, f'.1)
-
-  pub first-missing : phased_of p ≡ phased.NotFinite → NotFinite ≡ pairs_of p d
-  first-missing e = rw (no-pair p e)
-
-  pub second-missing : phased_of d ≡ phased.NotFinite → NotFinite ≡ pairs_of p d
-  second-missing e = rw (no-pair d e, and-false (finite (radians_of p)))
 
 -- ---- numbers before others
 pub finite-append : (xs ys : List Float) → all_finite (xs ++ ys) ≡ (all_finite xs && all_finite ys)
@@ -48,29 +20,8 @@ finite-append (x ∷ xs) ys = rw (finite-append xs ys) (by (finite x))
     by true = refl
     by false = refl
 
--- ---- what an answer of `turn` says
+-- ---- the code's numbers, one by one
 module _ (s : Settings) (b : Bin) (start : ℕ) (offset : Float) where
-  pub record Given (u d : Complex) : Type 0 where
-    pub fine : all_finite (phase_numbers s b start offset) ≡ true
-    pub first : u ≡ start_pair s b start offset
-    pub rotation : d ≡ rotation_pair s b
-
-  pub turn-given : (u d : Complex) → turned_of s b start offset ≡ Pairs u d → Given u d
-  turn-given u d e = by (all_finite (phase_numbers s b start offset)) refl e
-    where
-      by : (x : Bool) → all_finite (phase_numbers s b start offset) ≡ x → cond x (Pairs (start_pair s b start offset) (rotation_pair s b)) NotFinite ≡ Pairs u d → Given u d
-      by true f e = record { fine = f; first = cc; rotation = cc }
-      by false f e = let z : ◌≡◌ {A = ℕ} 0 1 = cc in absurd (omega arith)
-
-  pub turn-missing : turned_of s b start offset ≡ NotFinite → all_finite (phase_numbers s b start offset) ≡ false
-  turn-missing e = by (all_finite (phase_numbers s b start offset)) refl e
-    where
-      by : (x : Bool) → all_finite (phase_numbers s b start offset) ≡ x → cond x (Pairs (start_pair s b start offset) (rotation_pair s b)) NotFinite ≡ NotFinite
-          → all_finite (phase_numbers s b start offset) ≡ false
-      by true f e = let z : ◌≡◌ {A = ℕ} 0 1 = cc in absurd (omega arith)
-      by false f e = f
-
-  -- ---- the code's numbers, one by one
   module _ (at since turned slow late p total d : Float) (a0 : at ≡ start_time s start) (a1 : since ≡ sub binary64 at s.delay.0) (a2 : turned ≡ mul binary64 b.global.0 since)
       (a3 : slow ≡ mul binary64 b.local.0 offset) (a4 : late ≡ mul binary64 slow s.dt.0) (a5 : p ≡ add binary64 turned late) (a6 : total ≡ add binary64 b.global.0 b.local.0)
       (a7 : d ≡ mul binary64 total s.dt.0) where
@@ -101,7 +52,7 @@ module _ (s : Settings) (b : Bin) (start : ℕ) (offset : Float) where
     unfolding start_pair rotation_pair
     turn-fine e = rw (judged-all, e, ← p-is, ← d-is)
 
-    pub turn-refused : all_finite eight ≡ false → NotFinite ≡ turned_of s b start offset
+    pub turn-refused : all_finite eight ≡ false → None ≡ turned_of s b start offset
     turn-refused e = rw (judged-all, e)
 
 -- ---- numbers that are all finite: the pairs are what the phasers give
@@ -116,10 +67,10 @@ module _ (s : Settings) (b : Bin) (start : ℕ) (offset : Float) (fine : all_fin
       (phase0 s b start offset) (total_of b) (dphase s b) refl refl refl refl refl refl refl refl in
       both (finite p) (finite d) (both (all_finite _) (finite p && finite d) (sym all ∙ fine)).1
 
-  pub start-given : phased_of (phase0 s b start offset) ≡ phased.Pair (start_pair s b start offset)
+  pub start-given : phased_of (phase0 s b start offset) ≡ Some (start_pair s b start offset)
   unfolding start_pair
   start-given = rw radians_fine.0
 
-  pub rotation-given : phased_of (dphase s b) ≡ phased.Pair (rotation_pair s b)
+  pub rotation-given : phased_of (dphase s b) ≡ Some (rotation_pair s b)
   unfolding rotation_pair
   rotation-given = rw radians_fine.1

@@ -2,6 +2,7 @@
 -- That it is given there holds of any doubles. That it is given nowhere else holds of what a sampling call judges: a bin as plays leave it, settings that
 -- fit and a row of at most 65,536 samples; for then the parts of a shape are in order, which takes a finite offset in time: the offset lies below one
 -- sample, and dt is finite. Assumes nothing.
+use Rattle.std.specs.Prelude.{Some, Err}
 use Rattle.std.proofs.Common.{◌≡◌, ℕ, ◌+◌, ◌-◌, ◌*◌, ◌^◌, ◌<◌, ◌≤◌, Bool, true, false, ◌&&◌, T, List, pos, negsuc, ◌≤ℤ◌, sym, refl, ap, ◌∙◌, subst, true≢false, le_of_lt, mul-le-mul_right, mul_assoc, mul_comm, mul-pos, arith, pow_pos, lt-ltb, le-leb}
 use lib.Signed.{le_z, le_z_yes}
 use lib.Ieee.{Float, binary64, unlike, round, add, mul, div, lt, fits}
@@ -16,11 +17,9 @@ use Rattle.exact.proofs.Operation.{mul-rounds}
 use Rattle.exact.proofs.Truth.{both}
 use Rattle.exact.proofs.Value.{own}
 use Rattle.quant.specs.declared.refusal.Refusal.TheVariants.{EndPastRow}
-use Rattle.quant.specs.declared.settings.Fitting.TheVariants.{Fit}
 use Rattle.quant.specs.declared.settings.Settings.{Settings}
 use Rattle.quant.specs.Settings.{is_rate, is_level, fitting, fitting_of}
 use Rattle.quant.proofs.Offset.{place-exact}
-use Rattle.shape.specs.declared.envelope.Enveloped.TheVariants as enveloped
 use Rattle.shape.specs.Parts.{index_at, t1, t3}
 use Rattle.shape.specs.Envelope.{enveloped_of, least}
 use Rattle.shape.proofs.Filling.{least-left, least-right}
@@ -30,7 +29,6 @@ use Rattle.pulse.specs.declared.bin.Bin.{Bin}
 use Rattle.pulse.specs.declared.list.Pulse.{Pulse}
 use Rattle.pulse.specs.Bin.{GoodBin}
 use Rattle.pulse.specs.Envelope.{is_shaped}
-use Rattle.placing.specs.declared.Judged.TheVariants.{Refused}
 use Rattle.placing.specs.Judged.{count_of, measured_at, judged}
 use Rattle.placing.proofs.Ways.{Inside, Way, no_index, before, beyond, past, unshaped, over, plain-rest, curved-rest, flat, curved, plain-only, way, way-given}
 
@@ -48,7 +46,7 @@ pub record Over (s : Settings) (b : Bin) (p : Pulse) (len : ℕ) : Type 0 where
   pub over : len < at.start + samples_of s b at.offset (is_shaped b.envelope.shape)
 
 -- ---- it is given there
-pub twelve_given : (s : Settings) (b : Bin) (numbers : List Float) (p : Pulse) (len : ℕ) → Over s b p len → judged s b numbers p len ≡ Refused EndPastRow
+pub twelve_given : (s : Settings) (b : Bin) (numbers : List Float) (p : Pulse) (len : ℕ) → Over s b p len → judged s b numbers p len ≡ Err EndPastRow
 twelve_given s b numbers p len h = by (is_shaped b.envelope.shape) refl h.over
   where
     k : Inside s b p len
@@ -57,13 +55,13 @@ twelve_given s b numbers p len h = by (is_shaped b.envelope.shape) refl h.over
     room : ℕ
     room = least (len - k.start) 65536
 
-    by : (z : Bool) → is_shaped b.envelope.shape ≡ z → len < k.start + samples_of s b k.offset z → judged s b numbers p len ≡ Refused EndPastRow
-    by false z o = way-given s b numbers p len (Refused EndPastRow) (over k (plain-only b.envelope.shape z) o refl)
+    by : (z : Bool) → is_shaped b.envelope.shape ≡ z → len < k.start + samples_of s b k.offset z → judged s b numbers p len ≡ Err EndPastRow
+    by false z o = way-given s b numbers p len (Err EndPastRow) (over k (plain-only b.envelope.shape z) o refl)
     by true z o =
         let n = samples_of s b k.offset true in
         let less = least-left (len - k.start) 65536 in
         let parted = past_row b.envelope.width.0 b.envelope.plateau.0 k.offset s.rate.0 s.dt.0 room (h.reaches z) n refl (lt-ltb room n (omega (arith, less, o, k.inside))) in
-        way-given s b numbers p len (Refused EndPastRow) (unshaped k EndPastRow z (sym (ap (enveloped_of b.envelope.shape numbers) parted)) refl)
+        way-given s b numbers p len (Err EndPastRow) (unshaped k EndPastRow z (sym (ap (enveloped_of b.envelope.shape numbers) parted)) refl)
 
 -- ---- an offset in time is finite
 
@@ -95,10 +93,10 @@ record Clock (s : Settings) : Type 0 where
 holds : {b : Bool} → b ≡ true → T b
 holds e = subst T (sym e) tt
 
-clock : (s : Settings) → fitting_of s.rate s.delay s.level ≡ Fit s → Clock s
+clock : (s : Settings) → fitting_of s.rate s.delay s.level ≡ Some s → Clock s
 clock s e = by (is_rate s.rate.0 && finite (div binary64 one s.rate.0) && finite s.delay.0 && is_level s.level) refl e
   where
-    by : (b : Bool) → (is_rate s.rate.0 && finite (div binary64 one s.rate.0) && finite s.delay.0 && is_level s.level) ≡ b → fitting b s.rate s.delay s.level ≡ Fit s → Clock s
+    by : (b : Bool) → (is_rate s.rate.0 && finite (div binary64 one s.rate.0) && finite s.delay.0 && is_level s.level) ≡ b → fitting b s.rate s.delay s.level ≡ Some s → Clock s
     by false f e = let z : ◌≡◌ {A = ℕ} 0 1 = cc in absurd (omega arith)
     by true f e =
         let g = both (is_rate s.rate.0 && finite (div binary64 one s.rate.0) && finite s.delay.0) (is_level s.level) f in
@@ -127,7 +125,7 @@ pub record Kept (b : Bin) : Type 0 where
 -- such a bin, settings that fit and whose rate is a double, and a row of at most 65,536 samples
 pub record Judgeable (s : Settings) (b : Bin) (len : ℕ) : Type 0 where
   pub bin : Kept b
-  pub fit : fitting_of s.rate s.delay s.level ≡ Fit s
+  pub fit : fitting_of s.rate s.delay s.level ≡ Some s
   pub rate-fits : T (fits binary64 s.rate.0)
   pub row : len ≤ 65536
 
@@ -162,7 +160,7 @@ module _ (s : Settings) (b : Bin) (numbers : List Float) (p : Pulse) (len : ℕ)
       }
 
   -- an envelope that has no room
-  past_end : (k : Inside s b p len) → is_shaped b.envelope.shape ≡ true → measured_at s b numbers k.offset (len - k.start) ≡ enveloped.Refused EndPastRow → Over s b p len
+  past_end : (k : Inside s b p len) → is_shaped b.envelope.shape ≡ true → measured_at s b numbers k.offset (len - k.start) ≡ Err EndPastRow → Over s b p len
   past_end k z e =
       let room = least (len - k.start) 65536 in
       let few = least-right (len - k.start) 65536 in
@@ -173,15 +171,15 @@ module _ (s : Settings) (b : Bin) (numbers : List Float) (p : Pulse) (len : ℕ)
         over = subst (λ (x : Bool). len < k.start + samples_of s b k.offset x) (sym z) (ends (len - k.start) len k.start (samples_of s b k.offset true) h.row k.inside refl r.past);
       }
 
-  pub only_twelve : judged s b numbers p len ≡ Refused EndPastRow → Over s b p len
-  only_twelve e = by (way s b numbers p len (Refused EndPastRow) e)
+  pub only_twelve : judged s b numbers p len ≡ Err EndPastRow → Over s b p len
+  only_twelve e = by (way s b numbers p len (Err EndPastRow) e)
     where
-      by : Way s b numbers p len (Refused EndPastRow) → Over s b p len
+      by : Way s b numbers p len (Err EndPastRow) → Over s b p len
       by (no_index g e) = let z : ◌≡◌ {A = ℕ} 0 1 = cc in absurd (omega arith)
       by (before g e) = let z : ◌≡◌ {A = ℕ} 0 1 = cc in absurd (omega arith)
       by (beyond g e) = let z : ◌≡◌ {A = ℕ} 0 1 = cc in absurd (omega arith)
       by (past w o g h e) = let z : ◌≡◌ {A = ℕ} 0 1 = cc in absurd (omega arith)
-      by (unshaped k r z m e) = let same : r ≡ EndPastRow = cc in past_end k z (m ∙ ap enveloped.Refused same)
+      by (unshaped k r z m e) = let same : r ≡ EndPastRow = cc in past_end k z (m ∙ ap Err same)
       by (over k z o e) =
           record {
             at = k;

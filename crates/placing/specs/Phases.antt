@@ -1,6 +1,6 @@
 -- Document 01, "Placing and sampling": "phase0 = global*(start*dt - delay) + (local*offset)*dt; dphase = (global+local)*dt, dt = 1/rate", and 8 for
 -- "phases and each phase*TAU". Each operation rounds once and is judged. Definitions only.
-use Rattle.std.specs.Prelude.{ℕ, cond, ◌&&◌, List, [], ◌∷◌, Float}
+use Rattle.std.specs.Prelude.{ℕ, cond, ◌&&◌, List, [], ◌∷◌, Float, Option, Some, None}
 use Rattle.std.specs.Float.{binary64}
 use Rattle.std.specs.Float.Ieee.{add, sub, mul}
 use Rattle.std.specs.Float.Ieee.Scale.{finite}
@@ -10,8 +10,7 @@ use Rattle.quant.specs.Phaser.{radians_of, pair_at}
 use Rattle.rows.specs.Rows.{all_finite}
 use Rattle.points.specs.Points.{number}
 use Rattle.pulse.specs.declared.bin.Bin.{Bin}
-use Rattle.placing.specs.declared.phases.Turned.{Turned}
-use Rattle.placing.specs.declared.phases.Turned.TheVariants.{Pairs, NotFinite}
+use Rattle.placing.specs.declared.phases.Phases.{Phases}
 
 -- start*dt; that less the delay
 abbrev pub start_time : Settings → ℕ → Float
@@ -63,9 +62,13 @@ phase_numbers s b start offset =
     ∷ radians_of (dphase s b)
     ∷ []
 
-abbrev pub turned_of : Settings → Bin → ℕ → Float → Turned
-turned_of s b start offset = cond (all_finite (phase_numbers s b start offset)) (Pairs (start_pair s b start offset) (rotation_pair s b)) NotFinite
+-- at the start, and from one sample to the next
+abbrev pub pairs : Complex → Complex → Option Phases
+pairs u d = Some (record { start = u; step = d })
+
+abbrev pub turned_of : Settings → Bin → ℕ → Float → Option Phases
+turned_of s b start offset = cond (all_finite (phase_numbers s b start offset)) (pairs (start_pair s b start offset) (rotation_pair s b)) None
 
 -- of two phases alone
-abbrev pub pairs_of : Float → Float → Turned
-pairs_of p d = cond (finite (radians_of p) && finite (radians_of d)) (Pairs (pair_at (radians_of p)) (pair_at (radians_of d))) NotFinite
+abbrev pub pairs_of : Float → Float → Option Phases
+pairs_of p d = cond (finite (radians_of p) && finite (radians_of d)) (pairs (pair_at (radians_of p)) (pair_at (radians_of d))) None

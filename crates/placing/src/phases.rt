@@ -4,28 +4,27 @@ ghost use Rattle.placing.specs.Phases.{turned_of, pairs_of};
 
 use pulse::bin::Bin;
 use quant::complex::Complex;
-use quant::phaser::{Phased, phaser};
-use quant::quantity::{Phase, Time};
+use quant::phaser::phaser;
+use quant::quantity::{Phase, Quantity, Time};
 use quant::settings::Settings;
 use rows::all_finite;
 use std::num::nearest_u64_to_f64;
 
+// At the start, and from one sample to the next.
 #[derive(Clone, Copy)]
-pub enum Turned {
-    // At the start, and from one sample to the next.
-    Pairs(Complex, Complex),
-    // Refusal 8.
-    NotFinite,
+pub struct Phases {
+    pub start: Complex,
+    pub step: Complex,
 }
 
-pub(crate) fn turn(s: Settings, b: Bin, start: usize, offset: f64) -> Turned
+// None where a number worked out on the way is not finite: refusal 8.
+pub(crate) fn turn(s: Settings, b: Bin, start: usize, offset: f64) -> Option<Phases>
     ensures { result ≡ turned_of s b start offset }
 {
-    let dt = s.dt;
-    let global = b.global;
-    let local = b.local;
+    let Settings { delay, dt, .. } = s;
+    let Bin { global, local, .. } = b;
     let at = Time(nearest_u64_to_f64(start as u64) * dt.0);
-    let since = at.sub(s.delay);
+    let since = at.sub(delay);
     let turned = global.mul_time(since);
     let slow = local.mul(offset);
     let late = slow.mul_time(dt);
@@ -35,20 +34,16 @@ pub(crate) fn turn(s: Settings, b: Bin, start: usize, offset: f64) -> Turned
     let numbers = [
         at.0, since.0, turned.0, slow.0, late.0, phase0.0, total.0, dphase.0,
     ];
-    if all_finite(&numbers) {
-        return pairs(phase0, dphase);
+    if !all_finite(&numbers) {
+        return None;
     }
-    Turned::NotFinite
+    pairs(phase0, dphase)
 }
 
-fn pairs(phase0: Phase, dphase: Phase) -> Turned
+fn pairs(phase0: Phase, dphase: Phase) -> Option<Phases>
     ensures { result ≡ pairs_of phase0.0 dphase.0 }
 {
-    match phaser(phase0) {
-        Phased::Pair(u) => match phaser(dphase) {
-            Phased::Pair(d) => Turned::Pairs(u, d),
-            Phased::NotFinite => Turned::NotFinite,
-        },
-        Phased::NotFinite => Turned::NotFinite,
-    }
+    let start = phaser(phase0)?;
+    let step = phaser(dphase)?;
+    Some(Phases { start, step })
 }

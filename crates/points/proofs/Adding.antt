@@ -1,7 +1,7 @@
 -- Points by exact sums: high + low is point i, where high is the start's upper part and i times the step's, and low the same of the lower parts. All four are
 -- whole numbers of steps, and so are high and low, which stay below 2 ^ 53 of their steps: neither is rounded, and high + low is rounded once, as the
 -- fused i dx + x is. Assumes nothing.
-use Rattle.std.proofs.Common.{◌≡◌, ℕ, ◌+◌, ◌*◌, ◌^◌, ◌<◌, ◌≤◌, true, false, sym, ap, ◌∙◌, subst, le_trans, mul-le-mul_right, mul_assoc, mul-le-mul_left, arith, lit≤, pow_pos}
+use Rattle.std.proofs.Common.{◌≡◌, ℕ, ◌+◌, ◌*◌, ◌^◌, ◌<◌, ◌≤◌, false, sym, ap, ◌∙◌, subst, le_trans, mul-le-mul_right, mul_assoc, mul-le-mul_left, arith, lit≤, pow_pos}
 use mathlib.Core.Bool.{false≢true}
 use lib.Ieee.{Float, binary64, add, sum}
 use Rattle.exact.specs.Value.{Units, sign_of}

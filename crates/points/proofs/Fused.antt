@@ -1,5 +1,5 @@
 -- A point of a finite start and a finite step: the exact sum in units, rounded once; so it is finite where both are not too large. Assumes nothing.
-use Rattle.std.proofs.Common.{◌≡◌, ℕ, ◌*◌, ◌^◌, ◌≤◌, Bool, false, T, sym, ◌∙◌, subst, le_trans, add-le-add, mul_assoc, mul_comm, mul-le-mul, mul-pos, mul-one, mul_left_comm, arith, lit≤, pow_pos}
+use Rattle.std.proofs.Common.{◌≡◌, ℕ, ◌*◌, ◌^◌, ◌≤◌, Bool, false, T, sym, ◌∙◌, subst, le_trans, add-le-add, mul_assoc, mul_comm, mul-le-mul, mul-pos, mul-one, arith, lit≤, pow_pos}
 use lib.Ieee.{Float, binary64, of_int, unlike, sum}
 use lib.Ieee.Exact.{HasValue}
 use lib.Ieee.Back.{round_whole}
@@ -23,7 +23,7 @@ point-sum x dx s t a b i h v w =
     ∙ sum_same binary64 (unlike false t) s (i * W * b) (a * W) (W * W) (i * b) a W (mul-pos (pow_pos 1074) (pow_pos 1074)) (pow_pos 1074) (regroup i b W) (mul_assoc a W W)
   where
     regroup : (i b w : ℕ) → i * w * b * w ≡ i * b * (w * w)
-    regroup i b w = simp (mul_assoc, mul_comm, mul_left_comm)
+    regroup i b w = simp (mul_assoc, mul_comm)
 
 -- where both are at most 2 ^ 100 in size it is finite
 pub point-finite : (x dx : Float) (s t : Bool) (a b i : ℕ) → i ≤ 65536 → a ≤ 2 ^ 1174 → b ≤ 2 ^ 1174 → Units x s a → Units dx t b → T (finite (point_at x dx i))

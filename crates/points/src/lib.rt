@@ -21,20 +21,18 @@ pub fn lay(part: &mut [f64], x: f64, dx: f64)
     ensures { part.new ≡ points (length part.old) 0 x dx }
 {
     let from = start(x);
-    if !on_grid(part.len(), from, dx) {
+    if on_grid(part.len(), from, dx) {
+        lay_sums(part, from, dx);
+        put_first(part, x);
+    } else {
         lay_each(part, x, dx);
-        return;
     }
-    lay_sums(part, from, dx);
-    put_first(part, x);
 }
 
 fn lay_each(part: &mut [f64], x: f64, dx: f64)
     ensures { part.new ≡ points (length part.old) 0 x dx }
 {
-    let mut i: usize = 0;
-    while i < part.len() {
-        part[i] = point(x, dx, i);
-        i += 1;
+    for (i, p) in part.iter_mut().enumerate() {
+        *p = point(x, dx, i);
     }
 }

@@ -18,12 +18,10 @@ pub(crate) fn lay_sums(part: &mut [f64], x: f64, dx: f64)
     let step_low = dx - step_high;
     let mut high = x + 3.0 - 3.0;
     let mut low = x - high;
-    let mut i: usize = 0;
-    while i < part.len() {
-        part[i] = high + low;
-        high = high + step_high;
-        low = low + step_low;
-        i += 1;
+    for p in part.iter_mut() {
+        *p = high + low;
+        high += step_high;
+        low += step_low;
     }
 }
 
@@ -31,7 +29,7 @@ pub(crate) fn lay_sums(part: &mut [f64], x: f64, dx: f64)
 pub(crate) fn put_first(part: &mut [f64], x: f64)
     ensures { part.new ≡ headed (add binary64 x nought) part.old }
 {
-    if part.len() > 0 {
+    if !part.is_empty() {
         part[0] = x + 0.0;
     }
 }
@@ -40,38 +38,18 @@ pub(crate) fn put_first(part: &mut [f64], x: f64)
 pub(crate) fn on_grid(n: usize, x: f64, dx: f64) -> bool
     ensures { result ≡ true → OnGrid n x dx }
 {
-    if n > 65536 {
-        return false;
-    }
-    if !(dx > 9.313225746154785e-10) {
-        return false;
-    }
-    if !(dx < 0.75) {
-        return false;
-    }
-    if !(nearest_u64_to_f64(n as u64) * dx < 2.0) {
-        return false;
-    }
-    is_stepped(x)
+    n <= 65536
+        && dx > 9.313225746154785e-10
+        && dx < 0.75
+        && nearest_u64_to_f64(n as u64) * dx < 2.0
+        && is_stepped(x)
 }
 
 // Whether x is 0, or between 2^-36 and 3/4 in size. What is above 2^-36 has no digit below 2^-88.
 fn is_stepped(x: f64) -> bool
     ensures { result ≡ true → Stepped x }
 {
-    if !(x < 0.75) {
-        return false;
-    }
-    if !(x > -0.75) {
-        return false;
-    }
-    if x > 1.4551915228366852e-11 {
-        return true;
-    }
-    if x < -1.4551915228366852e-11 {
-        return true;
-    }
-    x == 0.0
+    x < 0.75 && x > -0.75 && (x > 1.4551915228366852e-11 || x < -1.4551915228366852e-11 || x == 0.0)
 }
 
 // Where to start the sums. A start below 2^-36 that is not 0 has digits too low for the grid. It is set to the nearest multiple of 2^-86, and where that is
@@ -80,21 +58,16 @@ fn is_stepped(x: f64) -> bool
 pub(crate) fn start(x: f64) -> f64
     ensures { StandsFor x result }
 {
-    if !(x < 1.4551915228366852e-11) {
-        return x;
+    if x < 1.4551915228366852e-11 && x > -1.4551915228366852e-11 && x != 0.0 {
+        let near = x + 8.731149137020111e-11 - 8.731149137020111e-11;
+        if near < x {
+            near + 6.462348535570529e-27
+        } else if near > x {
+            near - 6.462348535570529e-27
+        } else {
+            near
+        }
+    } else {
+        x
     }
-    if !(x > -1.4551915228366852e-11) {
-        return x;
-    }
-    if x == 0.0 {
-        return x;
-    }
-    let near = x + 8.731149137020111e-11 - 8.731149137020111e-11;
-    if near < x {
-        return near + 6.462348535570529e-27;
-    }
-    if near > x {
-        return near - 6.462348535570529e-27;
-    }
-    near
 }

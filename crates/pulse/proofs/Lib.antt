@@ -1,6 +1,4 @@
 -- What is proved of no one function.
-pub mod Envelopes
-pub mod Filled
 pub mod Order
 pub mod Place
 pub mod Placed

@@ -1,39 +1,18 @@
 -- Rows of bins: the head and the numbers behind it, and when two rows are the same. Assumes nothing.
-use Prim.Native.Nat.{◌≤◌, ◌<◌}
+use Prim.Native.Nat.{◌<◌}
 use mathlib.Core.Path.{◌≡◌, refl, sym, ap, ◌∙◌}
-use mathlib.Core.Bool.{true, false, not, ◌&&◌, ◌||◌, and-true}
+use mathlib.Core.Bool.{false, not, ◌&&◌, ◌||◌, and-true}
 use mathlib.Core.List.{List, [], ◌∷◌, ◌++◌, append-nil}
 use native.Mathlib.Omega.{arith}
 use lib.Ieee.{Float, eq, nan, of_bits}
 use lib.ListN.{length, get_or, take, drop, get_or-append}
-use lib.Seq.{take_at, drop_at, take_all}
+use lib.Seq.{take_at, drop_at}
 use Rattle.exact.specs.Doubles.{two}
 use Rattle.spline.specs.Same.{same_numbers}
 use Rattle.pulse.specs.declared.bin.Bin.{Bin}
 use Rattle.pulse.specs.declared.envelope.Shape.{Shape}
 use Rattle.pulse.specs.declared.envelope.Shape.TheVariants.{Plain, Hann, Spline}
 use Rattle.pulse.specs.Bin.{code_of, shape_of, row_of, bin_of, same_row, place_of}
-
-abbrev pub five_of : List Float → List Float
-five_of l = get_or l 0 nan ∷ get_or l 1 nan ∷ get_or l 2 nan ∷ get_or l 3 nan ∷ get_or l 4 nan ∷ []
-
-pub first-five : (l : List Float) → 5 ≤ length l → take 5 l ≡ five_of l
-first-five [] h = absurd (omega arith)
-first-five (a ∷ []) h = absurd (omega arith)
-first-five (a ∷ b ∷ []) h = absurd (omega arith)
-first-five (a ∷ b ∷ c ∷ []) h = absurd (omega arith)
-first-five (a ∷ b ∷ c ∷ d ∷ []) h = absurd (omega arith)
-first-five (a ∷ b ∷ c ∷ d ∷ e ∷ l) h = refl
-
-pub whole : (head : List Float) → length head ≡ 5 → head ≡ five_of head
-whole head g = let le : 5 ≤ length head = omega arith in let k : length head ≤ 5 = omega arith in sym (take_all 5 head k) ∙ first-five head le
-
--- a row and a head of five numbers
-module _ (row head : List Float) (h : 5 ≤ length row) (g : length head ≡ 5) where
-  pub five : same_numbers (take 5 row) head
-      ≡ (eq (get_or row 0 nan) (get_or head 0 nan) && (eq (get_or row 1 nan) (get_or head 1 nan) && (eq (get_or row 2 nan) (get_or head 2 nan) && (eq (get_or row 3 nan) (get_or head 3 nan) && eq (get_or row 4 nan) (get_or head 4 nan)))))
-  unfolding same_numbers
-  five = ap (λ (l : List Float). same_numbers l head) (first-five row h) ∙ ap (same_numbers (five_of row)) (whole head g) ∙ rw (and-true (eq (get_or row 4 nan) (get_or head 4 nan)))
 
 -- a row and one of a head and numbers behind it
 module _ (row head numbers : List Float) (g : length head ≡ 5) where
@@ -42,10 +21,7 @@ module _ (row head numbers : List Float) (g : length head ≡ 5) where
   unfolding same_row
   by_parts = let k : 0 < length head = omega arith in rw (take_at head numbers 5 g, drop_at head numbers 5 g, get_or-append head numbers nan 0 k)
 
-  -- of a spline and of another shape
-  pub of-spline : eq (get_or head 0 nan) two ≡ true → same_row row (head ++ numbers) ≡ (same_numbers (take 5 row) head && same_numbers (drop 5 row) numbers)
-  of-spline e = by_parts ∙ rw e
-
+  -- of another shape
   pub of_plain : eq (get_or head 0 nan) two ≡ false → same_row row (head ++ numbers) ≡ same_numbers (take 5 row) head
   of_plain e = by_parts ∙ rw (e, and-true (same_numbers (take 5 row) head))
 

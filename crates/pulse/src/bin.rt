@@ -1,14 +1,9 @@
 // A bin: pulses that differ only in time and amplitude. The Rust's `ListBin`. Bins lie in lent rows of 77 numbers: a head of five, and the 72 numbers of a
 // spline.
-ghost use Rattle.std.specs.Prelude.{◌≡◌, ◌++◌, true, false, ◌&&◌, get_or, take, drop};
-ghost use Rattle.std.specs.Float.Ieee.{eq};
-ghost use Rattle.std.specs.Float.{nan};
-ghost use Rattle.exact.specs.Doubles.{two};
-ghost use Rattle.spline.specs.Same.{same_numbers};
-ghost use Rattle.pulse.specs.Bin.{code_of, shape_of, head_of, bin_of, kind_of, place_of};
+ghost use Rattle.std.specs.Prelude.{◌≡◌, ◌++◌, take};
+ghost use Rattle.pulse.specs.Bin.{code_of, shape_of, head_of, bin_of, kind_of, same_row, place_of};
 
 use super::envelope::{Envelope, Shape};
-use quant::judge::both;
 use quant::quantity::{Frequency, Time};
 use spline::same::same;
 
@@ -23,9 +18,12 @@ pub struct Bin {
 pub fn head_of(b: Bin) -> [f64; 5]
     ensures { result ≡ head_of b }
 {
-    let e = b.envelope;
-    let shape = e.shape;
-    [code(shape), e.width.0, e.plateau.0, b.global.0, b.local.0]
+    let Envelope {
+        shape,
+        width,
+        plateau,
+    } = b.envelope;
+    [code(shape), width.0, plateau.0, b.global.0, b.local.0]
 }
 
 // A bin's row: its head, and the numbers behind it.
@@ -33,37 +31,31 @@ pub fn row_of(head: [f64; 5], numbers: [f64; 72]) -> [f64; 77]
     ensures { result ≡ head ++ numbers }
 {
     let mut row = [0.0f64; 77];
-    row[0] = head[0];
-    row[1] = head[1];
-    row[2] = head[2];
-    row[3] = head[3];
-    row[4] = head[4];
-    let mut i: usize = 0;
-    while i < 72 {
-        row[5 + i] = numbers[i];
-        i += 1;
-    }
+    row[..5].copy_from_slice(&head);
+    row[5..].copy_from_slice(&numbers);
     row
 }
 
 pub fn head_in(row: [f64; 77]) -> [f64; 5]
     ensures { result ≡ take 5 row }
 {
-    [row[0], row[1], row[2], row[3], row[4]]
+    let [shape, width, plateau, global, local, ..] = row;
+    [shape, width, plateau, global, local]
 }
 
 // The bin that a row stands for. A row may hold any numbers.
 pub fn bin_of(row: [f64; 77]) -> Bin
     ensures { result ≡ bin_of row }
 {
+    let [shape, width, plateau, global, local, ..] = row;
     Bin {
         envelope: Envelope {
-            shape: shape_of(row[0]),
-            width: Time(row[1]),
-            plateau: Time(row[2]),
+            shape: shape_of(shape),
+            width: Time(width),
+            plateau: Time(plateau),
         },
-        global: Frequency(row[3]),
-        local: Frequency(row[4]),
+        global: Frequency(global),
+        local: Frequency(local),
     }
 }
 
@@ -72,68 +64,26 @@ pub fn kind_of(numbers: [f64; 72]) -> Shape
     ensures { result ≡ kind_of numbers }
 {
     if numbers[1] == 0.0 {
-        return Shape::Hann;
+        Shape::Hann
+    } else {
+        Shape::Spline
     }
-    Shape::Spline
 }
 
-// Where the first row stands that is the same as one, or how many rows there are. The numbers behind the head are read only of a spline.
+// Where the first row stands that is the same as one, or how many rows there are.
 pub fn place(head: [f64; 5], numbers: &[f64], rows: &[[f64; 77]]) -> usize
     ensures { result ≡ place_of (head ++ numbers.now) rows.now }
 {
-    if head[0] == 2.0 {
-        return place_spline(head, numbers, rows);
-    }
-    place_plain(head, rows)
+    rows.iter()
+        .position(|row| same_row(row, &head, numbers))
+        .unwrap_or(rows.len())
 }
 
-fn place_spline(head: [f64; 5], numbers: &[f64], rows: &[[f64; 77]]) -> usize
-    requires { eq (get_or head 0 nan) two ≡ true }
-    ensures { result ≡ place_of (head ++ numbers.now) rows.now }
+// The numbers behind the head are read only of a spline.
+fn same_row(row: &[f64; 77], head: &[f64; 5], numbers: &[f64]) -> bool
+    ensures { result ≡ same_row row.now (head.now ++ numbers.now) }
 {
-    let mut i: usize = 0;
-    while i < rows.len() {
-        if same_row(rows[i], head, numbers) {
-            return i;
-        }
-        i += 1;
-    }
-    i
-}
-
-fn place_plain(head: [f64; 5], rows: &[[f64; 77]]) -> usize
-    requires { eq (get_or head 0 nan) two ≡ false }
-    ensures { result ≡ place_of head rows.now }
-{
-    let mut i: usize = 0;
-    while i < rows.len() {
-        if same_head(rows[i], head) {
-            return i;
-        }
-        i += 1;
-    }
-    i
-}
-
-fn same_row(row: [f64; 77], head: [f64; 5], numbers: &[f64]) -> bool
-    ensures { result ≡ (same_numbers (take 5 row) head && same_numbers (drop 5 row) numbers.now) }
-{
-    both(same_head(row, head), same(&row[5..77], numbers))
-}
-
-fn same_head(row: [f64; 77], head: [f64; 5]) -> bool
-    ensures { result ≡ same_numbers (take 5 row) head }
-{
-    both(
-        row[0] == head[0],
-        both(
-            row[1] == head[1],
-            both(
-                row[2] == head[2],
-                both(row[3] == head[3], row[4] == head[4]),
-            ),
-        ),
-    )
+    same(&row[..5], head) && (head[0] != 2.0 || same(&row[5..], numbers))
 }
 
 fn code(shape: Shape) -> f64
@@ -150,10 +100,10 @@ fn shape_of(code: f64) -> Shape
     ensures { result ≡ shape_of code }
 {
     if code == 1.0 {
-        return Shape::Hann;
+        Shape::Hann
+    } else if code == 2.0 {
+        Shape::Spline
+    } else {
+        Shape::Plain
     }
-    if code == 2.0 {
-        return Shape::Spline;
-    }
-    Shape::Plain
 }

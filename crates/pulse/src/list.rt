@@ -6,7 +6,7 @@ use quant::complex::Complex;
 use quant::quantity::Time;
 
 // `bin` is the place of its bin in the channel.
-#[derive(Clone, Copy)]
+#[derive(Clone, Copy, Default)]
 pub struct Pulse {
     pub bin: usize,
     pub time: Time,
@@ -20,14 +20,9 @@ pub fn store(pulses: &mut [Pulse], from: usize, count: usize, p: Pulse)
 {
     if has_room(pulses.len(), from, count) {
         let mut i = from + count;
-        while from < i {
-            let j = i - 1;
-            let q = pulses[j];
-            if stays_before(q, p) {
-                break;
-            }
-            pulses[i] = q;
-            i = j;
+        while from < i && !stays_before(pulses[i - 1], p) {
+            pulses[i] = pulses[i - 1];
+            i -= 1;
         }
         pulses[i] = p;
     }
@@ -36,21 +31,12 @@ pub fn store(pulses: &mut [Pulse], from: usize, count: usize, p: Pulse)
 fn has_room(len: usize, from: usize, count: usize) -> bool
     ensures { result ≡ ltb (from + count) len }
 {
-    if len <= count {
-        return false;
-    }
-    from < len - count
+    count < len && from < len - count
 }
 
 // Whether q, pushed earlier, stays before p.
 fn stays_before(q: Pulse, p: Pulse) -> bool
     ensures { result ≡ stays_before q p }
 {
-    if q.bin < p.bin {
-        return true;
-    }
-    if q.bin != p.bin {
-        return false;
-    }
-    q.time.0 <= p.time.0
+    q.bin < p.bin || (q.bin == p.bin && q.time.0 <= p.time.0)
 }

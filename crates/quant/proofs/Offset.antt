@@ -1,5 +1,9 @@
 -- The offset is exact and lies in [0, 1). An aligned index is a whole number of steps of 2^-20 samples, since no level is below -20; so is its ceiling, and a difference below
 -- 2 ^ 20 steps has few digits. Assumes nothing.
+use Rattle.quant.specs.declared.aligned.Misplaced.TheVariants.{Before}
+use Rattle.std.specs.Prelude.{Some, None, Result, Ok, Err}
+use Rattle.quant.specs.declared.aligned.Misplaced.{Misplaced}
+use Rattle.quant.specs.declared.aligned.Start.{Start}
 use mathlib.Core.Path.{◌≡◌, refl, sym, ap, ◌∙◌, subst}
 use mathlib.Core.Logic.{◌⊎◌, inl, inr}
 use mathlib.Core.Bool.{Bool, true, false, not, cond, true≢false}
@@ -29,9 +33,7 @@ use Rattle.ieee.proofs.Powers.{level-value}
 use Rattle.ieee.specs.Cut.{cut_of}
 use Rattle.ieee.specs.declared.cut.Cut.{Cut}
 use Rattle.ieee.specs.declared.cut.Cut.TheVariants as cut
-use Rattle.quant.specs.declared.aligned.Aligned.TheVariants.{Index, NotFinite}
-use Rattle.quant.specs.declared.aligned.Placed.TheVariants.{Start, Before}
-use Rattle.quant.specs.Aligned.{scaled_rate, steps_at, aligned_at, aligned_of, cut_to, start_of, placed_of, Offset}
+use Rattle.quant.specs.Aligned.{scaled_rate, steps_at, aligned_at, aligned_of, cut_to, start_of, placed_of, Offset, starts_at}
 
 zero-value : HasValue (of_bits binary64 0) false 0 1
 unfolding of_bits
@@ -228,8 +230,12 @@ offset-exact time rate level lo hi t u h =
     by_sign a k.s k.w (mul-fits binary64 (ceiling x) (exp2_of level)) k.value (not_negative a k.s k.w (2 ^ 20) (pow_pos 20) k.value h)
 
 -- ---- the same, said of what `place` answers
-cut-start : (a x : Float) (c : Cut) (k : ℕ) → cut_to a c ≡ Start k x → x ≡ sub binary64 (ceiling a) a
-cut-start a x (cut.Index w) k e = cc
+abbrev offset_in : Result Start Misplaced → Float
+offset_in (Ok p) = p.offset
+offset_in (Err e) = of_bits binary64 0
+
+cut-start : (a x : Float) (c : Cut) (k : ℕ) → cut_to a c ≡ starts_at k x → x ≡ sub binary64 (ceiling a) a
+cut-start a x (cut.Index w) k e = sym (ap offset_in e)
 cut-start a x cut.Below k e = let z : ◌≡◌ {A = ℕ} 0 1 = cc in absurd (omega arith)
 cut-start a x cut.Above k e = let z : ◌≡◌ {A = ℕ} 0 1 = cc in absurd (omega arith)
 cut-start a x cut.NotANumber k e = let z : ◌≡◌ {A = ℕ} 0 1 = cc in absurd (omega arith)
@@ -241,7 +247,7 @@ record Started (p q : Bool) (a x : Float) : Type 0 where
   not-below : lt a (of_bits binary64 0) ≡ false
   offset-is : x ≡ sub binary64 (ceiling a) a
 
-started : (b p q r : Bool) (a x : Float) (k : ℕ) → r ≡ lt a (of_bits binary64 0) → placed_of (cond b (cond p (cond q (Index a) NotFinite) NotFinite) NotFinite) ≡ Start k x → cond r Before (cut_to a (cut_of a)) ≡ start_of a → Started p q a x
+started : (b p q r : Bool) (a x : Float) (k : ℕ) → r ≡ lt a (of_bits binary64 0) → placed_of (cond b (cond p (cond q (Some a) None) None) None) ≡ starts_at k x → cond r (Err Before) (cut_to a (cut_of a)) ≡ start_of a → Started p q a x
 started false p q r a x k f e g = let z : ◌≡◌ {A = ℕ} 0 1 = cc in absurd (omega arith)
 started true false q r a x k f e g = let z : ◌≡◌ {A = ℕ} 0 1 = cc in absurd (omega arith)
 started true true false r a x k f e g = let z : ◌≡◌ {A = ℕ} 0 1 = cc in absurd (omega arith)
@@ -249,7 +255,7 @@ started true true true true a x k f e g = let z : ◌≡◌ {A = ℕ} 0 1 = cc i
 started true true true false a x k f e g = record { steps-finite = tt; index-finite = tt; not-below = sym f; offset-is = cut-start a x (cut_of a) k (g ∙ e) }
 
 -- Wherever `place` answers a start and an offset, at a level from -20 to 20, the offset is exact and lies in [0, 1).
-pub place-exact : (time rate : Float) (level : ℤ) (k : ℕ) (x : Float) → negsuc 19 ≤ℤ level → level ≤ℤ pos 20 → placed_of (aligned_of time rate level) ≡ Start k x → Offset (aligned_at time rate level) x
+pub place-exact : (time rate : Float) (level : ℤ) (k : ℕ) (x : Float) → negsuc 19 ≤ℤ level → level ≤ℤ pos 20 → placed_of (aligned_of time rate level) ≡ starts_at k x → Offset (aligned_at time rate level) x
 place-exact time rate level k x lo hi e =
     let a = aligned_at time rate level in
     let r = lt a (of_bits binary64 0) in

@@ -1,5 +1,9 @@
 -- Document 01, "Placing and sampling": i = ceil((time+delay)*(rate*2^-level)); aligned = i*2^level. The start is aligned cut off; offset = ceil(aligned) - aligned. Definitions only.
-use Rattle.std.specs.Prelude.{◌≡◌, Bool, false, cond, ℕ, ◌+◌, ◌*◌, ◌^◌, ◌<◌, ℤ, neg_ℤ, Float}
+use Rattle.quant.specs.Refusal.{Answer, refuse}
+use Rattle.quant.specs.declared.aligned.Misplaced.{Misplaced}
+use Rattle.quant.specs.declared.aligned.Start.{Start}
+use Rattle.std.specs.Prelude.{◌≡◌, Bool, false, cond, ℕ, ◌+◌, ◌*◌, ◌^◌, ◌<◌, ℤ, neg_ℤ, Float, Option, Some, None, Result, Err, Ok}
+use Rattle.quant.specs.declared.aligned.Misplaced.TheVariants as placed
 use Rattle.std.specs.Float.{binary64}
 use Rattle.std.specs.Float.Ieee.{mul, sub, lt}
 use Rattle.std.specs.Float.Ieee.Exact.{HasValue}
@@ -10,12 +14,6 @@ use Rattle.ieee.specs.Cut.{cut_of}
 use Rattle.ieee.specs.Exp2.{exp2_of}
 use Rattle.ieee.specs.declared.cut.Cut.{Cut}
 use Rattle.ieee.specs.declared.cut.Cut.TheVariants as cut
-use Rattle.quant.specs.declared.aligned.Aligned.{Aligned}
-use Rattle.quant.specs.declared.aligned.Aligned.TheVariants as aligned
-use Rattle.quant.specs.declared.aligned.Placed.{Placed}
-use Rattle.quant.specs.declared.aligned.Placed.TheVariants as placed
-use Rattle.quant.specs.declared.refusal.Answer.{Answer}
-use Rattle.quant.specs.declared.refusal.Answer.TheVariants.{Done, Refused}
 use Rattle.quant.specs.declared.refusal.Refusal.TheVariants as refusal
 
 -- rate*2^-level; time times that; its ceiling i, times 2^level. Each operation rounds once.
@@ -29,38 +27,42 @@ abbrev pub aligned_at : Float → Float → ℤ → Float
 aligned_at time rate level = mul binary64 (ceiling (steps_at time rate level)) (exp2_of level)
 
 -- each number worked out is judged, and one that is not finite is the answer
-abbrev pub judged : Float → Aligned → Aligned
-judged x a = cond (finite x) a aligned.NotFinite
+abbrev pub judged : Float → Option Float → Option Float
+judged x a = cond (finite x) a None
 
-abbrev pub aligned_of : Float → Float → ℤ → Aligned
+abbrev pub aligned_of : Float → Float → ℤ → Option Float
 aligned_of time rate level =
     judged (scaled_rate rate level)
-    (judged (steps_at time rate level) (judged (aligned_at time rate level) (aligned.Index (aligned_at time rate level))))
+    (judged (steps_at time rate level) (judged (aligned_at time rate level) (Some (aligned_at time rate level))))
+
+-- a start and an offset
+abbrev pub starts_at : ℕ → Float → Result Start Misplaced
+starts_at w x = Ok (record { index = w; offset = x })
 
 -- the start where the aligned index a is cut off to w; -0.25 is below 0, and -0 is not
-abbrev pub cut_to : Float → Cut → Placed
-cut_to a (cut.Index w) = placed.Start w (sub binary64 (ceiling a) a)
-cut_to a cut.Below = placed.Before
-cut_to a cut.Above = placed.Beyond
-cut_to a cut.NotANumber = placed.NotFinite
+abbrev pub cut_to : Float → Cut → Result Start Misplaced
+cut_to a (cut.Index w) = starts_at w (sub binary64 (ceiling a) a)
+cut_to a cut.Below = Err placed.Before
+cut_to a cut.Above = Err placed.Beyond
+cut_to a cut.NotANumber = Err placed.NotFinite
 
-abbrev pub start_of : Float → Placed
-start_of a = cond (lt a nought) placed.Before (cut_to a (cut_of a))
+abbrev pub start_of : Float → Result Start Misplaced
+start_of a = cond (lt a nought) (Err placed.Before) (cut_to a (cut_of a))
 
-abbrev pub placed_of : Aligned → Placed
-placed_of (aligned.Index a) = start_of a
-placed_of aligned.NotFinite = placed.NotFinite
+abbrev pub placed_of : Option Float → Result Start Misplaced
+placed_of (Some a) = start_of a
+placed_of None = Err placed.NotFinite
 
 -- ---- what the cases answer
-abbrev pub aligned_answer : Aligned → Answer
-aligned_answer (aligned.Index a) = Done 0
-aligned_answer aligned.NotFinite = Refused refusal.NotFinite 0
+abbrev pub aligned_answer : Option Float → Answer
+aligned_answer (Some a) = Ok 0
+aligned_answer None = refuse refusal.NotFinite 0
 
-abbrev pub placed_answer : Placed → Answer
-placed_answer (placed.Start start offset) = Done 0
-placed_answer placed.NotFinite = Refused refusal.NotFinite 0
-placed_answer placed.Before = Refused refusal.BeforeRow 0
-placed_answer placed.Beyond = Refused refusal.StartPastRow 0
+abbrev pub placed_answer : Result Start Misplaced → Answer
+placed_answer (Ok p) = Ok 0
+placed_answer (Err placed.NotFinite) = refuse refusal.NotFinite 0
+placed_answer (Err placed.Before) = refuse refusal.BeforeRow 0
+placed_answer (Err placed.Beyond) = refuse refusal.StartPastRow 0
 
 -- ---- what is proved of the offset (proofs/Offset.antt)
 

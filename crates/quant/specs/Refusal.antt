@@ -1,7 +1,6 @@
 -- Document 01, "What each number means": the number of each refusal, and number, place and count of each answer. Definitions only.
-use Rattle.std.specs.Prelude.{ℕ}
-use Rattle.quant.specs.declared.refusal.Answer.{Answer}
-use Rattle.quant.specs.declared.refusal.Answer.TheVariants.{Done, Refused}
+use Rattle.std.specs.Prelude.{ℕ, ◌≡◌, Result, Ok, Err}
+use Rattle.quant.specs.declared.refusal.Refused.{Refused}
 use Rattle.quant.specs.declared.refusal.Refusal.{Refusal}
 use Rattle.quant.specs.declared.refusal.Refusal.TheVariants.{Unfit, Malformed, Full, Oversize, UnknownShape, NegativePlateau, UnknownChannel, NotFinite, BeforeRow, StartPastRow, ShapeTooShort, EndPastRow, WrongSize, Layout, WrongSpline, DoubledName, NoList, NoColumn, WrongA0}
 
@@ -27,6 +26,13 @@ number_of NoList = 18
 number_of NoColumn = 19
 number_of WrongA0 = 22
 
+-- what a call answers: a count, or a refusal and its place
+abbrev pub Answer : Type 0
+Answer = Result ℕ Refused
+
+abbrev pub refuse : Refusal → ℕ → Answer
+refuse r k = Err (record { why = r; place = k })
+
 -- "A refusal returns its number and a place"; "Acceptance returns the count": its number is 0. What an answer does not return is 0.
 pub record Reply : Type 0 where
   pub number : ℕ
@@ -34,8 +40,8 @@ pub record Reply : Type 0 where
   pub count : ℕ
 
 abbrev pub reply_of : Answer → Reply
-reply_of (Done count) = record { number = 0; place = 0; count = count }
-reply_of (Refused r place) = record { number = number_of r; place = place; count = 0 }
+reply_of (Ok count) = record { number = 0; place = 0; count = count }
+reply_of (Err e) = record { number = number_of e.why; place = e.place; count = 0 }
 
 -- the number alone
 abbrev pub code_of : Answer → ℕ

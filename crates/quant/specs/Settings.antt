@@ -1,5 +1,7 @@
 -- Document 01, refusal 1: "sample rate, 1/rate, delay, tolerance or align level unfit: not finite, rate not above 0, tolerance below 0, level outside its range". Definitions only.
-use Rattle.std.specs.Prelude.{Bool, true, false, ◌&&◌, ℤ, pos, negsuc, Float}
+use Rattle.quant.specs.Refusal.{Answer, refuse}
+use Rattle.std.specs.Prelude.{Bool, true, false, ◌&&◌, ℤ, pos, negsuc, Float, Option, Some, None, Ok}
+use Rattle.quant.specs.declared.settings.Settings.{Settings}
 use Rattle.std.specs.Int.Signed.{le_z}
 use Rattle.std.specs.Float.{binary64}
 use Rattle.std.specs.Float.Ieee.{div, lt, le}
@@ -7,11 +9,7 @@ use Rattle.std.specs.Float.Ieee.Scale.{finite}
 use Rattle.exact.specs.Doubles.{nought, one}
 use Rattle.quant.specs.declared.quantity.Frequency.{Frequency}
 use Rattle.quant.specs.declared.quantity.Time.{Time}
-use Rattle.quant.specs.declared.refusal.Answer.{Answer}
-use Rattle.quant.specs.declared.refusal.Answer.TheVariants.{Done, Refused}
 use Rattle.quant.specs.declared.refusal.Refusal.TheVariants as refusal
-use Rattle.quant.specs.declared.settings.Fitting.{Fitting}
-use Rattle.quant.specs.declared.settings.Fitting.TheVariants.{Fit, Unfit}
 
 -- finite and above 0; finite and not below 0, so that -0 is a tolerance; from -20 to 20
 abbrev pub is_rate : Float → Bool
@@ -23,15 +21,15 @@ is_tolerance x = finite x && le nought x
 abbrev pub is_level : ℤ → Bool
 is_level l = le_z (negsuc 19) l && le_z l (pos 20)
 
-abbrev pub fitting : Bool → Frequency → Time → ℤ → Fitting
-fitting true rate delay level = Fit (record { rate = rate; dt = record { 0 = div binary64 one rate.0 }; delay = delay; level = level })
-fitting false rate delay level = Unfit
+abbrev pub fitting : Bool → Frequency → Time → ℤ → Option Settings
+fitting true rate delay level = Some (record { rate = rate; dt = record { 0 = div binary64 one rate.0 }; delay = delay; level = level })
+fitting false rate delay level = None
 
-abbrev pub fitting_of : Frequency → Time → ℤ → Fitting
+abbrev pub fitting_of : Frequency → Time → ℤ → Option Settings
 fitting_of rate delay level =
     fitting (is_rate rate.0 && finite (div binary64 one rate.0) && finite delay.0 && is_level level) rate delay level
 
 -- what the cases answer
-abbrev pub fitting_answer : Fitting → Answer
-fitting_answer (Fit s) = Done 0
-fitting_answer Unfit = Refused refusal.Unfit 0
+abbrev pub fitting_answer : Option Settings → Answer
+fitting_answer (Some s) = Ok 0
+fitting_answer None = refuse refusal.Unfit 0

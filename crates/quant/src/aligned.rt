@@ -9,18 +9,17 @@ use ieee::cut::{Cut, cut_off};
 use ieee::exp2::exp2;
 use ieee::finite::is_finite;
 
-// An index that is a multiple of 2^level, in samples. `aligned_answer` and `placed_answer` say which case is which refusal.
-#[derive(Clone, Copy)]
-pub enum Aligned {
-    Index(f64),
-    // A number worked out on the way.
-    NotFinite,
-}
-
 // The sample that a pulse starts at, and how far that lies behind the aligned index, from 0 up to 1.
 #[derive(Clone, Copy)]
-pub enum Placed {
-    Start(usize, f64),
+pub struct Start {
+    pub index: usize,
+    pub offset: f64,
+}
+
+// Why there is no such sample. `placed_answer` says which refusal.
+#[derive(Clone, Copy, Debug, PartialEq, Eq)]
+pub enum Misplaced {
+    // A number worked out on the way.
     NotFinite,
     // Below 0.
     Before,
@@ -28,46 +27,50 @@ pub enum Placed {
     Beyond,
 }
 
-// The aligned index of a time; the delay is in it already.
-pub fn align(time: Time, rate: Frequency, level: i32) -> Aligned
+// The aligned index of a time, in samples, a multiple of 2^level; none where a number worked out on the way is not finite. The delay is in the time already.
+// `aligned_answer` says which refusal.
+pub fn align(time: Time, rate: Frequency, level: i32) -> Option<f64>
     ensures { result ≡ aligned_of time.0 rate.0 level }
 {
     let scaled = rate.0 * exp2_of_minus(level);
     if !is_finite(scaled) {
-        return Aligned::NotFinite;
+        return None;
     }
     let steps = time.0 * scaled;
     if !is_finite(steps) {
-        return Aligned::NotFinite;
+        return None;
     }
     let a = ceil(steps) * exp2(level);
     if !is_finite(a) {
-        return Aligned::NotFinite;
+        return None;
     }
-    Aligned::Index(a)
+    Some(a)
 }
 
 // Start and offset together, from one aligned index.
-pub fn place(time: Time, rate: Frequency, level: i32) -> Placed
+pub fn place(time: Time, rate: Frequency, level: i32) -> Result<Start, Misplaced>
     ensures { result ≡ placed_of (aligned_of time.0 rate.0 level) }
 {
     match align(time, rate, level) {
-        Aligned::Index(a) => start_of(a),
-        Aligned::NotFinite => Placed::NotFinite,
+        Some(a) => start_of(a),
+        None => Err(Misplaced::NotFinite),
     }
 }
 
-fn start_of(a: f64) -> Placed
+fn start_of(a: f64) -> Result<Start, Misplaced>
     ensures { result ≡ start_of a }
 {
     if a < 0.0 {
-        return Placed::Before;
+        return Err(Misplaced::Before);
     }
     match cut_off(a) {
-        Cut::Index(start) => Placed::Start(start, ceil(a) - a),
-        Cut::Below => Placed::Before,
-        Cut::Above => Placed::Beyond,
-        Cut::NotANumber => Placed::NotFinite,
+        Cut::Index(index) => Ok(Start {
+            index,
+            offset: ceil(a) - a,
+        }),
+        Cut::Below => Err(Misplaced::Before),
+        Cut::Above => Err(Misplaced::Beyond),
+        Cut::NotANumber => Err(Misplaced::NotFinite),
     }
 }
 
@@ -75,8 +78,5 @@ fn start_of(a: f64) -> Placed
 fn exp2_of_minus(level: i32) -> f64
     ensures { result ≡ exp2_of (neg_ℤ level) }
 {
-    if level < -2147483647 {
-        return exp2(2147483647);
-    }
-    exp2(-level)
+    exp2(level.saturating_neg())
 }

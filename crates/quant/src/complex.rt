@@ -2,7 +2,7 @@
 ghost use Rattle.std.specs.Prelude.{◌≡◌};
 ghost use Rattle.quant.specs.Complex.{times_c, plus_c, scaled_c, turned_c};
 
-#[derive(Clone, Copy)]
+#[derive(Clone, Copy, Debug, Default, PartialEq)]
 pub struct Complex {
     pub re: f64,
     pub im: f64,

@@ -6,26 +6,19 @@ use super::complex::Complex;
 use super::quantity::Phase;
 use ieee::finite::is_finite;
 
-// `phased_answer` says which refusal.
-#[derive(Clone, Copy)]
-pub enum Phased {
-    Pair(Complex),
-    // phase*TAU is not finite.
-    NotFinite,
-}
-
-pub fn phaser(phase: Phase) -> Phased
+// None where phase*TAU is not finite. `phased_answer` says which refusal.
+pub fn phaser(phase: Phase) -> Option<Complex>
     ensures { result ≡ phased_of phase.0 }
 {
     let x = radians(phase);
-    if is_finite(x) {
-        let p = trig::both(x);
-        return Phased::Pair(Complex {
-            re: p.cos,
-            im: p.sin,
-        });
+    if !is_finite(x) {
+        return None;
     }
-    Phased::NotFinite
+    let p = trig::both(x);
+    Some(Complex {
+        re: p.cos,
+        im: p.sin,
+    })
 }
 
 // A phase counts turns.

@@ -1,59 +1,118 @@
 // Time, frequency, phase and amplitude, kept apart, with the Rust's operations between them and no others; each rounds once. The Rust's src/quant.rs.
-ghost use Rattle.std.specs.Prelude.{◌≡◌};
+ghost use Rattle.std.specs.Prelude.{◌≡◌, Float};
 ghost use Rattle.std.specs.Float.Ieee as Ieee;
 ghost use Rattle.std.specs.Float.{binary64};
 ghost use Rattle.exact.specs.Doubles.{one};
 
+// A number with a unit. Two quantities of one kind are added and subtracted; a plain number scales them.
+pub trait Quantity: Copy {
+    ghost size: { Self → Float };
+
+    fn of(x: f64) -> Self
+        ensures { size result ≡ x };
+
+    fn number(self) -> f64
+        ensures { result ≡ size self };
+
+    final fn add(self, rhs: Self) -> Self
+        ensures { size result ≡ Ieee.add binary64 (size self) (size rhs) }
+    {
+        Self::of(self.number() + rhs.number())
+    }
+
+    final fn sub(self, rhs: Self) -> Self
+        ensures { size result ≡ Ieee.sub binary64 (size self) (size rhs) }
+    {
+        Self::of(self.number() - rhs.number())
+    }
+
+    final fn neg(self) -> Self
+        ensures { size result ≡ Ieee.neg (size self) }
+    {
+        Self::of(-self.number())
+    }
+
+    final fn mul(self, rhs: f64) -> Self
+        ensures { size result ≡ Ieee.mul binary64 (size self) rhs }
+    {
+        Self::of(self.number() * rhs)
+    }
+
+    final fn div(self, rhs: f64) -> Self
+        ensures { size result ≡ Ieee.div binary64 (size self) rhs }
+    {
+        Self::of(self.number() / rhs)
+    }
+}
+
 // Seconds.
 #[repr(C)]
-#[derive(Clone, Copy)]
+#[derive(Clone, Copy, Debug, Default, PartialEq, PartialOrd)]
 pub struct Time(pub f64);
 
 // Turns a second.
 #[repr(C)]
-#[derive(Clone, Copy)]
+#[derive(Clone, Copy, Debug, Default, PartialEq, PartialOrd)]
 pub struct Frequency(pub f64);
 
 // Turns.
 #[repr(C)]
-#[derive(Clone, Copy)]
+#[derive(Clone, Copy, Debug, Default, PartialEq, PartialOrd)]
 pub struct Phase(pub f64);
 
 #[repr(C)]
-#[derive(Clone, Copy)]
+#[derive(Clone, Copy, Debug, Default, PartialEq, PartialOrd)]
 pub struct Amplitude(pub f64);
 
+impl Quantity for Time {
+    ghost size = { λ t. t.0 };
+
+    fn of(x: f64) -> Time {
+        Time(x)
+    }
+
+    fn number(self) -> f64 {
+        self.0
+    }
+}
+
+impl Quantity for Frequency {
+    ghost size = { λ f. f.0 };
+
+    fn of(x: f64) -> Frequency {
+        Frequency(x)
+    }
+
+    fn number(self) -> f64 {
+        self.0
+    }
+}
+
+impl Quantity for Phase {
+    ghost size = { λ p. p.0 };
+
+    fn of(x: f64) -> Phase {
+        Phase(x)
+    }
+
+    fn number(self) -> f64 {
+        self.0
+    }
+}
+
+impl Quantity for Amplitude {
+    ghost size = { λ a. a.0 };
+
+    fn of(x: f64) -> Amplitude {
+        Amplitude(x)
+    }
+
+    fn number(self) -> f64 {
+        self.0
+    }
+}
+
 impl Time {
-    pub fn add(self, rhs: Time) -> Time
-        ensures { result.0 ≡ Ieee.add binary64 self.0 rhs.0 }
-    {
-        Time(self.0 + rhs.0)
-    }
-
-    pub fn sub(self, rhs: Time) -> Time
-        ensures { result.0 ≡ Ieee.sub binary64 self.0 rhs.0 }
-    {
-        Time(self.0 - rhs.0)
-    }
-
-    pub fn neg(self) -> Time
-        ensures { result.0 ≡ Ieee.neg self.0 }
-    {
-        Time(-self.0)
-    }
-
-    pub fn mul(self, rhs: f64) -> Time
-        ensures { result.0 ≡ Ieee.mul binary64 self.0 rhs }
-    {
-        Time(self.0 * rhs)
-    }
-
-    pub fn div(self, rhs: f64) -> Time
-        ensures { result.0 ≡ Ieee.div binary64 self.0 rhs }
-    {
-        Time(self.0 / rhs)
-    }
-
     pub fn mul_freq(self, rhs: Frequency) -> Phase
         ensures { result.0 ≡ Ieee.mul binary64 self.0 rhs.0 }
     {
@@ -62,36 +121,6 @@ impl Time {
 }
 
 impl Frequency {
-    pub fn add(self, rhs: Frequency) -> Frequency
-        ensures { result.0 ≡ Ieee.add binary64 self.0 rhs.0 }
-    {
-        Frequency(self.0 + rhs.0)
-    }
-
-    pub fn sub(self, rhs: Frequency) -> Frequency
-        ensures { result.0 ≡ Ieee.sub binary64 self.0 rhs.0 }
-    {
-        Frequency(self.0 - rhs.0)
-    }
-
-    pub fn neg(self) -> Frequency
-        ensures { result.0 ≡ Ieee.neg self.0 }
-    {
-        Frequency(-self.0)
-    }
-
-    pub fn mul(self, rhs: f64) -> Frequency
-        ensures { result.0 ≡ Ieee.mul binary64 self.0 rhs }
-    {
-        Frequency(self.0 * rhs)
-    }
-
-    pub fn div(self, rhs: f64) -> Frequency
-        ensures { result.0 ≡ Ieee.div binary64 self.0 rhs }
-    {
-        Frequency(self.0 / rhs)
-    }
-
     pub fn mul_time(self, rhs: Time) -> Phase
         ensures { result.0 ≡ Ieee.mul binary64 self.0 rhs.0 }
     {
@@ -103,69 +132,5 @@ impl Frequency {
         ensures { result.0 ≡ Ieee.div binary64 one self.0 }
     {
         Time(1.0 / self.0)
-    }
-}
-
-impl Phase {
-    pub fn add(self, rhs: Phase) -> Phase
-        ensures { result.0 ≡ Ieee.add binary64 self.0 rhs.0 }
-    {
-        Phase(self.0 + rhs.0)
-    }
-
-    pub fn sub(self, rhs: Phase) -> Phase
-        ensures { result.0 ≡ Ieee.sub binary64 self.0 rhs.0 }
-    {
-        Phase(self.0 - rhs.0)
-    }
-
-    pub fn neg(self) -> Phase
-        ensures { result.0 ≡ Ieee.neg self.0 }
-    {
-        Phase(-self.0)
-    }
-
-    pub fn mul(self, rhs: f64) -> Phase
-        ensures { result.0 ≡ Ieee.mul binary64 self.0 rhs }
-    {
-        Phase(self.0 * rhs)
-    }
-
-    pub fn div(self, rhs: f64) -> Phase
-        ensures { result.0 ≡ Ieee.div binary64 self.0 rhs }
-    {
-        Phase(self.0 / rhs)
-    }
-}
-
-impl Amplitude {
-    pub fn add(self, rhs: Amplitude) -> Amplitude
-        ensures { result.0 ≡ Ieee.add binary64 self.0 rhs.0 }
-    {
-        Amplitude(self.0 + rhs.0)
-    }
-
-    pub fn sub(self, rhs: Amplitude) -> Amplitude
-        ensures { result.0 ≡ Ieee.sub binary64 self.0 rhs.0 }
-    {
-        Amplitude(self.0 - rhs.0)
-    }
-
-    pub fn neg(self) -> Amplitude
-        ensures { result.0 ≡ Ieee.neg self.0 }
-    {
-        Amplitude(-self.0)
-    }
-
-    pub fn mul(self, rhs: f64) -> Amplitude
-        ensures { result.0 ≡ Ieee.mul binary64 self.0 rhs }
-    {
-        Amplitude(self.0 * rhs)
-    }
-
-    pub fn div(self, rhs: f64) -> Amplitude
-        ensures { result.0 ≡ Ieee.div binary64 self.0 rhs }
-    {
-        Amplitude(self.0 / rhs)
     }
 }

@@ -2,10 +2,8 @@
 // exactly; and their sum, less these, nearly always lies where it can only round one way.
 #![tactic(auto)]
 
-ghost use Rattle.std.specs.Prelude.{◌≡◌, true, ◌||◌};
+ghost use Rattle.std.specs.Prelude.{◌≡◌, true};
 ghost use Rattle.std.specs.Float.{binary64};
-ghost use Rattle.std.specs.Float.Ieee.{eq};
-ghost use Rattle.exact.specs.Doubles.{nought};
 ghost use Rattle.fma.specs.Fused.{fma};
 ghost use Rattle.quick_fma.specs.Quick.{roomy_of, upper_of, trial_of};
 
@@ -16,12 +14,11 @@ use roundoff::{Enclosure, enclose, product_off, sum_off};
 pub fn mul_add(a: f64, x: f64, c: f64) -> f64
     ensures { result ≡ fma binary64 a x c }
 {
-    if roomy(a) {
-        if roomy(x) {
-            return by_doubles(a, x, c);
-        }
+    if roomy(a) && roomy(x) {
+        by_doubles(a, x, c)
+    } else {
+        fma::mul_add(a, x, c)
     }
-    fma::mul_add(a, x, c)
 }
 
 // With p the rounded product, s the rounded sum of p and c, e what p is off by and t what s is, s - (t + e) is to be rounded.
@@ -40,7 +37,8 @@ fn by_doubles(a: f64, x: f64, c: f64) -> f64
     let p = a * x;
     let t = sum_off(p, c);
     let e = product_off(a, h, l, x, g, m);
-    if either_none(t, e) {
+    // Where one of the two is 0, their sum is not rounded.
+    if t == 0.0 || e == 0.0 {
         let r = (p + c) - (t + e);
         if is_finite(r) {
             return r;
@@ -49,38 +47,26 @@ fn by_doubles(a: f64, x: f64, c: f64) -> f64
     fma::mul_add(a, x, c)
 }
 
-// Where one of the two is 0, their sum is not rounded.
-fn either_none(t: f64, e: f64) -> bool
-    ensures { result ≡ (eq t nought || eq e nought) }
-{
-    if t == 0.0 {
-        return true;
-    }
-    e == 0.0
-}
-
 // 0, or from 2^-485 on in size: the product of two such has no digit below the smallest double.
 pub fn roomy(x: f64) -> bool
     ensures { result ≡ roomy_of x }
 {
-    if x != x {
+    if x.is_nan() {
         return false;
     }
-    let n = f64::to_bits(x) & 0x7fff_ffff_ffff_ffff;
-    if n == 0 {
-        return true;
-    }
-    n >= 0x21a0_0000_0000_0000
+    let n = x.to_bits() & 0x7fff_ffff_ffff_ffff;
+    n == 0 || n >= 0x21a0_0000_0000_0000
 }
 
 // The upper 26 digits, rounded; a NaN is one.
 pub fn upper(x: f64) -> f64
     ensures { result ≡ upper_of x }
 {
-    if x != x {
-        return x;
+    if x.is_nan() {
+        x
+    } else {
+        f64::from_bits((x.to_bits() + 0x400_0000) & 0xffff_ffff_f800_0000)
     }
-    f64::from_bits((f64::to_bits(x) + 0x400_0000) & 0xffff_ffff_f800_0000)
 }
 
 // For an a and an x that are split once for many products: a is h + l, and x is g + m. Where `off` is 0 and all are as `upper` splits them, `far` is the answer.

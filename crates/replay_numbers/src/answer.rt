@@ -3,17 +3,17 @@ use decimal::print::pattern;
 use executor::osc::{Moved, OscState, Swapped, swap_phase};
 use ieee::ceil::ceil;
 use points::lay;
-use quant::aligned::{Placed, place};
+use quant::aligned::{Misplaced, Start, place};
 use quant::quantity::{Frequency, Phase, Time};
+use quant::refusal::{Refusal, number};
 use quick_fma::mul_add;
 use std::io;
 use words::{float, level, readable, word};
 
 pub(crate) fn answer(rt: &impl Print, line: &[u8]) -> io::Result<()> {
-    if line.len() < 1 {
+    let Some(&letter) = line.first() else {
         return print!(rt; "?");
-    }
-    let letter = line[0];
+    };
     if !readable(line, words_of(letter)) {
         return print!(rt; "?");
     }
@@ -44,16 +44,13 @@ fn words_of(letter: u8) -> u8 {
 
 // Point I of 64 that are laid at once; a NaN where there is none.
 fn laid(line: &[u8]) -> f64 {
-    let mut part: [f64; 64] = [0.0; 64];
+    let mut part = [0.0; 64];
     lay(&mut part, float(line, 0), float(line, 1));
     let i = word(line, 2) as usize;
-    if i < 64 {
-        return part[i];
-    }
-    0.0 / 0.0
+    part.get(i).copied().unwrap_or(f64::NAN)
 }
 
-fn placed(line: &[u8]) -> Placed {
+fn placed(line: &[u8]) -> Result<Start, Misplaced> {
     place(
         Time(float(line, 0)),
         Frequency(float(line, 1)),
@@ -90,21 +87,21 @@ fn osc_at(line: &[u8], a: u8, b: u8, c: u8) -> OscState {
 }
 
 fn print_between(rt: &impl Print, line: &[u8], x: f64) -> io::Result<()> {
-    if float(line, 1) <= x {
-        if x <= float(line, 2) {
-            return print_word(rt, 1);
-        }
-    }
-    print_word(rt, 0)
+    let between = float(line, 1) <= x && x <= float(line, 2);
+    print_word(rt, u64::from(between))
 }
 
-fn print_placed(rt: &impl Print, p: Placed) -> io::Result<()> {
+fn print_placed(rt: &impl Print, p: Result<Start, Misplaced>) -> io::Result<()> {
     match p {
-        Placed::Start(start, offset) => print_place(rt, 0, start as u64, offset),
-        Placed::NotFinite => print_place(rt, 8, 0, 0.0),
-        Placed::Before => print_place(rt, 9, 0, 0.0),
-        Placed::Beyond => print_place(rt, 10, 0, 0.0),
+        Ok(Start { index, offset }) => print_place(rt, 0, index as u64, offset),
+        Err(Misplaced::NotFinite) => print_nowhere(rt, Refusal::NotFinite),
+        Err(Misplaced::Before) => print_nowhere(rt, Refusal::BeforeRow),
+        Err(Misplaced::Beyond) => print_nowhere(rt, Refusal::StartPastRow),
     }
+}
+
+fn print_nowhere(rt: &impl Print, why: Refusal) -> io::Result<()> {
+    print_place(rt, number(why) as u64, 0, 0.0)
 }
 
 fn print_place(rt: &impl Print, code: u64, start: u64, offset: f64) -> io::Result<()> {
@@ -125,10 +122,12 @@ fn print_swapped(rt: &impl Print, m: Swapped) -> io::Result<()> {
 }
 
 fn print_code(rt: &impl Print, refused: bool) -> io::Result<()> {
-    if refused {
-        return print_word(rt, 8);
-    }
-    print_word(rt, 0)
+    let code = if refused {
+        number(Refusal::NotFinite)
+    } else {
+        0
+    };
+    print_word(rt, code as u64)
 }
 
 fn print_osc(rt: &impl Print, o: OscState) -> io::Result<()> {

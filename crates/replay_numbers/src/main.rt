@@ -30,6 +30,7 @@ fn main(rt: HostRuntime) -> io::Result<()> {
 }
 
 fn each(rt: &impl Print, text: &[u8]) -> io::Result<()> {
+    // Kept: bytes have no `split`, and a text parted in two at each line feed is no plainer.
     let mut at: usize = 0;
     while at < text.len() {
         let end = end_of(text, at);

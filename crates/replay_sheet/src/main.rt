@@ -2,9 +2,8 @@
 // with a line `--`. `compare/sheet_damage` makes such a list, and what must be printed.
 #![tactic(auto)]
 
-ghost use Rattle.std.specs.Prelude.{◌≡◌, ◌<◌, min};
+ghost use Rattle.std.specs.Prelude.{◌<◌};
 
-use sheet::print::Printed;
 use std::io;
 
 fn main(rt: HostRuntime) -> io::Result<()> {
@@ -18,9 +17,10 @@ fn main(rt: HostRuntime) -> io::Result<()> {
 
 fn each(rt: &impl Print, list: &[u8]) -> io::Result<()> {
     let mut at: usize = 0;
+    // Kept: each sheet says where the next one starts.
     while at < list.len() {
-        let start = least(at + 2, list.len());
-        let end = least(start + size_at(list, at), list.len());
+        let start = (at + 2).min(list.len());
+        let end = (start + size_at(list, at)).min(list.len());
         show(rt, &list[start..end])?;
         at = end;
     }
@@ -30,8 +30,7 @@ fn each(rt: &impl Print, list: &[u8]) -> io::Result<()> {
 // An answer, and its end.
 fn show(rt: &impl Print, text: &[u8]) -> io::Result<()> {
     let mut out = [0u8; 4096];
-    let answer = sheet_answer::answer(text, &mut out);
-    if let Printed::Bytes(size) = answer {
+    if let Ok(size) = sheet_answer::answer(text, &mut out) {
         rt.write_all(&out[..size])?;
     }
     println!(rt; "--")
@@ -47,17 +46,5 @@ fn size_at(list: &[u8], at: usize) -> usize
     if list.len() - 2 < at {
         return 0;
     }
-    wide(list[at]) * 256 + wide(list[at + 1])
-}
-
-fn wide(b: u8) -> usize
-    ensures { result < 256 }
-{
-    b as usize
-}
-
-fn least(a: usize, b: usize) -> usize
-    ensures { result ≡ min a b }
-{
-    if a < b { a } else { b }
+    u16::from_be_bytes([list[at], list[at + 1]]) as usize
 }

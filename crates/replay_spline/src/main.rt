@@ -10,9 +10,10 @@
 // Printed: the letter and the answer's words. A NaN is printed as 7ff8000000000000, a line that cannot be read as `?`.
 #![tactic(auto)]
 
-ghost use Rattle.std.specs.Prelude.{◌≤◌, length};
+ghost use Rattle.std.specs.Prelude.{◌≡◌, ◌≤◌, ℕ, Some};
 
 use decimal::print::pattern;
+use quant::refusal::{Refusal, number};
 use spline::check::check;
 use spline::over::over;
 use spline::row::row_of;
@@ -31,6 +32,7 @@ fn main(rt: HostRuntime) -> io::Result<()> {
 
 fn each(rt: &impl Print, text: &[u8]) -> io::Result<()> {
     let mut kept = [0.0; 72];
+    // Kept: bytes have no `split`, and a text parted in two at each line feed is no plainer.
     let mut at: usize = 0;
     while at < text.len() {
         let end = end_of(text, at);
@@ -44,13 +46,13 @@ fn each(rt: &impl Print, text: &[u8]) -> io::Result<()> {
 // Kept is the row of the last spline, or of none.
 fn answer(rt: &impl Print, line: &[u8], kept: &mut [f64; 72]) -> io::Result<()> {
     let many = words_in(line);
-    if line.len() < 1 {
+    let Some(letter) = line.first() else {
         return print_none(rt);
-    }
+    };
     if !readable(line, many) {
         return print_none(rt);
     }
-    match line[0] {
+    match *letter {
         b's' => tell(rt, line, many, kept),
         b'x' => print_point(rt, line, many, kept),
         b'w' => print_walk(rt, line, many, kept),
@@ -64,48 +66,34 @@ fn print_none(rt: &impl Print) -> io::Result<()> {
 
 // How many words a line has if it can be read.
 fn words_in(line: &[u8]) -> u8 {
-    let n = line.len() / 17;
-    if n < 128 {
-        return n as u8;
-    }
-    128
+    (line.len() / 17).min(128) as u8
 }
 
 fn tell(rt: &impl Print, line: &[u8], many: u8, kept: &mut [f64; 72]) -> io::Result<()> {
-    let left = numbers_in(line, many);
-    if left == 128 {
+    let Some(left) = numbers_in(line, many) else {
         return print_none(rt);
-    }
-    let mut given = [0.0f64; 128];
-    take(line, 3, &mut given);
+    };
+    let given = numbers_from(line, 3);
     keep(
         rt,
         word(line, 0) as usize,
         word(line, 1) as usize,
-        &given[..left],
+        &given[..left as usize],
         kept,
     )
 }
 
-// How many controls and knots stand on a line; 128 where these are not as many as it says.
-fn numbers_in(line: &[u8], many: u8) -> usize
-    ensures { result ≤ 128 }
+// How many controls and knots stand on a line; none where these are not as many as it says.
+fn numbers_in(line: &[u8], many: u8) -> Option<u8>
+    ensures { (n : ℕ) → result ≡ Some n → n ≤ 128 }
 {
-    if many < 3 {
-        return 128;
+    let left = many.checked_sub(3)?;
+    let knots = u64::from(left).checked_sub(word(line, 1))?;
+    if left <= 128 && knots == word(line, 2) {
+        Some(left)
+    } else {
+        None
     }
-    let left = (many - 3) as u64;
-    let controls = word(line, 1);
-    if left < controls {
-        return 128;
-    }
-    if left - controls != word(line, 2) {
-        return 128;
-    }
-    if 128 < left {
-        return 128;
-    }
-    left as usize
 }
 
 fn keep(
@@ -123,18 +111,14 @@ fn keep(
             return print_word(rt, 0);
         }
     }
-    print_word(rt, 16)
+    print_word(rt, number(Refusal::WrongSpline) as u64)
 }
 
-// The words from word k on, as many as there is room for.
-fn take(line: &[u8], k: u8, out: &mut [f64])
-    requires { (k ≤ 3) × (length out.old ≤ 128) }
+// The words from word k on; 0 from where the line ends.
+fn numbers_from(line: &[u8], k: u8) -> [f64; 128]
+    requires { k ≤ 3 }
 {
-    let mut i: usize = 0;
-    while i < out.len() {
-        out[i] = float(line, k + i as u8);
-        i += 1;
-    }
+    std::array::from_fn(|i| float(line, k + i as u8))
 }
 
 fn print_point(rt: &impl Print, line: &[u8], many: u8, row: &[f64]) -> io::Result<()> {
@@ -147,7 +131,7 @@ fn print_point(rt: &impl Print, line: &[u8], many: u8, row: &[f64]) -> io::Resul
         print_word(rt, 0)?;
         return print_word(rt, pattern(value(row, x)));
     }
-    print_word(rt, 8)?;
+    print_word(rt, number(Refusal::NotFinite) as u64)?;
     print_word(rt, 0)
 }
 
@@ -155,10 +139,8 @@ fn print_walk(rt: &impl Print, line: &[u8], many: u8, row: &[f64]) -> io::Result
     if 64 < many {
         return print_none(rt);
     }
-    let n = many as usize;
-    let mut part = [0.0f64; 64];
-    take(line, 0, &mut part);
-    walk(rt, &mut part[..n], row)
+    let mut part = numbers_from(line, 0);
+    walk(rt, &mut part[..many as usize], row)
 }
 
 fn walk(rt: &impl Print, part: &mut [f64], row: &[f64]) -> io::Result<()> {
@@ -168,10 +150,8 @@ fn walk(rt: &impl Print, part: &mut [f64], row: &[f64]) -> io::Result<()> {
 }
 
 fn print_all(rt: &impl Print, part: &[f64]) -> io::Result<()> {
-    let mut i: usize = 0;
-    while i < part.len() {
-        print_word(rt, pattern(part[i]))?;
-        i += 1;
+    for x in part {
+        print_word(rt, pattern(*x))?;
     }
     Ok(())
 }

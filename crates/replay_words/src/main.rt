@@ -2,7 +2,7 @@
 // beside it are words, and what Python's `float` and `float.fromhex` answer. `tools/words` prints the words anew, `tools/words answers` the answers.
 #![tactic(auto)]
 
-use decimal::number::{Number, read};
+use decimal::number::read;
 use decimal::print::pattern;
 use std::io;
 use words::end_of;
@@ -18,6 +18,7 @@ fn main(rt: HostRuntime) -> io::Result<()> {
 
 fn each(rt: &impl Print, text: &[u8]) -> io::Result<()> {
     let mut at: usize = 0;
+    // Kept: bytes have no `split`, and a text parted in two at each line feed is no plainer.
     while at < text.len() {
         let end = end_of(text, at);
         answer(rt, &text[at..end])?;
@@ -27,9 +28,8 @@ fn each(rt: &impl Print, text: &[u8]) -> io::Result<()> {
 }
 
 fn answer(rt: &impl Print, word: &[u8]) -> io::Result<()> {
-    let number = read(word);
-    match number {
-        Number::Double(x) => println!(rt; "{:016x}", pattern(x)),
-        Number::Bad => println!(rt; "none"),
+    match read(word) {
+        Some(x) => println!(rt; "{:016x}", pattern(x)),
+        None => println!(rt; "none"),
     }
 }

@@ -1,6 +1,6 @@
 -- Eight sums over one slot more: a slot outside the eight, where all outputs find the same sample, or one of them. Assumes nothing.
 use borrow.Author.Tests.{le-leb, lt-leb}
-use mathlib.Core.Path.{◌≡◌, refl, sym, ap, ◌∙◌, subst}
+use mathlib.Core.Path.{◌≡◌, refl, ap, ◌∙◌, subst}
 use mathlib.Core.Logic.{◌≢◌, inl, inr}
 use mathlib.Core.List.{List}
 use Prim.Native.Nat.{ℕ, ◌+◌, ◌-◌, ◌≤◌, ◌<◌}
@@ -13,11 +13,6 @@ use Rattle.ring.specs.Ring.{delay, sum_to}
 use Rattle.ring.specs.Inside.{Ready, Outside, crossed, EachAdded, Summed}
 use Rattle.ring.proofs.Tap.{delay-back, delay-round}
 use Rattle.ring.proofs.Slots.{ready-room, product, more, at_before, at_after, at_new, at_old}
-
--- a slot outside the eight: all eight taps stand in a row
-pub eight-taps : (n s j : ℕ) → s + 8 ≤ n → j < n → Outside s j → j ≢ s → delay n s j + 8 ≤ n
-eight-taps n s j turn h (inl l) other = subst (λ (t : ℕ). t + 8 ≤ n) (sym (delay-back n s j (omega arith) l)) (omega arith)
-eight-taps n s j turn h (inr l) other = subst (λ (t : ℕ). t + 8 ≤ n) (sym (delay-round n s j (omega arith) h)) (omega arith)
 
 module _ (taps ring : List Float) (s : ℕ) (xs : List Float) (ready : Ready taps ring) (turn : s + 8 ≤ length taps) (eight : length xs ≡ 8) where
   width : s + length xs ≤ length taps

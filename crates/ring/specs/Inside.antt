@@ -47,13 +47,6 @@ pub record Summed (taps ring : List Float) (s : ℕ) (xs : List Float) (j : ℕ)
   pub room : length sums ≡ 8
   pub each : (p : ℕ) → p < 8 → get_or sums p nan ≡ output_to taps ring s xs j p
 
--- r slots more
-pub record SlotsTaken (taps ring : List Float) (s : ℕ) (xs : List Float) (j r : ℕ) (sums : List Float) : Type 0 where
-  pub some : 1 ≤ r
-  pub within : j + r ≤ length taps
-  pub outside : Outside s (j + r)
-  pub summed : Summed taps ring s xs (j + r) sums
-
 -- ---- the row as it is to be
 -- the samples before the k-th are filtered, and the others will be
 abbrev pub row_to_be : List Float → ℕ → List Float → List Float → List Float

@@ -10,11 +10,8 @@ ghost use Rattle.ring.specs.Inside.{Ready, by_one_tap, output, Moved};
 pub(crate) fn only_tap(row: &mut [f64], tap: f64)
     ensures { row.new ≡ by_one_tap tap row.old }
 {
-    let mut k: usize = 0;
-    while k < row.len() {
-        let x = row[k];
-        row[k] = tap * x + 0.0;
-        k += 1;
+    for x in row.iter_mut() {
+        *x = tap * *x + 0.0;
     }
 }
 
@@ -39,16 +36,12 @@ fn sum_one(ring: &[f64], s: usize, taps: &[f64], x: f64) -> f64
 {
     let n = taps.len();
     let mut sum = 0.0;
-    let mut j: usize = 0;
-    while j < s {
+    for j in 0..s {
         sum = taps[s - j] * ring[j] + sum;
-        j += 1;
     }
     sum = taps[0] * x + sum;
-    j = s + 1;
-    while j < n {
+    for j in s + 1..n {
         sum = taps[n + s - j] * ring[j] + sum;
-        j += 1;
     }
     sum
 }
@@ -70,7 +63,7 @@ pub(crate) fn two(row: &mut [f64], ring: &mut [f64], taps: &[f64], k: usize, s: 
     row[k + 1] = sums.second;
 }
 
-#[derive(Clone, Copy)]
+#[derive(Clone, Copy, Default)]
 struct Sums {
     first: f64,
     second: f64,
@@ -84,26 +77,17 @@ fn sum_two(ring: &[f64], s: usize, taps: &[f64], x: f64, y: f64) -> Sums
     ensures second { result.second ≡ output taps.now ring.now s (x ∷ y ∷ []) 1 }
 {
     let n = taps.len();
-    let mut sums = Sums {
-        first: 0.0,
-        second: 0.0,
-    };
-    let mut j: usize = 0;
-    while j < s {
-        let z = ring[j];
-        sums = meet(sums, taps, s - j, z);
-        j += 1;
+    let mut sums = Sums::default();
+    for j in 0..s {
+        sums = meet(sums, taps, s - j, ring[j]);
     }
     let old = ring[s + 1];
     sums = Sums {
         first: taps[n - 1] * old + (taps[0] * x + sums.first),
         second: taps[0] * y + (taps[1] * x + sums.second),
     };
-    j = s + 2;
-    while j < n {
-        let z = ring[j];
-        sums = meet(sums, taps, n + s - j, z);
-        j += 1;
+    for j in s + 2..n {
+        sums = meet(sums, taps, n + s - j, ring[j]);
     }
     sums
 }

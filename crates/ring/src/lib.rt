@@ -2,7 +2,7 @@
 // round.
 #![tactic(auto)]
 
-ghost use Rattle.std.specs.Prelude.{◌≡◌, ◌%◌, ◌≤◌, ◌<◌, min, length};
+ghost use Rattle.std.specs.Prelude.{◌≡◌, ◌%◌, ◌≤◌, ◌<◌, length};
 ghost use Rattle.ring.specs.Ring.{slot_of, filtered_from, filtered_or_kept};
 ghost use Rattle.ring.specs.Inside.{Ready, Advanced};
 
@@ -16,10 +16,7 @@ use few::{one, only_tap, two};
 pub fn filter(row: &mut [f64], taps: &[f64])
     ensures { row.new ≡ filtered_or_kept taps.now row.old }
 {
-    if taps.len() < 1 {
-        return;
-    }
-    if 256 < taps.len() {
+    if taps.is_empty() || 256 < taps.len() {
         return;
     }
     let mut ring = [0.0; 256];
@@ -27,6 +24,7 @@ pub fn filter(row: &mut [f64], taps: &[f64])
 }
 
 // Through the row: the k-th sample goes to slot s.
+// Kept: `k` by hand, since a turn takes one, two or eight samples; no iterator says that more plainly.
 fn go_round(row: &mut [f64], ring: &mut [f64], taps: &[f64])
     requires { Ready taps.now ring.old }
     ensures { row.new ≡ filtered_from taps.now 0 ring.old row.old }
@@ -35,8 +33,8 @@ fn go_round(row: &mut [f64], ring: &mut [f64], taps: &[f64])
         only_tap(row, taps[0]);
         return;
     }
-    let mut k: usize = 0;
-    let mut s: usize = 0;
+    let mut k = 0;
+    let mut s = 0;
     while k < row.len() {
         let done = advance(row, ring, taps, k, s);
         k += done;
@@ -52,26 +50,17 @@ fn advance(row: &mut [f64], ring: &mut [f64], taps: &[f64], k: usize, s: usize) 
     requires left { k < length row.old }
     ensures { Advanced taps.now k s result ring.old row.old ring.new row.new }
 {
-    let left = lesser(taps.len() - s, row.len() - k);
+    let left = (taps.len() - s).min(row.len() - k);
     if 8 <= left {
         eight(row, ring, taps, k, s);
-        return 8;
-    }
-    if 2 <= left {
+        8
+    } else if 2 <= left {
         two(row, ring, taps, k, s);
-        return 2;
+        2
+    } else {
+        one(row, ring, taps, k, s);
+        1
     }
-    one(row, ring, taps, k, s);
-    1
-}
-
-fn lesser(a: usize, b: usize) -> usize
-    ensures { result ≡ min a b }
-{
-    if a <= b {
-        return a;
-    }
-    b
 }
 
 // At the ring's end back to its first slot.
@@ -80,8 +69,5 @@ fn wrap(s: usize, n: usize) -> usize
     requires within { s ≤ n }
     ensures { result ≡ s % n }
 {
-    if s < n {
-        return s;
-    }
-    0
+    if s < n { s } else { 0 }
 }

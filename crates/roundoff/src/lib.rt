@@ -34,7 +34,7 @@ pub fn enclose(s: f64, t: f64, e: f64) -> Enclosure
     let v = t + e;
     let far = s - v * 1.0000000000000009;
     Enclosure {
-        far: far,
+        far,
         off: far - (s - v * 0.9999999999999991),
     }
 }

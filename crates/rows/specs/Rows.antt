@@ -1,8 +1,7 @@
 -- Rows of samples, as the steps on them take them. Definitions only.
-use Rattle.std.specs.Prelude.{ℕ, Bool, true, false, ◌&&◌, cond, List, [], ◌∷◌, leb, eqb, Float}
+use Rattle.quant.specs.Refusal.{Answer, refuse}
+use Rattle.std.specs.Prelude.{ℕ, Bool, true, false, ◌&&◌, cond, List, [], ◌∷◌, leb, eqb, Float, Ok, Err}
 use Rattle.std.specs.Float.Ieee.Scale.{finite}
-use Rattle.quant.specs.declared.refusal.Answer.{Answer}
-use Rattle.quant.specs.declared.refusal.Answer.TheVariants.{Done, Refused}
 use Rattle.quant.specs.declared.refusal.Refusal.TheVariants.{Malformed, WrongSize}
 
 -- one row, and then the second has no samples, or two of equal length; at most 65,536 samples
@@ -15,11 +14,11 @@ all_finite (x ∷ xs) = finite x && all_finite xs
 
 -- the order of a step's refusals: 13 for sizes, then 2 for a number that is not finite; both before any sample changes
 abbrev pub answer_of : Bool → Bool → Answer
-answer_of false fine = Refused WrongSize 0
-answer_of true false = Refused Malformed 0
-answer_of true true = Done 0
+answer_of false fine = refuse WrongSize 0
+answer_of true false = refuse Malformed 0
+answer_of true true = Ok 0
 
 -- a row after a step, by what the step answers: as it came where it is refused
 abbrev pub after : Answer → List Float → List Float → List Float
-after (Done count) new old = new
-after (Refused why place) new old = old
+after (Ok count) new old = new
+after (Err e) new old = old

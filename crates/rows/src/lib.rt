@@ -11,41 +11,29 @@ use quant::refusal::{Answer, Refusal};
 pub fn rows_fit(rows: usize, i: usize, q: usize) -> bool
     ensures { result ≡ rows_fit rows i q }
 {
-    if i > 65536 {
-        return false;
-    }
-    if rows == 1 {
-        return q == 0;
-    }
-    if rows == 2 {
-        return i == q;
-    }
-    false
+    i <= 65536
+        && match rows {
+            1 => q == 0,
+            2 => i == q,
+            _ => false,
+        }
 }
 
 pub fn all_finite(numbers: &[f64]) -> bool
     ensures { result ≡ all_finite numbers.now }
 {
-    let mut k: usize = 0;
-    while k < numbers.len() {
-        if is_finite(numbers[k]) {
-            k += 1;
-        } else {
-            return false;
-        }
-    }
-    true
+    numbers.iter().all(|x| is_finite(*x))
 }
 
 // What a step answers: 13 where a size is wrong, then 2 where a number is not finite.
 pub fn answer(fits: bool, fine: bool) -> Answer
     ensures { result ≡ answer_of fits fine }
 {
-    if fits {
-        if fine {
-            return Answer::Done(0);
-        }
-        return Answer::Refused(Refusal::Malformed, 0);
+    if !fits {
+        Err(Refusal::WrongSize.at(0))
+    } else if !fine {
+        Err(Refusal::Malformed.at(0))
+    } else {
+        Ok(0)
     }
-    Answer::Refused(Refusal::WrongSize, 0)
 }

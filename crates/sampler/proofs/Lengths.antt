@@ -1,4 +1,6 @@
 -- A sampling call changes no length: not of the rows, the scratch, the work rows or the marks. Assumes nothing.
+use Rattle.quant.specs.Refusal.{Answer, refuse}
+use Rattle.std.specs.Prelude.{Option, Some, None}
 use Prim.Native.Nat.{ℕ}
 use native.Mathlib.Omega.{arith}
 use mathlib.Core.Path.{◌≡◌, refl, ap}
@@ -6,11 +8,7 @@ use mathlib.Core.Bool.{Bool, true, false}
 use mathlib.Core.List.{List}
 use lib.Ieee.{Float}
 use lib.ListN.{length}
-use Rattle.quant.specs.declared.refusal.Answer.{Answer}
-use Rattle.quant.specs.declared.refusal.Answer.TheVariants.{Refused}
 use Rattle.quant.specs.declared.refusal.Refusal.TheVariants as why
-use Rattle.quant.specs.declared.settings.Fitting.{Fitting}
-use Rattle.quant.specs.declared.settings.Fitting.TheVariants.{Fit, Unfit}
 use Rattle.quant.specs.declared.settings.Settings.{Settings}
 use Rattle.quant.specs.Settings.{fitting_of}
 use Rattle.pulse.specs.declared.list.Pulse.{Pulse}
@@ -18,7 +16,7 @@ use Rattle.tables.specs.declared.Tables.{Tables}
 use Rattle.merge.specs.Taking.{parts_in}
 use Rattle.merge.specs.Work as Work
 use Rattle.crosstalk.specs.declared.names.Crosstalk.{Crosstalk}
-use Rattle.crosstalk.specs.Crosstalk.{planned}
+use Rattle.crosstalk.specs.Crosstalk.{planned, is_refused, taking_of, plan_answer}
 use Rattle.crosstalk.proofs.Laws.{plan-parts}
 use Rattle.mixdown.specs.Bins.{bins_by, merged_of}
 use Rattle.mixdown.specs.Sampled.{Rowed}
@@ -45,9 +43,9 @@ module _ (t : Tables) (r : Request) (c : Crosstalk) (factors : List Float) (bins
   sized = sizes_fit r.rows (length st.i) (length st.q) (length st.scratch) (length bins) (length pulses) (length work) (length marks)
 
   -- once the sizes fit and the plan is accepted
-  each_long : (s : Settings) → sized ≡ true → (planned t r.channel c factors).refused ≡ false → Long st work marks (each_pulse t r bins pulses st work marks s (planned t r.channel c factors).taking)
+  each_long : (s : Settings) → sized ≡ true → is_refused (planned t r.channel c factors) ≡ false → Long st work marks (each_pulse t r bins pulses st work marks s (taking_of (planned t r.channel c factors)))
   each_long s e ok =
-      let taking = (planned t r.channel c factors).taking in
+      let taking = (taking_of (planned t r.channel c factors)) in
       let f = fitting-sizes r.rows (length st.i) (length st.q) (length st.scratch) (length bins) (length pulses) (length work) (length marks) e in
       let k = plan-parts t r.channel c factors ok in
       let many = ap length k.parts in
@@ -63,15 +61,15 @@ module _ (t : Tables) (r : Request) (c : Crosstalk) (factors : List Float) (bins
         marking = rw room (marks-long s t taking bins pulses work marks r.rows st lists (omega (arith, many, k.few)) f.its-bins f.its-work f.its-marks f.its-rows f.long);
       }
 
-  by_flags : (s : Settings) (b d : Bool) → sized ≡ b → (planned t r.channel c factors).refused ≡ d → Long st work marks (by_clock t r bins pulses st work marks c factors (Fit s))
-  by_flags s false d e f = rw e (as_it-came st work marks (Refused why.WrongSize 0))
-  by_flags s true true e f = rw (e, f) (as_it-came st work marks (planned t r.channel c factors).answer)
+  by_flags : (s : Settings) (b d : Bool) → sized ≡ b → is_refused (planned t r.channel c factors) ≡ d → Long st work marks (by_clock t r bins pulses st work marks c factors (Some s))
+  by_flags s false d e f = rw e (as_it-came st work marks (refuse why.WrongSize 0))
+  by_flags s true true e f = rw (e, f) (as_it-came st work marks (plan_answer (planned t r.channel c factors)))
   by_flags s true false e f = rw (e, f) (each_long s e f)
 
   pub lengths-stay : Long st work marks (sampled t r c factors bins pulses st work marks)
   unfolding sampled
   lengths-stay = by (fitting_of r.rate r.delay r.level)
     where
-      by : (f : Fitting) → Long st work marks (by_clock t r bins pulses st work marks c factors f)
-      by Unfit = as_it-came st work marks (Refused why.Unfit 0)
-      by (Fit s) = by_flags s sized (planned t r.channel c factors).refused refl refl
+      by : (f : Option Settings) → Long st work marks (by_clock t r bins pulses st work marks c factors f)
+      by None = as_it-came st work marks (refuse why.Unfit 0)
+      by (Some s) = by_flags s sized (is_refused (planned t r.channel c factors)) refl refl

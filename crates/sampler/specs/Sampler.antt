@@ -1,11 +1,8 @@
 -- Document 01: "A sampling call takes one channel. Its order: 1, 13, 2, 14, 7, then each pulse"; by document 02, 17 and 18 stand in place of 14.
 -- Definitions only.
-use Rattle.std.specs.Prelude.{ℕ, cond, List, Float, length}
-use Rattle.quant.specs.declared.refusal.Answer.{Answer}
-use Rattle.quant.specs.declared.refusal.Answer.TheVariants.{Refused}
+use Rattle.quant.specs.Refusal.{Answer, refuse}
+use Rattle.std.specs.Prelude.{ℕ, cond, List, Float, length, Option, Some, None}
 use Rattle.quant.specs.declared.refusal.Refusal.TheVariants as why
-use Rattle.quant.specs.declared.settings.Fitting.{Fitting}
-use Rattle.quant.specs.declared.settings.Fitting.TheVariants.{Fit, Unfit}
 use Rattle.quant.specs.declared.settings.Settings.{Settings}
 use Rattle.quant.specs.Settings.{fitting_of, fitting_answer}
 use Rattle.pulse.specs.declared.list.Pulse.{Pulse}
@@ -14,8 +11,7 @@ use Rattle.merge.specs.declared.taking.Taking.{Taking}
 use Rattle.merge.specs.Taking.{parts_in}
 use Rattle.merge.specs.Work.{gathered_of}
 use Rattle.crosstalk.specs.declared.names.Crosstalk.{Crosstalk}
-use Rattle.crosstalk.specs.declared.parts.Plan.{Plan}
-use Rattle.crosstalk.specs.Crosstalk.{planned}
+use Rattle.crosstalk.specs.Crosstalk.{Plan, planned, is_refused, taking_of, plan_answer}
 use Rattle.mixdown.specs.Bins.{bins_by, merged_of}
 use Rattle.mixdown.specs.Sampled.{Rowed, ran_bins}
 use Rattle.sampler.specs.declared.Request.{Request}
@@ -43,15 +39,15 @@ module _ (t : Tables) (r : Request) (bins : List (List Float)) (pulses : List Pu
 
   -- 13, 2, 17 and 18, 7 of the crosstalk and the channel
   abbrev pub by_plan : Settings → Plan → Left
-  by_plan s p = cond p.refused (left p.answer st work marks) (each_pulse s p.taking)
+  by_plan s p = cond (is_refused p) (left (plan_answer p) st work marks) (each_pulse s (taking_of p))
 
   -- 1, then 13 of what is lent
-  abbrev pub by_clock : Crosstalk → List Float → Fitting → Left
-  by_clock c factors Unfit = left (fitting_answer Unfit) st work marks
-  by_clock c factors (Fit s) =
+  abbrev pub by_clock : Crosstalk → List Float → Option Settings → Left
+  by_clock c factors None = left (fitting_answer None) st work marks
+  by_clock c factors (Some s) =
       cond (sizes_fit r.rows (length st.i) (length st.q) (length st.scratch) (length bins) (length pulses) (length work) (length marks))
       (by_plan s (planned t r.channel c factors))
-      (left (Refused why.WrongSize 0) st work marks)
+      (left (refuse why.WrongSize 0) st work marks)
 
 unfoldable pub sampled : Tables → Request → Crosstalk → List Float → List (List Float) → List Pulse → Rowed → List (List Float) → List ℕ → Left
 sampled t r c factors bins pulses st work marks = by_clock t r bins pulses st work marks c factors (fitting_of r.rate r.delay r.level)

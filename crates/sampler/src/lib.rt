@@ -2,25 +2,22 @@
 // src/pulse.rs with its `merge_and_sample`.
 #![tactic(auto)]
 
-ghost use Rattle.std.specs.Prelude.{◌≡◌, []};
-ghost use Rattle.merge.specs.Taking.{packed};
+ghost use Rattle.std.specs.Prelude.{◌≡◌};
 ghost use Rattle.mixdown.specs.Sampled.{rowed};
 ghost use Rattle.sampler.specs.Sampler.{left, sampled};
-ghost use Rattle.sampler.specs.Prepared.{settings_of, is_fit, refused_before, prepared_by, prepared_of};
+ghost use Rattle.sampler.specs.Prepared.{settings_of, is_fit, prepared_of};
 ghost use Rattle.sampler.specs.Sizes.{sizes_fit};
 
 use crosstalk::names::Crosstalk;
-use crosstalk::parts::Plan;
 use crosstalk::plan;
 use merge::taking::Taking;
 use merge::work::sum_lists;
 use mixdown::mix_lists;
 use naming::Name;
 use pulse::list::Pulse;
-use quant::judge::both;
 use quant::quantity::{Frequency, Time};
-use quant::refusal::{Answer, Refusal};
-use quant::settings::{Fitting, Settings, set_up};
+use quant::refusal::{Answer, Refusal, Refused};
+use quant::settings::{Settings, set_up};
 use rows::rows_fit;
 use tables::Tables;
 
@@ -34,11 +31,9 @@ pub struct Request {
     pub rows: usize,
 }
 
-// Refused, with an answer, before any pulse; or what the pulses are sampled with.
+// What the pulses are sampled with, where the call is not refused before the first.
 #[derive(Clone, Copy)]
 pub struct Prepared {
-    pub refused: bool,
-    pub answer: Answer,
     pub settings: Settings,
     pub taking: Taking,
 }
@@ -60,7 +55,7 @@ pub fn sample(
 ) -> Answer
     ensures { left result (rowed i.new q.new scratch.new) work.new marks.new ≡ sampled t r c factors.now bins.now pulses.now (rowed i.old q.old scratch.old) work.old marks.old }
 {
-    let p = prepare(
+    let Prepared { settings, taking } = prepare(
         t,
         r,
         c,
@@ -72,17 +67,15 @@ pub fn sample(
         scratch.len(),
         work.len(),
         marks.len(),
-    );
-    if p.refused {
-        return p.answer;
-    }
-    let ends = sum_lists(t, p.taking, pulses, work, marks);
+    )?;
+    let ends = sum_lists(t, taking, pulses, work, marks);
     mix_lists(
-        p.settings, t, p.taking, ends, bins, work, marks, r.rows, i, q, scratch,
+        settings, t, taking, ends, bins, work, marks, r.rows, i, q, scratch,
     )
 }
 
 // "Its order: 1, 13, 2, 14, 7, then each pulse", and 17 and 18 in place of 14: all but the last.
+#[tactic(auto, unfolding(crate::specs::Prepared::prepared_of))]
 fn prepare(
     t: Tables,
     r: Request,
@@ -95,25 +88,26 @@ fn prepare(
     scratch: usize,
     work: usize,
     marks: usize,
-) -> Prepared
+) -> Result<Prepared, Refused>
     ensures { result ≡ prepared_of t r c factors.now bins pulses i q scratch work marks }
 {
     if !is_fit(r) {
-        return refused(r, Refusal::Unfit);
+        return Err(Refusal::Unfit.at(0));
     }
     if !sizes_fit(r.rows, i, q, scratch, bins, pulses, work, marks) {
-        return refused(r, Refusal::WrongSize);
+        return Err(Refusal::WrongSize.at(0));
     }
-    planned_for(r, plan(t, r.channel, c, factors))
+    let taking = plan(t, r.channel, c, factors)?;
+    Ok(Prepared {
+        settings: settings(r),
+        taking,
+    })
 }
 
 fn is_fit(r: Request) -> bool
     ensures { result ≡ is_fit r }
 {
-    match set_up(r.rate, r.delay, r.level) {
-        Fitting::Fit(_) => true,
-        Fitting::Unfit => false,
-    }
+    set_up(r.rate, r.delay, r.level).is_some()
 }
 
 fn sizes_fit(
@@ -128,60 +122,21 @@ fn sizes_fit(
 ) -> bool
     ensures { result ≡ sizes_fit rows i q scratch bins pulses work marks }
 {
-    let waves = both(rows_fit(rows, i, q), i <= scratch);
-    let stored = both(both(waves, bins == 512), pulses == 8192);
-    both(both(stored, work == 8192), marks == 8192)
+    rows_fit(rows, i, q)
+        && i <= scratch
+        && bins == 512
+        && pulses == 8192
+        && work == 8192
+        && marks == 8192
 }
 
 fn settings(r: Request) -> Settings
     ensures { result ≡ settings_of r }
 {
-    let rate = r.rate;
-    let dt = rate.dt();
-    let delay = r.delay;
     Settings {
-        rate,
-        dt,
-        delay,
+        rate: r.rate,
+        dt: r.rate.dt(),
+        delay: r.delay,
         level: r.level,
-    }
-}
-
-fn refused(r: Request, why: Refusal) -> Prepared
-    ensures { result ≡ refused_before r why }
-{
-    let settings = settings(r);
-    let taking = none();
-    Prepared {
-        refused: true,
-        answer: Answer::Refused(why, 0),
-        settings,
-        taking,
-    }
-}
-
-fn planned_for(r: Request, plan: Plan) -> Prepared
-    ensures { result ≡ prepared_by r plan }
-{
-    let answer = plan.answer;
-    let settings = settings(r);
-    let taking = plan.taking;
-    Prepared {
-        refused: plan.refused,
-        answer,
-        settings,
-        taking,
-    }
-}
-
-fn none() -> Taking
-    ensures { result ≡ packed [] }
-{
-    let places = [0; 8];
-    let factors = [0.0; 8];
-    Taking {
-        count: 0,
-        places,
-        factors,
     }
 }

@@ -1,5 +1,8 @@
 -- A call's rows are the rows before plus its first pulses, one after another, as many as its answer counts; so a refused pulse, and what would
 -- come behind it, changes no sample. And an accepted pulse changes no sample outside its range. Assumes nothing.
+use Rattle.quant.specs.Refusal.{Answer}
+use Rattle.quant.specs.declared.refusal.Refusal.{Refusal}
+use Rattle.std.specs.Prelude.{Result, Ok, Err}
 use Prim.Native.Nat.{ℕ, suc, ◌+◌, ◌≤◌}
 use native.Mathlib.Omega.{arith}
 use mathlib.Core.Path.{◌≡◌, refl, sym, ap, ◌∙◌}
@@ -7,8 +10,6 @@ use mathlib.Core.List.{List, [], ◌∷◌, ◌++◌}
 use lib.Ieee.{Float}
 use lib.ListN.{length, take, length-append}
 use lib.Seq.{take-append-le, take-append-add, take-length}
-use Rattle.quant.specs.declared.refusal.Answer.{Answer}
-use Rattle.quant.specs.declared.refusal.Answer.TheVariants as answer
 use Rattle.quant.specs.declared.settings.Settings.{Settings}
 use Rattle.pulse.specs.declared.bin.Bin.{Bin}
 use Rattle.pulse.specs.declared.list.Pulse.{Pulse}
@@ -26,7 +27,7 @@ module _ (s : Settings) (rows : ℕ) where
     pub upto : many ≤ length ds
     pub counted : count_in o.answer ≡ k + many
     pub rows_are : o.left ≡ with_all s rows (take many ds) st
-    pub all_if_done : (m : ℕ) → o.answer ≡ answer.Done m → many ≡ length ds
+    pub all_if_done : (m : ℕ) → o.answer ≡ Ok m → many ≡ length ds
 
   with_none : (st : Rowed) → with_all s rows [] st ≡ st
   unfolding with_all
@@ -53,11 +54,11 @@ module _ (s : Settings) (rows : ℕ) where
             all_if_done = λ m e. ap suc (f.all_if_done m e);
           }
 
-      go : (d : Judged) → First (dues_of b numbers ps) (suc k) (added_to s b numbers rows (judged s b numbers p (length st.i)) st) (ran_pulses s b numbers rows ps (suc k) (added_to s b numbers rows (judged s b numbers p (length st.i)) st))
+      go : (d : Result Judged Refusal) → First (dues_of b numbers ps) (suc k) (added_to s b numbers rows (judged s b numbers p (length st.i)) st) (ran_pulses s b numbers rows ps (suc k) (added_to s b numbers rows (judged s b numbers p (length st.i)) st))
           → First (due b numbers p ∷ dues_of b numbers ps) k st (unless_refused d k st (ran_pulses s b numbers rows ps (suc k) (added_to s b numbers rows (judged s b numbers p (length st.i)) st)))
-      go (judgement.Refused r) f = record { many = 0; upto = omega arith; counted = omega arith; rows_are = refl; all_if_done = λ m e. let z : ◌≡◌ {A = ℕ} 0 1 = cc in absurd (omega arith) }
-      go (judgement.Plateau x) f = one_more _ f
-      go (judgement.Shaped c) f = one_more _ f
+      go (Err r) f = record { many = 0; upto = omega arith; counted = omega arith; rows_are = refl; all_if_done = λ m e. let z : ◌≡◌ {A = ℕ} 0 1 = cc in absurd (omega arith) }
+      go (Ok (judgement.Plateau x)) f = one_more _ f
+      go (Ok (judgement.Shaped c)) f = one_more _ f
 
   -- ---- all bins
   pub bins-first : (merged : List Float → List Pulse) (rs : List (List Float)) (k : ℕ) (st : Rowed) → First (all_dues merged rs) k st (ran_bins s rows merged rs k st)
@@ -67,7 +68,7 @@ module _ (s : Settings) (rows : ℕ) where
     where
       by : (a : Answer) (l : Rowed) → First (dues_of (bin_of r) (numbers_of r) (merged r)) k st (out a l) → ((m : ℕ) (st' : Rowed) → First (all_dues merged rs) m st' (ran_bins s rows merged rs m st'))
           → First (dues_of (bin_of r) (numbers_of r) (merged r) ++ all_dues merged rs) k st (and_then (out a l) (ran_bins s rows merged rs))
-      by (answer.Refused why n) l f later =
+      by (Err x) l f later =
           record {
             many = f.many;
             upto = let h = f.upto in let g = length-append (dues_of (bin_of r) (numbers_of r) (merged r)) (all_dues merged rs) in omega (arith, h, g);
@@ -75,7 +76,7 @@ module _ (s : Settings) (rows : ℕ) where
             rows_are = f.rows_are ∙ ap (λ (ds : List Due). with_all s rows ds st) (sym (take-append-le f.many (dues_of (bin_of r) (numbers_of r) (merged r)) (all_dues merged rs) f.upto));
             all_if_done = λ m e. let z : ◌≡◌ {A = ℕ} 0 1 = cc in absurd (omega arith);
           }
-      by (answer.Done n) l f later =
+      by (Ok n) l f later =
           let g = later n l in
           let whole = f.all_if_done n refl in
           let size = length-append (dues_of (bin_of r) (numbers_of r) (merged r)) (all_dues merged rs) in

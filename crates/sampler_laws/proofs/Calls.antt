@@ -1,5 +1,7 @@
 -- The two ways of a sampling call: refused before the first pulse, and then all is as it came; or its settings, sizes and plan are accepted, and its
 -- rows are the rows before plus its first pulses. With the unit matrix the call is the one without crosstalk, bit for bit. Assumes nothing.
+use Rattle.quant.specs.Refusal.{Answer, refuse}
+use Rattle.std.specs.Prelude.{Option, Some, None, Ok}
 use Prim.Native.Nat.{ℕ}
 use native.Mathlib.Omega.{arith}
 use mathlib.Core.Path.{◌≡◌, refl, sym, ap, subst, ◌∙◌}
@@ -7,19 +9,14 @@ use mathlib.Core.Bool.{Bool, true, false, cond, true≢false}
 use mathlib.Core.List.{List}
 use lib.Ieee.{Float}
 use lib.ListN.{length}
-use Rattle.quant.specs.declared.refusal.Answer.{Answer}
-use Rattle.quant.specs.declared.refusal.Answer.TheVariants.{Done, Refused}
 use Rattle.quant.specs.declared.refusal.Refusal.TheVariants as why
-use Rattle.quant.specs.declared.settings.Fitting.{Fitting}
-use Rattle.quant.specs.declared.settings.Fitting.TheVariants.{Fit, Unfit}
 use Rattle.quant.specs.declared.settings.Settings.{Settings}
 use Rattle.quant.specs.Settings.{fitting_of}
 use Rattle.pulse.specs.declared.list.Pulse.{Pulse}
 use Rattle.tables.specs.declared.Tables.{Tables}
 use Rattle.merge.specs.Taking.{Part, packed, parts_in}
 use Rattle.crosstalk.specs.declared.names.Crosstalk.{Crosstalk}
-use Rattle.crosstalk.specs.declared.parts.Plan.{Plan}
-use Rattle.crosstalk.specs.Crosstalk.{parts_for, accepted_plan, planned, own_parts}
+use Rattle.crosstalk.specs.Crosstalk.{Plan, parts_for, accepted_plan, planned, own_parts, is_refused, taking_of, plan_answer}
 use Rattle.crosstalk.proofs.Laws.{Passes, accepted-is, UnitMatrix, unit-own}
 use Rattle.mixdown.specs.Bins.{bins_by, merged_of}
 use Rattle.mixdown.specs.Sampled.{Rowed, out}
@@ -42,29 +39,29 @@ module _ (t : Tables) (r : Request) (c : Crosstalk) (factors : List Float) (bins
 
   -- ---- the two ways
   pub data Way : Type 0 where
-    before : (a : Answer) → sampled t r c factors bins pulses st work marks ≡ left a st work marks → ((n : ℕ) → a ≡ Done n → ⊥) → Way
+    before : (a : Answer) → sampled t r c factors bins pulses st work marks ≡ left a st work marks → ((n : ℕ) → a ≡ Ok n → ⊥) → Way
     onward : Accepted t r c factors bins pulses st work marks → Way
 
-  by_flags : (s : Settings) (b d : Bool) → fitting_of r.rate r.delay r.level ≡ Fit s → sized ≡ b → plan.refused ≡ d → Way
+  by_flags : (s : Settings) (b d : Bool) → fitting_of r.rate r.delay r.level ≡ Some s → sized ≡ b → is_refused plan ≡ d → Way
   unfolding sampled
-  by_flags s false d f g h = before (Refused why.WrongSize 0) (rw (f, g) refl) (λ n e. let z : ◌≡◌ {A = ℕ} 0 1 = cc in omega arith)
-  by_flags s true true f g h = before plan.answer (rw (f, g, h) refl) (λ n e. let k = plan-told t r.channel c factors n e in let z : true ≡ false = sym h ∙ k in true≢false z)
+  by_flags s false d f g h = before (refuse why.WrongSize 0) (rw (f, g) refl) (λ n e. let z : ◌≡◌ {A = ℕ} 0 1 = cc in omega arith)
+  by_flags s true true f g h = before (plan_answer plan) (rw (f, g, h) refl) (λ n e. let k = plan-told t r.channel c factors n e in let z : true ≡ false = sym h ∙ k in true≢false z)
   by_flags s true false f g h = onward (record { settings = s; fit = f; sizes = g; plan = h; is = rw (f, g, h) refl })
 
-  unfit-way : fitting_of r.rate r.delay r.level ≡ Unfit → Way
+  unfit-way : fitting_of r.rate r.delay r.level ≡ None → Way
   unfolding sampled
-  unfit-way e = before (Refused why.Unfit 0) (rw e refl) (λ n f. let z : ◌≡◌ {A = ℕ} 0 1 = cc in omega arith)
+  unfit-way e = before (refuse why.Unfit 0) (rw e refl) (λ n f. let z : ◌≡◌ {A = ℕ} 0 1 = cc in omega arith)
 
   pub way : Way
   way = by (fitting_of r.rate r.delay r.level) refl
     where
-      by : (f : Fitting) → fitting_of r.rate r.delay r.level ≡ f → Way
-      by Unfit e = unfit-way e
-      by (Fit s) e = by_flags s sized plan.refused e refl refl
+      by : (f : Option Settings) → fitting_of r.rate r.delay r.level ≡ f → Way
+      by None e = unfit-way e
+      by (Some s) e = by_flags s sized (is_refused plan) e refl refl
 
   -- ---- its rows
-  pub rows-added : (a : Accepted t r c factors bins pulses st work marks) → First a.settings r.rows (all_dues (merged_of t bins pulses (parts_in plan.taking)) (bins_by t bins (parts_in plan.taking))) 0 st (out result.answer result.rows)
-  rows-added a = subst (λ (l : Left). First a.settings r.rows (all_dues (merged_of t bins pulses (parts_in plan.taking)) (bins_by t bins (parts_in plan.taking))) 0 st (out l.answer l.rows)) (sym a.is) (bins-first a.settings r.rows (merged_of t bins pulses (parts_in plan.taking)) (bins_by t bins (parts_in plan.taking)) 0 st)
+  pub rows-added : (a : Accepted t r c factors bins pulses st work marks) → First a.settings r.rows (all_dues (merged_of t bins pulses (parts_in (taking_of plan))) (bins_by t bins (parts_in (taking_of plan)))) 0 st (out result.answer result.rows)
+  rows-added a = subst (λ (l : Left). First a.settings r.rows (all_dues (merged_of t bins pulses (parts_in (taking_of plan))) (bins_by t bins (parts_in (taking_of plan)))) 0 st (out l.answer l.rows)) (sym a.is) (bins-first a.settings r.rows (merged_of t bins pulses (parts_in (taking_of plan))) (bins_by t bins (parts_in (taking_of plan))) 0 st)
 
 -- ---- the unit matrix
 
@@ -74,9 +71,9 @@ module _ (t : Tables) (r : Request) (c e : Crosstalk) (factors others : List Flo
   unfolding sampled
   same-call h = by (fitting_of r.rate r.delay r.level)
     where
-      by : (f : Fitting) → by_clock t r bins pulses st work marks c factors f ≡ by_clock t r bins pulses st work marks e others f
-      by Unfit = refl
-      by (Fit s) = ap (λ (p : Plan). cond (sizes_fit r.rows (length st.i) (length st.q) (length st.scratch) (length bins) (length pulses) (length work) (length marks)) (by_plan t r bins pulses st work marks s p) (left (Refused why.WrongSize 0) st work marks)) h
+      by : (f : Option Settings) → by_clock t r bins pulses st work marks c factors f ≡ by_clock t r bins pulses st work marks e others f
+      by None = refl
+      by (Some s) = ap (λ (p : Plan). cond (sizes_fit r.rows (length st.i) (length st.q) (length st.scratch) (length bins) (length pulses) (length work) (length marks)) (by_plan t r bins pulses st work marks s p) (left (refuse why.WrongSize 0) st work marks)) h
 
   -- both calls pass their checks; one has the unit matrix, the other does not name the channel (or has the unit matrix too)
   pub unit-changes-nothing : Passes t r.channel c factors → length c.names ≡ 8 → UnitMatrix c.count factors → Passes t r.channel e others → parts_for t r.channel e others ≡ own_parts t r.channel

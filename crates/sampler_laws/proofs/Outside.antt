@@ -1,4 +1,6 @@
 -- An accepted pulse changes no sample outside its range, in either row. Assumes nothing.
+use Rattle.quant.specs.declared.refusal.Refusal.{Refusal}
+use Rattle.std.specs.Prelude.{Result, Ok, Err}
 use Prim.Native.Nat.{ℕ, ◌+◌, ◌≤◌, ◌<◌}
 use native.Mathlib.Omega.{arith}
 use mathlib.Core.Path.{◌≡◌, refl, ◌∙◌}
@@ -15,7 +17,7 @@ use Rattle.mix.specs.Part.{part_fits, on_part, first_row, second_row}
 use Rattle.mix.proofs.Parts.{first_holds, second_holds}
 use Rattle.mix.proofs.Samples.{before-part, behind-part, carried-length, shaped-length}
 use Rattle.placing.specs.declared.Judged.{Judged}
-use Rattle.placing.specs.declared.Judged.TheVariants.{Plateau, Shaped, Refused}
+use Rattle.placing.specs.declared.Judged.TheVariants.{Plateau, Shaped}
 use Rattle.mixdown.specs.Sampled.{Rowed, added_to}
 use Rattle.sampler_laws.specs.Added.{from_of, length_of}
 
@@ -46,12 +48,12 @@ module _ (rows s n k : ℕ) (i q : List Float) (f : List Float → List Float) (
       go false e d g x h = refl
 
 module _ (s : Settings) (b : Bin) (numbers : List Float) (rows k : ℕ) (st : Rowed) where
-  pub outside-i : (d : Judged) → Outside (from_of d) (length_of d) k → get_or (added_to s b numbers rows d st).i k nan ≡ get_or st.i k nan
-  outside-i (Plateau f) o = first-stays rows f.start f.count k st.i st.q _ (carried-length _ _ _) o
-  outside-i (Shaped c) o = first-stays rows c.start c.points k st.i st.q _ (λ xs. shaped-length _ _ _ _ _ _ _ xs) o
-  outside-i (Refused r) o = refl
+  pub outside-i : (d : Result Judged Refusal) → Outside (from_of d) (length_of d) k → get_or (added_to s b numbers rows d st).i k nan ≡ get_or st.i k nan
+  outside-i (Ok (Plateau f)) o = first-stays rows f.start f.count k st.i st.q _ (carried-length _ _ _) o
+  outside-i (Ok (Shaped c)) o = first-stays rows c.start c.points k st.i st.q _ (λ xs. shaped-length _ _ _ _ _ _ _ xs) o
+  outside-i (Err r) o = refl
 
-  pub outside-q : (d : Judged) → Outside (from_of d) (length_of d) k → get_or (added_to s b numbers rows d st).q k nan ≡ get_or st.q k nan
-  outside-q (Plateau f) o = second-stays rows f.start f.count k st.i st.q _ (carried-length _ _ _) o
-  outside-q (Shaped c) o = second-stays rows c.start c.points k st.i st.q _ (λ xs. shaped-length _ _ _ _ _ _ _ xs) o
-  outside-q (Refused r) o = refl
+  pub outside-q : (d : Result Judged Refusal) → Outside (from_of d) (length_of d) k → get_or (added_to s b numbers rows d st).q k nan ≡ get_or st.q k nan
+  outside-q (Ok (Plateau f)) o = second-stays rows f.start f.count k st.i st.q _ (carried-length _ _ _) o
+  outside-q (Ok (Shaped c)) o = second-stays rows c.start c.points k st.i st.q _ (λ xs. shaped-length _ _ _ _ _ _ _ xs) o
+  outside-q (Err r) o = refl

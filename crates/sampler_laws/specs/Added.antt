@@ -1,13 +1,12 @@
 -- Words for the laws of the sampling call: the pulses of a call in the order in which they are added, and the rows with the first of them. Definitions only.
-use Rattle.std.specs.Prelude.{ℕ, List, [], ◌∷◌, ◌++◌, Float, length}
-use Rattle.quant.specs.declared.refusal.Answer.{Answer}
-use Rattle.quant.specs.declared.refusal.Answer.TheVariants.{Done, Refused}
+use Rattle.quant.specs.Refusal.{Answer}
+use Rattle.quant.specs.declared.refusal.Refusal.{Refusal}
+use Rattle.std.specs.Prelude.{ℕ, List, [], ◌∷◌, ◌++◌, Float, length, Result, Ok, Err}
 use Rattle.quant.specs.declared.settings.Settings.{Settings}
 use Rattle.pulse.specs.declared.bin.Bin.{Bin}
 use Rattle.pulse.specs.declared.list.Pulse.{Pulse}
 use Rattle.pulse.specs.Bin.{bin_of, numbers_of}
 use Rattle.placing.specs.declared.Judged.{Judged}
-use Rattle.placing.specs.declared.Judged.TheVariants as judgement
 use Rattle.placing.specs.declared.Judged.TheVariants.{Plateau, Shaped}
 use Rattle.placing.specs.Judged.{judged}
 use Rattle.mixdown.specs.Sampled.{Rowed, added_to}
@@ -37,16 +36,16 @@ with_all s rows (d ∷ ds) st = with_all s rows ds (added_to s d.bin d.numbers r
 
 -- the count or the place of an answer
 abbrev pub count_in : Answer → ℕ
-count_in (Done k) = k
-count_in (Refused r k) = k
+count_in (Ok k) = k
+count_in (Err e) = e.place
 
 -- the samples that an accepted pulse is added onto: from where, and how many; of a refused one none
-abbrev pub from_of : Judged → ℕ
-from_of (Plateau f) = f.start
-from_of (Shaped c) = c.start
-from_of (judgement.Refused r) = 0
+abbrev pub from_of : Result Judged Refusal → ℕ
+from_of (Ok (Plateau f)) = f.start
+from_of (Ok (Shaped c)) = c.start
+from_of (Err r) = 0
 
-abbrev pub length_of : Judged → ℕ
-length_of (Plateau f) = f.count
-length_of (Shaped c) = c.points
-length_of (judgement.Refused r) = 0
+abbrev pub length_of : Result Judged Refusal → ℕ
+length_of (Ok (Plateau f)) = f.count
+length_of (Ok (Shaped c)) = c.points
+length_of (Err r) = 0

@@ -1,4 +1,5 @@
 -- What the call's definition says: how many points there are, what stays of the scratch, and that a refused call leaves it as it came. Assumes nothing.
+use Rattle.std.specs.Prelude.{Result, Ok, Err}
 use Rattle.std.proofs.Common.{◌≡◌, ℕ, zero, suc, ◌+◌, ◌-◌, ◌<◌, ◌≤◌, Bool, true, false, cond, ltb, ◌⊎◌, List, ◌++◌, length, get_or, take, drop, replicate, refl, ap, ◌∙◌, inl, inr, le_of_suc-le-suc, not-suc-le-zero, arith, length-append, length-drop, take_at, drop_at}
 use lib.ListN.{length-replicate}
 use lib.Ieee.{Float, nan, lt, eq}
@@ -7,9 +8,6 @@ use Rattle.quant.specs.declared.refusal.Refusal.{Refusal}
 use Rattle.quant.specs.declared.refusal.Refusal.TheVariants.{ShapeTooShort, EndPastRow, NotFinite}
 use Rattle.pulse.specs.declared.envelope.Shape.{Shape}
 use Rattle.shape.specs.declared.parts.Parts.{Parts}
-use Rattle.shape.specs.declared.parts.Parted.{Parted}
-use Rattle.shape.specs.declared.parts.Parted.TheVariants as parted
-use Rattle.shape.specs.declared.envelope.Enveloped.TheVariants.{Points, Refused}
 use Rattle.points.specs.Points.{point_at}
 use Rattle.shape.specs.Segment.{envelope_at, values}
 use Rattle.shape.specs.Parts.{index_at, t1, t3, unbroken, broken, in_order, parted_of}
@@ -48,35 +46,35 @@ module _ (shape : Shape) (numbers : List Float) where
   rest-stays p old fit = drop_at (shape_of shape numbers p) (drop p.length old) p.length (shape-length p (length old) fit)
 
   -- a refused call leaves it as it came
-  pub refused-stays : (q : Parted) (old : List Float) (r : Refusal) → enveloped_of shape numbers q ≡ Refused r → scratch_after shape numbers q old ≡ old
-  refused-stays (parted.Within p) old r e = by (fine_points shape numbers p) e
+  pub refused-stays : (q : Result Parts Refusal) (old : List Float) (r : Refusal) → enveloped_of shape numbers q ≡ Err r → scratch_after shape numbers q old ≡ old
+  refused-stays (Ok p) old r e = by (fine_points shape numbers p) e
     where
-      by : (b : Bool) → cond b (Points p.length) (Refused NotFinite) ≡ Refused r → cond b (shape_of shape numbers p ++ drop p.length old) old ≡ old
+      by : (b : Bool) → cond b (Ok p.length) (Err NotFinite) ≡ Err r → cond b (shape_of shape numbers p ++ drop p.length old) old ≡ old
       by true e = let z : ◌≡◌ {A = ℕ} 0 1 = cc in absurd (omega arith)
       by false e = refl
-  refused-stays (parted.Refused s) old r e = refl
+  refused-stays (Err s) old r e = refl
 
   -- accepted, the envelope has no more points than there is room for
-  pub points-fit : (w p o rate dt : Float) (room n : ℕ) → enveloped_of shape numbers (parted_of w p o rate dt room) ≡ Points n → n ≤ room
+  pub points-fit : (w p o rate dt : Float) (room n : ℕ) → enveloped_of shape numbers (parted_of w p o rate dt room) ≡ Ok n → n ≤ room
   points-fit w p o rate dt room n e = by (parted_of w p o rate dt room) refl e
     where
-      within : (q : Parts) (b : Bool) → Fitting q room → cond b (Points q.length) (Refused NotFinite) ≡ Points n → n ≤ room
+      within : (q : Parts) (b : Bool) → Fitting q room → cond b (Ok q.length) (Err NotFinite) ≡ Ok n → n ≤ room
       within q true fit e = let z : q.length ≡ n = cc in omega (arith, z, fit.room)
       within q false fit e = let z : ◌≡◌ {A = ℕ} 0 1 = cc in absurd (omega arith)
 
-      by : (q : Parted) → parted_of w p o rate dt room ≡ q → enveloped_of shape numbers q ≡ Points n → n ≤ room
-      by (parted.Within q) f e = within q (fine_points shape numbers q) (within-fits room q w p o rate dt f) e
-      by (parted.Refused r) f e = let z : ◌≡◌ {A = ℕ} 0 1 = cc in absurd (omega arith)
+      by : (q : Result Parts Refusal) → parted_of w p o rate dt room ≡ q → enveloped_of shape numbers q ≡ Ok n → n ≤ room
+      by (Ok q) f e = within q (fine_points shape numbers q) (within-fits room q w p o rate dt f) e
+      by (Err r) f e = let z : ◌≡◌ {A = ℕ} 0 1 = cc in absurd (omega arith)
 
   -- ---- 11 is given exactly where t1 < 0 (that it is given there is `too_short` of proofs/Laying.antt)
-  not_eleven : (p : Parts) → filled_of shape numbers p ≡ Refused ShapeTooShort → ⊥
+  not_eleven : (p : Parts) → filled_of shape numbers p ≡ Err ShapeTooShort → ⊥
   not_eleven p e = by (fine_points shape numbers p) e
     where
-      by : (b : Bool) → cond b (Points p.length) (Refused NotFinite) ≡ Refused ShapeTooShort → ⊥
+      by : (b : Bool) → cond b (Ok p.length) (Err NotFinite) ≡ Err ShapeTooShort → ⊥
       by true e = let z : ◌≡◌ {A = ℕ} 0 1 = cc in omega arith
       by false e = let z : ◌≡◌ {A = ℕ} 0 1 = cc in omega arith
 
-  pub eleven : (w p o rate dt : Float) (room : ℕ) → enveloped_of shape numbers (parted_of w p o rate dt room) ≡ Refused ShapeTooShort → lt (t1 w p o rate dt) nought ≡ true
+  pub eleven : (w p o rate dt : Float) (room : ℕ) → enveloped_of shape numbers (parted_of w p o rate dt room) ≡ Err ShapeTooShort → lt (t1 w p o rate dt) nought ≡ true
   unfolding parted_of
   eleven w p o rate dt room e =
       let n = index_at (t3 w p o rate dt) rate in
@@ -84,7 +82,7 @@ module _ (shape : Shape) (numbers : List Float) where
       by (unbroken w p o rate dt n) v (lt (t1 w p o rate dt) nought) (ltb room n) (eq p nought) (in_order v.start v.end n) e
     where
       by : (u v : Parts) (a b c d : Bool)
-          → enveloped_of shape numbers (cond a (parted.Refused ShapeTooShort) (cond b (parted.Refused EndPastRow) (cond c (parted.Within u) (cond d (parted.Within v) (parted.Refused EndPastRow))))) ≡ Refused ShapeTooShort
+          → enveloped_of shape numbers (cond a (Err ShapeTooShort) (cond b (Err EndPastRow) (cond c (Ok u) (cond d (Ok v) (Err EndPastRow))))) ≡ Err ShapeTooShort
           → a ≡ true
       by u v true b c d e = refl
       by u v false true c d e = let z : ◌≡◌ {A = ℕ} 0 1 = cc in absurd (omega arith)
@@ -93,14 +91,14 @@ module _ (shape : Shape) (numbers : List Float) where
       by u v false false false false e = let z : ◌≡◌ {A = ℕ} 0 1 = cc in absurd (omega arith)
 
   -- ---- no other number than 11, 12 and 8 is given
-  filled-refused : (p : Parts) (r : Refusal) → filled_of shape numbers p ≡ Refused r → (r ≡ ShapeTooShort) ⊎ ((r ≡ EndPastRow) ⊎ (r ≡ NotFinite))
+  filled-refused : (p : Parts) (r : Refusal) → filled_of shape numbers p ≡ Err r → (r ≡ ShapeTooShort) ⊎ ((r ≡ EndPastRow) ⊎ (r ≡ NotFinite))
   filled-refused p r e = by (fine_points shape numbers p) e
     where
-      by : (b : Bool) → cond b (Points p.length) (Refused NotFinite) ≡ Refused r → (r ≡ ShapeTooShort) ⊎ ((r ≡ EndPastRow) ⊎ (r ≡ NotFinite))
+      by : (b : Bool) → cond b (Ok p.length) (Err NotFinite) ≡ Err r → (r ≡ ShapeTooShort) ⊎ ((r ≡ EndPastRow) ⊎ (r ≡ NotFinite))
       by true e = let z : ◌≡◌ {A = ℕ} 0 1 = cc in absurd (omega arith)
       by false e = inr (inr (cc))
 
-  pub refused-by : (w p o rate dt : Float) (room : ℕ) (r : Refusal) → enveloped_of shape numbers (parted_of w p o rate dt room) ≡ Refused r → (r ≡ ShapeTooShort) ⊎ ((r ≡ EndPastRow) ⊎ (r ≡ NotFinite))
+  pub refused-by : (w p o rate dt : Float) (room : ℕ) (r : Refusal) → enveloped_of shape numbers (parted_of w p o rate dt room) ≡ Err r → (r ≡ ShapeTooShort) ⊎ ((r ≡ EndPastRow) ⊎ (r ≡ NotFinite))
   unfolding parted_of
   refused-by w p o rate dt room r e =
       let n = index_at (t3 w p o rate dt) rate in
@@ -108,7 +106,7 @@ module _ (shape : Shape) (numbers : List Float) where
       by (unbroken w p o rate dt n) v (lt (t1 w p o rate dt) nought) (ltb room n) (eq p nought) (in_order v.start v.end n) e
     where
       by : (u v : Parts) (a b c d : Bool)
-          → enveloped_of shape numbers (cond a (parted.Refused ShapeTooShort) (cond b (parted.Refused EndPastRow) (cond c (parted.Within u) (cond d (parted.Within v) (parted.Refused EndPastRow))))) ≡ Refused r
+          → enveloped_of shape numbers (cond a (Err ShapeTooShort) (cond b (Err EndPastRow) (cond c (Ok u) (cond d (Ok v) (Err EndPastRow))))) ≡ Err r
           → (r ≡ ShapeTooShort) ⊎ ((r ≡ EndPastRow) ⊎ (r ≡ NotFinite))
       by u v true b c d e = inl (cc)
       by u v false true c d e = inr (inl (cc))

@@ -1,5 +1,6 @@
 -- The scratch as its three parts are put into it one after the other, and what the call leaves. Assumes nothing.
-use Rattle.std.proofs.Common.{◌≡◌, ℕ, zero, suc, ◌+◌, ◌-◌, ◌<◌, ◌≤◌, Bool, true, false, cond, ltb, leb, List, [], ◌++◌, length, drop, replicate, sym, refl, ap, ◌∙◌, subst, append_assoc, le_trans, le_refl, le_of_lt, arith, length-append, length-drop, drop-drop, take_at, drop_at, ltb-false, le-leb, leb-false, leb-true}
+use Rattle.std.specs.Prelude.{Ok, Err}
+use Rattle.std.proofs.Common.{◌≡◌, ℕ, min, zero, suc, ◌+◌, ◌-◌, ◌<◌, ◌≤◌, Bool, true, false, cond, ltb, leb, List, ◌++◌, length, drop, replicate, sym, refl, ap, ◌∙◌, subst, append_assoc, le_trans, le_refl, le_of_lt, arith, length-append, length-drop, length-take-le, take, drop-drop, take_at, drop_at, ltb-false, le-leb, leb-false, leb-true}
 use lib.ListN.{length-replicate}
 use lib.Ieee.{Float, lt, eq}
 use borrow.Rule.Slice.PartMut.{mid_of, put_mid, Post-is, mid_len}
@@ -8,8 +9,6 @@ use Rattle.exact.proofs.Truth.{both}
 use Rattle.quant.specs.declared.refusal.Refusal.TheVariants.{ShapeTooShort, EndPastRow, NotFinite}
 use Rattle.pulse.specs.declared.envelope.Shape.{Shape}
 use Rattle.shape.specs.declared.parts.Parts.{Parts}
-use Rattle.shape.specs.declared.parts.Parted.TheVariants as parted
-use Rattle.shape.specs.declared.envelope.Enveloped.TheVariants.{Points, Refused}
 use Rattle.shape.specs.Segment.{values}
 use Rattle.shape.specs.Parts.{index_at, t1, t3, unbroken, broken, in_order, parted_of}
 use Rattle.shape.specs.Envelope.{least, limit_of, shape_of, fine_points, filled_of, scratch_filled, Fitting}
@@ -40,12 +39,12 @@ sized old xs front a is size h =
 -- ---- head, plateau and tail, in this order
 module _ (shape : Shape) (numbers : List Float) (p : Parts) (old : List Float) (fit : Fitting p (length old)) (head ones tail : List Float) where
   abbrev after-head : List Float
-  after-head = put_mid 0 (p.start - 0) old head
+  after-head = head ++ drop p.start old
 
   abbrev after-ones : List Float
   after-ones = put_mid p.start (p.end - p.start) after-head ones
 
-  module _ (a : head ≡ values shape numbers (length (mid_of 0 (p.start - 0) old)) 0 p.x0 p.dx) (b : ones ≡ replicate (length (mid_of p.start (p.end - p.start) after-head)) one) (c : tail ≡ values shape numbers (length (mid_of p.end (p.length - p.end) after-ones)) 0 p.x2 p.dx) where
+  module _ (a : head ≡ values shape numbers (length (take p.start old)) 0 p.x0 p.dx) (b : ones ≡ replicate (length (mid_of p.start (p.end - p.start) after-head)) one) (c : tail ≡ values shape numbers (length (mid_of p.end (p.length - p.end) after-ones)) 0 p.x2 p.dx) where
     start-within : p.start ≤ length old
     start-within = omega (arith, fit.head, fit.tail, fit.room)
 
@@ -53,13 +52,13 @@ module _ (shape : Shape) (numbers : List Float) (p : Parts) (old : List Float) (
     end-within = omega (arith, fit.tail, fit.room)
 
     head-is : head ≡ values shape numbers p.start 0 p.x0 p.dx
-    head-is = a ∙ ap (λ (n : ℕ). values shape numbers n 0 p.x0 p.dx) (mid_len 0 p.start old start-within ∙ (omega arith))
+    head-is = a ∙ ap (λ (n : ℕ). values shape numbers n 0 p.x0 p.dx) (length-take-le p.start old start-within)
 
     head-length : length head ≡ p.start
     head-length = ap length head-is ∙ values_length shape numbers p.start 0 p.x0 p.dx
 
     head-laid : after-head ≡ head ++ drop p.start old
-    head-laid = laid old old [] head 0 p.start refl refl (omega arith)
+    head-laid = refl
 
     head-sized : length after-head ≡ length old
     head-sized = sized old after-head head p.start head-laid head-length start-within
@@ -90,16 +89,16 @@ module _ (shape : Shape) (numbers : List Float) (p : Parts) (old : List Float) (
 
 -- ---- what the call answers and leaves
 module _ (shape : Shape) (numbers : List Float) (p : Parts) (old : List Float) where
-  pub refused : fine_points shape numbers p ≡ false → (Refused NotFinite ≡ filled_of shape numbers p) × (old ≡ scratch_filled shape numbers p old)
+  pub refused : fine_points shape numbers p ≡ false → (Err NotFinite ≡ filled_of shape numbers p) × (old ≡ scratch_filled shape numbers p old)
   refused e = (rw e, rw e)
 
-  pub filled : fine_points shape numbers p ≡ true → (xs : List Float) → xs ≡ shape_of shape numbers p ++ drop p.length old → (Points p.length ≡ filled_of shape numbers p) × (xs ≡ scratch_filled shape numbers p old)
+  pub filled : fine_points shape numbers p ≡ true → (xs : List Float) → xs ≡ shape_of shape numbers p ++ drop p.length old → (Ok p.length ≡ filled_of shape numbers p) × (xs ≡ scratch_filled shape numbers p old)
   filled e xs is = (rw e, rw (e, is))
 
 -- ---- parts that are within a room
 module _ (room : ℕ) (q : Parts) where
   settled : (u v : Parts) (a b c d : Bool) → (b ≡ false → Fitting u room) → (b ≡ false → d ≡ true → Fitting v room)
-      → cond a (parted.Refused ShapeTooShort) (cond b (parted.Refused EndPastRow) (cond c (parted.Within u) (cond d (parted.Within v) (parted.Refused EndPastRow)))) ≡ parted.Within q
+      → cond a (Err ShapeTooShort) (cond b (Err EndPastRow) (cond c (Ok u) (cond d (Ok v) (Err EndPastRow)))) ≡ Ok q
       → Fitting q room
   settled u v true b c d f g e = let z : ◌≡◌ {A = ℕ} 0 1 = cc in absurd (omega arith)
   settled u v false true c d f g e = let z : ◌≡◌ {A = ℕ} 0 1 = cc in absurd (omega arith)
@@ -107,7 +106,7 @@ module _ (room : ℕ) (q : Parts) where
   settled u v false false false true f g e = let z : v ≡ q = cc in subst (λ (r : Parts). Fitting r room) z (g refl refl)
   settled u v false false false false f g e = let z : ◌≡◌ {A = ℕ} 0 1 = cc in absurd (omega arith)
 
-  pub within-fits : (w p o rate dt : Float) → parted_of w p o rate dt room ≡ parted.Within q → Fitting q room
+  pub within-fits : (w p o rate dt : Float) → parted_of w p o rate dt room ≡ Ok q → Fitting q room
   unfolding parted_of
   within-fits w p o rate dt e =
       let n = index_at (t3 w p o rate dt) rate in
@@ -121,6 +120,13 @@ module _ (room : ℕ) (q : Parts) where
 -- parts within a room are within a larger one, as a scratch is that is at least as long
 pub fits_more : (q : Parts) (n m : ℕ) → n ≤ m → Fitting q n → Fitting q m
 fits_more q n m h fit = record { head = fit.head; tail = fit.tail; room = omega (arith, fit.room) }
+
+pub least-is : (a b : ℕ) → min a b ≡ least a b
+least-is a b = by (leb a b) (leb-true a b) (leb-false a b)
+  where
+    by : (c : Bool) → (c ≡ true → a ≤ b) → (c ≡ false → b < a) → min a b ≡ cond c a b
+    by true f g = let h = f refl in omega arith
+    by false f g = let h = g refl in omega arith
 
 pub least-left : (a b : ℕ) → least a b ≤ a
 least-left a b = by (leb a b) (leb-false a b)

@@ -1,7 +1,7 @@
-pub mod Tests
+pub mod Bounds
+pub mod Laying
 pub mod Near
 pub mod Shapes
-pub mod Laying
 pub mod Filling
 pub mod Envelopes
 pub mod Ends

@@ -1,5 +1,7 @@
 -- 12 is given exactly where t1 is not below 0 and the envelope has more points than there is room for, since parts out of order cannot be: a plateau
 -- of either zero has no parts to put in order. Assumes nothing.
+use Rattle.std.specs.Prelude.{Result, Ok, Err}
+use Rattle.quant.specs.declared.refusal.Refusal.{Refusal}
 use Rattle.std.proofs.Common.{◌≡◌, ℕ, ◌+◌, ◌^◌, ◌<◌, Bool, true, false, cond, T, ltb, List, sym, refl, ◌∙◌, subst, true≢false, arith, pow_pos, ltb-false, ltb-true}
 use lib.Ieee.{Float, binary64, mul, lt, eq, fits}
 use lib.Ieee.Fits.{mul-fits}
@@ -11,9 +13,6 @@ use Rattle.exact.proofs.Value.{own}
 use Rattle.quant.specs.declared.refusal.Refusal.TheVariants.{ShapeTooShort, EndPastRow, NotFinite}
 use Rattle.pulse.specs.declared.envelope.Shape.{Shape}
 use Rattle.shape.specs.declared.parts.Parts.{Parts}
-use Rattle.shape.specs.declared.parts.Parted.{Parted}
-use Rattle.shape.specs.declared.parts.Parted.TheVariants.{Within, Refused}
-use Rattle.shape.specs.declared.envelope.Enveloped.TheVariants as enveloped
 use Rattle.shape.specs.Parts.{index_at, t1, t2, t3, unbroken, broken, in_order, parted_of}
 use Rattle.shape.specs.Envelope.{fine_points, enveloped_of}
 use Rattle.shape.proofs.Rising.{last, zero-size, in_order_lem}
@@ -30,11 +29,11 @@ above_zero x f t low apart = by (sign_of x) (own x f t)
         absurd (omega (arith, none, more))
 
 -- an envelope that is refused by 12 has parts that are
-parts-past : (shape : Shape) (numbers : List Float) (q : Parted) → enveloped_of shape numbers q ≡ enveloped.Refused EndPastRow → q ≡ Refused EndPastRow
-parts-past shape numbers (Refused r) e = cc
-parts-past shape numbers (Within p) e = by (fine_points shape numbers p) e
+parts-past : (shape : Shape) (numbers : List Float) (q : Result Parts Refusal) → enveloped_of shape numbers q ≡ Err EndPastRow → q ≡ Err EndPastRow
+parts-past shape numbers (Err r) e = cc
+parts-past shape numbers (Ok p) e = by (fine_points shape numbers p) e
   where
-    by : (b : Bool) → cond b (enveloped.Points p.length) (enveloped.Refused NotFinite) ≡ enveloped.Refused EndPastRow → Within p ≡ Refused EndPastRow
+    by : (b : Bool) → cond b (Ok p.length) (Err NotFinite) ≡ Err EndPastRow → Ok p ≡ Err EndPastRow
     by true f = let z : ◌≡◌ {A = ℕ} 0 1 = cc in absurd (omega arith)
     by false f = let z : ◌≡◌ {A = ℕ} 0 1 = cc in absurd (omega arith)
 
@@ -74,12 +73,12 @@ module _ (w p o rate dt : Float) (m : Measurable w p o rate dt) where
       (own off (mul-fits binary64 o dt) m.offset-finite)
       f within
 
-  parts_twelve : (room : ℕ) → room < last → parted_of w p o rate dt room ≡ Refused EndPastRow → PastRoom w p o rate dt room
+  parts_twelve : (room : ℕ) → room < last → parted_of w p o rate dt room ≡ Err EndPastRow → PastRoom w p o rate dt room
   unfolding parted_of
   parts_twelve room h e = by (unbroken w p o rate dt n) (broken w p o rate dt n) (lt (t1 w p o rate dt) nought) (ltb room n) (eq p nought) (in_order (index_at (t1 w p o rate dt) rate) (index_at (t2 w p o rate dt) rate) n) refl refl refl refl e
     where
       by : (u v : Parts) (a b c d : Bool) → lt (t1 w p o rate dt) nought ≡ a → ltb room n ≡ b → eq p nought ≡ c → in_order (index_at (t1 w p o rate dt) rate) (index_at (t2 w p o rate dt) rate) n ≡ d
-          → cond a (Refused ShapeTooShort) (cond b (Refused EndPastRow) (cond c (Within u) (cond d (Within v) (Refused EndPastRow)))) ≡ Refused EndPastRow
+          → cond a (Err ShapeTooShort) (cond b (Err EndPastRow) (cond c (Ok u) (cond d (Ok v) (Err EndPastRow)))) ≡ Err EndPastRow
           → PastRoom w p o rate dt room
       by u v true b c d f g j k e = let z : ◌≡◌ {A = ℕ} 0 1 = cc in absurd (omega arith)
       by u v false true c d f g j k e = record { reaches = f; past = ltb-true room n g }
@@ -88,5 +87,5 @@ module _ (w p o rate dt : Float) (m : Measurable w p o rate dt) where
       by u v false false false false f g j k e = absurd (true≢false (sym (parts-ordered j f (omega (arith, ltb-false room n g))) ∙ k))
 
   -- that it is given there is `past_row` of proofs/Laying.antt
-  pub twelve : (shape : Shape) (numbers : List Float) (room : ℕ) → room < last → enveloped_of shape numbers (parted_of w p o rate dt room) ≡ enveloped.Refused EndPastRow → PastRoom w p o rate dt room
+  pub twelve : (shape : Shape) (numbers : List Float) (room : ℕ) → room < last → enveloped_of shape numbers (parted_of w p o rate dt room) ≡ Err EndPastRow → PastRoom w p o rate dt room
   twelve shape numbers room h e = parts_twelve room h (parts-past shape numbers (parted_of w p o rate dt room) e)

@@ -1,16 +1,12 @@
 -- Document 01, "Placing and sampling": the envelope's points in the scratch. "With a plateau it holds 1"; "all checks come before the first
 -- store, and the rest of the scratch stays"; refusal 8 for "each point taken, but not x0, dx, x2 alone". Definitions only.
-use Rattle.std.specs.Prelude.{ℕ, ◌-◌, ◌≤◌, Bool, cond, ◌&&◌, List, ◌++◌, drop, replicate, nat_le, Float}
+use Rattle.quant.specs.Refusal.{Answer, refuse}
+use Rattle.std.specs.Prelude.{ℕ, ◌-◌, ◌≤◌, Bool, cond, ◌&&◌, List, ◌++◌, drop, replicate, nat_le, Float, Result, Ok, Err}
+use Rattle.quant.specs.declared.refusal.Refusal.{Refusal}
 use Rattle.exact.specs.Doubles.{one}
-use Rattle.quant.specs.declared.refusal.Answer.{Answer}
-use Rattle.quant.specs.declared.refusal.Answer.TheVariants as answer
 use Rattle.quant.specs.declared.refusal.Refusal.TheVariants.{NotFinite}
 use Rattle.rows.specs.Rows.{all_finite}
 use Rattle.shape.specs.declared.parts.Parts.{Parts}
-use Rattle.shape.specs.declared.parts.Parted.{Parted}
-use Rattle.shape.specs.declared.parts.Parted.TheVariants as parted
-use Rattle.shape.specs.declared.envelope.Enveloped.{Enveloped}
-use Rattle.shape.specs.declared.envelope.Enveloped.TheVariants.{Points, Refused}
 use Rattle.points.specs.Points.{points}
 use Rattle.pulse.specs.declared.envelope.Shape.{Shape}
 use Rattle.pulse.specs.declared.envelope.Shape.TheVariants.{Spline}
@@ -48,25 +44,25 @@ module _ (shape : Shape) (numbers : List Float) where
       finite_points p
       && (all_fine shape numbers (points p.start 0 p.x0 p.dx) && all_fine shape numbers (points (p.length - p.end) 0 p.x2 p.dx))
 
-  abbrev pub filled_of : Parts → Enveloped
-  filled_of p = cond (fine_points p) (Points p.length) (Refused NotFinite)
+  abbrev pub filled_of : Parts → Result ℕ Refusal
+  filled_of p = cond (fine_points p) (Ok p.length) (Err NotFinite)
 
   abbrev pub scratch_filled : Parts → List Float → List Float
   scratch_filled p old = cond (fine_points p) (shape_of p ++ drop p.length old) old
 
   -- what the call answers, and the scratch afterwards; refused, it stays as it came
-  abbrev pub enveloped_of : Parted → Enveloped
-  enveloped_of (parted.Within p) = filled_of p
-  enveloped_of (parted.Refused r) = Refused r
+  abbrev pub enveloped_of : Result Parts Refusal → Result ℕ Refusal
+  enveloped_of (Ok p) = filled_of p
+  enveloped_of (Err r) = Err r
 
-  abbrev pub scratch_after : Parted → List Float → List Float
-  scratch_after (parted.Within p) old = scratch_filled p old
-  scratch_after (parted.Refused r) old = old
+  abbrev pub scratch_after : Result Parts Refusal → List Float → List Float
+  scratch_after (Ok p) old = scratch_filled p old
+  scratch_after (Err r) old = old
 
 -- what the cases answer
-abbrev pub enveloped_answer : Enveloped → Answer
-enveloped_answer (Points n) = answer.Done 0
-enveloped_answer (Refused r) = answer.Refused r 0
+abbrev pub enveloped_answer : Result ℕ Refusal → Answer
+enveloped_answer (Ok n) = Ok 0
+enveloped_answer (Err r) = refuse r 0
 
 -- parts in order, within a scratch of n samples
 pub record Fitting (p : Parts) (n : ℕ) : Type 0 where

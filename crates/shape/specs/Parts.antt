@@ -1,7 +1,9 @@
 -- Document 01, "Placing and sampling", the parts of a Hann envelope: "t1 = width/2 - offset*dt, t2 = (width/2 + plateau) - offset*dt,
 -- t3 = (width + plateau) - offset*dt; ceilings of each times rate give plateau start, end and length; x0 = -t1/width, dx = dt/width"; "the tail
 -- starts at x2 = (fused end*dt - t2)/width". Each operation rounds once. Definitions only.
-use Rattle.std.specs.Prelude.{ℕ, Bool, cond, ◌&&◌, nat_le, nat_lt, Float}
+use Rattle.quant.specs.Refusal.{Answer, refuse}
+use Rattle.std.specs.Prelude.{ℕ, Bool, cond, ◌&&◌, nat_le, nat_lt, Float, Result, Ok, Err}
+use Rattle.quant.specs.declared.refusal.Refusal.{Refusal}
 use Rattle.std.specs.Float.{binary64}
 use Rattle.std.specs.Float.Ieee.{add, sub, mul, div, neg, lt, eq}
 use Rattle.exact.specs.Doubles.{nought, two}
@@ -10,12 +12,8 @@ use Rattle.ieee.specs.Cut.{cut_of}
 use Rattle.fma.specs.Fused.{fma}
 use Rattle.ieee.specs.declared.cut.Cut.{Cut}
 use Rattle.ieee.specs.declared.cut.Cut.TheVariants as cut
-use Rattle.quant.specs.declared.refusal.Answer.{Answer}
-use Rattle.quant.specs.declared.refusal.Answer.TheVariants as answer
 use Rattle.quant.specs.declared.refusal.Refusal.TheVariants.{ShapeTooShort, EndPastRow}
 use Rattle.shape.specs.declared.parts.Parts.{Parts}
-use Rattle.shape.specs.declared.parts.Parted.{Parted}
-use Rattle.shape.specs.declared.parts.Parted.TheVariants.{Within, Refused}
 use Rattle.points.specs.Points.{number}
 
 -- an index of what a number is cut to: the Rust's cast stops at 0 and at 2^64 - 1, and takes a NaN to 0
@@ -61,18 +59,18 @@ module _ (width plateau offset rate dt : Float) where
 abbrev pub in_order : ℕ → ℕ → ℕ → Bool
 in_order start end length = nat_le start end && nat_le end length
 
-abbrev pub ordered : Parts → Parted
-ordered p = cond (in_order p.start p.end p.length) (Within p) (Refused EndPastRow)
+abbrev pub ordered : Parts → Result Parts Refusal
+ordered p = cond (in_order p.start p.end p.length) (Ok p) (Err EndPastRow)
 
 -- 11 where t1 < 0, then 12 where the envelope has more samples than there is room for, which is so where its end overflows
-unfoldable pub parted_of : Float → Float → Float → Float → Float → ℕ → Parted
+unfoldable pub parted_of : Float → Float → Float → Float → Float → ℕ → Result Parts Refusal
 parted_of width plateau offset rate dt room =
     let n = index_at (t3 width plateau offset rate dt) rate in
-    cond (lt (t1 width plateau offset rate dt) nought) (Refused ShapeTooShort)
-    (cond (nat_lt room n) (Refused EndPastRow)
-    (cond (eq plateau nought) (Within (unbroken width plateau offset rate dt n)) (ordered (broken width plateau offset rate dt n))))
+    cond (lt (t1 width plateau offset rate dt) nought) (Err ShapeTooShort)
+    (cond (nat_lt room n) (Err EndPastRow)
+    (cond (eq plateau nought) (Ok (unbroken width plateau offset rate dt n)) (ordered (broken width plateau offset rate dt n))))
 
 -- what the cases answer
-abbrev pub parted_answer : Parted → Answer
-parted_answer (Within p) = answer.Done 0
-parted_answer (Refused r) = answer.Refused r 0
+abbrev pub parted_answer : Result Parts Refusal → Answer
+parted_answer (Ok p) = Ok 0
+parted_answer (Err r) = refuse r 0

@@ -1,6 +1,6 @@
 // Where the parts of an envelope begin and end among the samples. The Rust's `get_envelope_cached`, without its points.
 ghost use Rattle.std.specs.Prelude.{◌≡◌};
-ghost use Rattle.shape.specs.Parts.{index_at, in_order, broken, ordered, parted_of};
+ghost use Rattle.shape.specs.Parts.{index_at, broken, ordered, parted_of};
 
 use ieee::ceil::ceil;
 use ieee::cut::{Cut, cut_off};
@@ -21,14 +21,8 @@ pub struct Parts {
     pub length: usize,
 }
 
-#[derive(Clone, Copy)]
-pub enum Parted {
-    Within(Parts),
-    // ShapeTooShort or EndPastRow, in this order. `parted_answer` says what it answers.
-    Refused(Refusal),
-}
-
 // The parts of the envelope of a pulse that starts `offset` samples behind its aligned index, in a row that has room for `room` samples more.
+#[tactic(auto, unfolding(crate::specs::Parts::parted_of))]
 pub fn lay_out(
     width: Time,
     plateau: Time,
@@ -36,21 +30,21 @@ pub fn lay_out(
     rate: Frequency,
     dt: Time,
     room: usize,
-) -> Parted
+) -> Result<Parts, Refusal>
     ensures { result ≡ parted_of width.0 plateau.0 offset rate.0 dt.0 room }
 {
     let late = offset * dt.0;
     let t1 = width.0 / 2.0 - late;
     if t1 < 0.0 {
-        return Parted::Refused(Refusal::ShapeTooShort);
+        return Err(Refusal::ShapeTooShort);
     }
     let length = index(width.0 + plateau.0 - late, rate.0);
     if room < length {
-        return Parted::Refused(Refusal::EndPastRow);
+        return Err(Refusal::EndPastRow);
     }
     if plateau.0 == 0.0 {
         let x0 = -t1 / width.0;
-        return Parted::Within(Parts {
+        return Ok(Parts {
             x0,
             dx: dt.0 / width.0,
             x2: x0,
@@ -70,7 +64,14 @@ pub fn samples(t: Time, rate: Frequency) -> usize
 }
 
 // With a plateau, where t1 is not below 0 and the length is known.
-fn three_parts(width: f64, plateau: f64, offset: f64, rate: f64, dt: f64, length: usize) -> Parted
+fn three_parts(
+    width: f64,
+    plateau: f64,
+    offset: f64,
+    rate: f64,
+    dt: f64,
+    length: usize,
+) -> Result<Parts, Refusal>
     ensures { result ≡ ordered (broken width plateau offset rate dt length) }
 {
     let late = offset * dt;
@@ -79,10 +80,10 @@ fn three_parts(width: f64, plateau: f64, offset: f64, rate: f64, dt: f64, length
     let t2 = half + plateau - late;
     let start = index(t1, rate);
     let end = index(t2, rate);
-    if !in_order(start, end, length) {
-        return Parted::Refused(Refusal::EndPastRow);
+    if end < start || length < end {
+        return Err(Refusal::EndPastRow);
     }
-    Parted::Within(Parts {
+    Ok(Parts {
         x0: -t1 / width,
         dx: dt / width,
         x2: mul_add(nearest_u64_to_f64(end as u64), dt, -t2) / width,
@@ -99,17 +100,7 @@ fn index(t: f64, rate: f64) -> usize
 {
     match cut_off(ceil(t * rate)) {
         Cut::Index(n) => n,
-        Cut::Below => 0,
-        Cut::Above => 18446744073709551615,
-        Cut::NotANumber => 0,
+        Cut::Below | Cut::NotANumber => 0,
+        Cut::Above => usize::MAX,
     }
-}
-
-fn in_order(start: usize, end: usize, length: usize) -> bool
-    ensures { result ≡ in_order start end length }
-{
-    if start <= end {
-        return end <= length;
-    }
-    false
 }

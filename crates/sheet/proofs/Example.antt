@@ -1,4 +1,6 @@
 -- Document 01, "The sheet": its example computed by the definition, read and printed; and three refusals. Assumes nothing.
+use Rattle.quant.specs.Refusal.{refuse}
+use Rattle.std.specs.Prelude.{Ok}
 use Prim.Native.Nat.{ℕ}
 use mathlib.Core.List.{List, [], ◌∷◌, ◌++◌}
 use mathlib.Core.Path.{◌≡◌, refl}
@@ -6,7 +8,6 @@ use lib.Ieee.{nan, of_bits, to_bits}
 use lib.ListN.{replicate}
 use Rattle.hexadecimal.specs.Hex.{all_digits, number, digits, digit_value, digit_of}
 use Rattle.naming.specs.Name.{name_byte, every, accepted, word_of, low_bytes, bytes_of_word, sixteen, bytes_of, named, naming_of, same_name, is_in}
-use Rattle.quant.specs.declared.refusal.Answer.TheVariants.{Done, Refused}
 use Rattle.quant.specs.declared.refusal.Refusal.TheVariants.{WrongSize, Layout}
 use Rattle.sheet.specs.Sheet as sheet
 use Rattle.sheet.specs.Sheet.{answer_of, outcome, names_of, matrix_of, sheet_text, sheet_of}
@@ -66,7 +67,7 @@ unfolding reading sheet.position sheet.blank sheet.eight names_of sheet.doubles 
     sixteen bytes_of to_bits
 printing = 0
 
-pub read-example : answer_of (outcome example 64) ≡ Done 2
+pub read-example : answer_of (outcome example 64) ≡ Ok 2
 unfolding reading
 read-example = refl
 
@@ -74,14 +75,14 @@ pub print-example : sheet_text (sheet_of 2 (names_of (outcome example 64)) (matr
 unfolding printing
 print-example = refl
 
-pub longer : answer_of (outcome (example ++ 10 ∷ []) 64) ≡ Refused Layout 10
+pub longer : answer_of (outcome (example ++ 10 ∷ []) 64) ≡ refuse Layout 10
 unfolding reading
 longer = refl
 
-pub empty : answer_of (outcome [] 64) ≡ Refused Layout 1
+pub empty : answer_of (outcome [] 64) ≡ refuse Layout 1
 unfolding reading
 empty = refl
 
-pub short-matrix : answer_of (outcome example 63) ≡ Refused WrongSize 0
+pub short-matrix : answer_of (outcome example 63) ≡ refuse WrongSize 0
 unfolding reading
 short-matrix = refl

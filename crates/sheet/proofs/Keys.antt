@@ -1,26 +1,36 @@
--- A key beside a line, byte by byte: what is parted from a place on. Assumes nothing.
-use Prim.Native.Nat.{ℕ, suc, ◌≤◌, ◌<◌}
-use mathlib.Core.Bool.{Bool, true, false, not, true≢false}
-use mathlib.Core.List.{List}
-use mathlib.Core.Path.{◌≡◌, refl, sym}
-use borrow.Author.Tests.{eq-eqb, ne_eqb}
-use lib.ListN.{length, get_or, drop, drop_of_length-le}
-use lib.Seq.{drop-cons}
-use Rattle.sheet.specs.Reader.{Starts}
+-- A key beside a line: what is parted. Assumes nothing.
+use Prim.Native.Nat.{ℕ, ◌≤◌, suc-le-suc, zero-le}
+use mathlib.Core.Bool.{Bool, true, false, ◌&&◌, not, cond, true≢false}
+use mathlib.Core.List.{List, [], ◌∷◌}
+use mathlib.Core.Path.{◌≡◌, refl, sym, ◌∙◌}
+use lib.Dec.{eqb}
+use lib.ListN.{length, drop}
+use Rattle.exact.proofs.Truth.{both}
+use Rattle.std.specs.List.{starts_with}
+use Rattle.sheet.specs.Reader.{Starts, parted}
 use Rattle.sheet.specs.Sheet.{behind, value, other}
 
-module _ (key line : List ℕ) (i : ℕ) (h : i < length key) where
-  pub line-ends : length line ≤ i → behind (drop i key) (drop i line) ≡ other
-  unfolding behind
-  line-ends k = rw (drop-cons key i 0 h, drop_of_length-le line k)
+-- ---- by the library's test of how a line starts
 
-  pub goes_on : i < length line → get_or line i 0 ≡ get_or key i 0 → behind (drop i key) (drop i line) ≡ behind (drop (suc i) key) (drop (suc i) line)
-  unfolding behind
-  goes_on k e = rw (drop-cons key i 0 h, drop-cons line i 0 k) (simp (eq-eqb _ _ (sym e)))
+further : (t : Bool) (k b : ℕ) (ks line : List ℕ) → parted t ks line ≡ parted t (k ∷ ks) (b ∷ line)
+further true k b ks line = refl
+further false k b ks line = refl
 
-  pub differs : i < length line → (get_or line i 0 ≡ get_or key i 0 → ⊥) → behind (drop i key) (drop i line) ≡ other
-  unfolding behind
-  differs k n = rw (drop-cons key i 0 h, drop-cons line i 0 k) (simp (ne_eqb _ _ (λ e. n (sym e))))
+pub parts-by : (key line : List ℕ) → behind key line ≡ parted (starts_with eqb line key) key line
+unfolding behind
+parts-by [] line = refl
+parts-by (k ∷ ks) [] = refl
+parts-by (k ∷ ks) (b ∷ line) = by (eqb k b) (parts-by ks line ∙ further (starts_with eqb line ks) k b ks line)
+  where
+    by : (t : Bool) → behind ks line ≡ parted (starts_with eqb line ks) (k ∷ ks) (b ∷ line)
+        → cond t (behind ks line) other ≡ parted (t && starts_with eqb line ks) (k ∷ ks) (b ∷ line)
+    by true e = e
+    by false e = refl
+
+pub reaches-by : (key line : List ℕ) → starts_with eqb line key ≡ true → length key ≤ length line
+reaches-by [] line e = zero-le
+reaches-by (k ∷ ks) [] e = absurd (true≢false (sym e))
+reaches-by (k ∷ ks) (b ∷ line) e = suc-le-suc (reaches-by ks line (both (eqb k b) (starts_with eqb line ks) e).1)
 
 -- ---- what the code's `if !starts(line, key)` tells
 

@@ -1,5 +1,7 @@
 -- A sheet's text line by line, as it is put, and how long it is; and what its first bad line says of its names and numbers. Assumes nothing.
-use Prim.Native.Nat.{ℕ, zero, suc, ◌+◌, ◌-◌, ◌*◌, ◌≤◌, ◌<◌}
+use Rattle.quant.specs.Refusal.{refuse, Answer}
+use Rattle.std.specs.Prelude.{Ok}
+use Prim.Native.Nat.{ℕ, zero, suc, ◌+◌, ◌*◌, ◌≤◌, ◌<◌}
 use mathlib.Core.Bool.{Bool, true, false, ◌&&◌, not, cond}
 use mathlib.Core.List.{List, [], ◌∷◌, ◌++◌, append_assoc}
 use mathlib.Core.Path.{◌≡◌, refl, sym, ap, ◌∙◌}
@@ -10,7 +12,7 @@ use lib.Dec.{leb}
 use lib.Ieee.{Float, binary64, to_bits, nan}
 use lib.Ieee.Scale.{finite}
 use lib.ListN.{length, get_or, take, drop, length-append, length-drop}
-use lib.Seq.{append_snoc, drop-cons, drop-drop, length-take-le, take_all, take-suc}
+use lib.Seq.{append_snoc, drop-cons, drop-drop, length-take-le, take-suc}
 use Rattle.hexadecimal.proofs.Number.{length_digits}
 use Rattle.hexadecimal.specs.Hex as hex
 use Rattle.naming.proofs.Named.{well-formed, length-bytes, writes}
@@ -19,12 +21,10 @@ use Rattle.naming.proofs.Words.{length-sixteen}
 use Rattle.naming.specs.Name as quant
 use Rattle.naming.specs.Name.{bytes_of, sixteen, is_name, is_in}
 use Rattle.naming.specs.declared.Name.{Name}
-use Rattle.quant.specs.declared.refusal.Answer.TheVariants.{Done, Refused}
 use Rattle.quant.specs.declared.refusal.Refusal.{Refusal}
 use Rattle.quant.specs.declared.refusal.Refusal.TheVariants.{Malformed, WrongSize, DoubledName}
 use Rattle.sheet.specs.Puts.{Put, name_line, factor_line, block_text, two_lines, names_size}
 use Rattle.sheet.specs.Sheet.{channels_key, column_key, row_key, factor_key, good_names, all_finite, patterns, count_text, columns_text, factors_text, blocks_text, blocks_of, sheet_of, sheet_text, print_fits, columns_judged, factor_at, factors_judged, printed_by, printed_of, bytes_after, Print}
-use Rattle.sheet.specs.declared.print.Printed.{Printed}
 use Rattle.sheet.proofs.Parts.{part-cons}
 
 -- ---- what the writers of names and words leave
@@ -70,14 +70,10 @@ module _ (names : List Name) (count : ℕ) (within : count ≤ length names) (i 
   good-next = rw (part-cons names count within i d h)
 
   pub columns-next : columns_judged (take i names) (drop i (take count names))
-      ≡ cond (not (is_name (get_or names i d))) (Refused Malformed (i + 2))
-      (cond (is_in (get_or names i d) (take i names)) (Refused DoubledName (i + 2)) (columns_judged (take (suc i) names) (drop (suc i) (take count names))))
+      ≡ cond (not (is_name (get_or names i d))) (refuse Malformed (i + 2))
+      (cond (is_in (get_or names i d) (take i names)) (refuse DoubledName (i + 2)) (columns_judged (take (suc i) names) (drop (suc i) (take count names))))
   unfolding columns_judged
   columns-next = rw (part-cons names count within i d h, take-suc names i d (omega arith), length-take-le i names (omega arith))
-
-  pub size-next : names_size (drop i (take count names)) ≡ two_lines (get_or names i d) + names_size (drop (suc i) (take count names))
-  unfolding names_size
-  size-next = rw (part-cons names count within i d h)
 
   pub blocks-line : (matrix : List Float)
       → blocks_text (blocks_of count (drop i (take count names)) (drop (i * count) matrix))
@@ -92,6 +88,10 @@ module _ (names : List Name) (count : ℕ) (within : count ≤ length names) (i 
       rw (part-cons names count within i d h, behind)
       (sym (append_assoc (name_line row_key n) numbers rest ∙ append_snoc (row_key ++ bytes_of n) 10 (numbers ++ rest)))
 
+pub size-next : (names : List Name) (i : ℕ) (d : Name) → i < length names → names_size (drop i names) ≡ two_lines (get_or names i d) + names_size (drop (suc i) names)
+unfolding names_size
+size-next names i d h = rw (drop-cons names i d h)
+
 module _ (numbers : List Float) (i : ℕ) (h : i < length numbers) where
   pub factors-line : factors_text (patterns (drop i numbers)) ≡ factor_line (get_or numbers i nan) ++ factors_text (patterns (drop (suc i) numbers))
   unfolding factors_text patterns
@@ -104,7 +104,7 @@ module _ (numbers : List Float) (i : ℕ) (h : i < length numbers) where
   finite-next = rw (drop-cons numbers i nan h)
 
   pub judged-next : (count : ℕ) → factors_judged count i (drop i numbers)
-      ≡ cond (finite (get_or numbers i nan)) (factors_judged count (suc i) (drop (suc i) numbers)) (Refused Malformed (factor_at count i))
+      ≡ cond (finite (get_or numbers i nan)) (factors_judged count (suc i) (drop (suc i) numbers)) (refuse Malformed (factor_at count i))
   unfolding factors_judged
   judged-next count = rw (drop-cons numbers i nan h)
 
@@ -132,12 +132,6 @@ bytes_most n = omega (arith, length-sixteen n.first n.second, short n.len (sixte
     short zero l = omega arith
     short (suc k) [] = omega arith
     short (suc k) (x ∷ l) = omega (arith, short k l)
-
-pub bytes_cut : (n : Name) → 16 < n.len → length (bytes_of n) ≡ 16
-unfolding bytes_of
-bytes_cut n h =
-    ap length (take_all n.len (sixteen n.first n.second) (omega (arith, length-sixteen n.first n.second)))
-    ∙ length-sixteen n.first n.second
 
 pub two-most : (n : Name) → two_lines n ≤ 45
 unfolding two_lines
@@ -202,32 +196,32 @@ module _ (count : ℕ) (names : List Name) (matrix : List Float) (within : count
 -- ---- the answer
 
 -- columns of which no line is bad are names
-pub good-columns : (before ns : List Name) (k : ℕ) → columns_judged before ns ≡ Done k → good_names ns ≡ true
+pub good-columns : (before ns : List Name) (k : ℕ) → columns_judged before ns ≡ Ok k → good_names ns ≡ true
 unfolding columns_judged good_names
 good-columns before [] k e = refl
 good-columns before (n ∷ ns) k e = by (is_name n) (is_in n before) e (good-columns (before ++ n ∷ []) ns k)
   where
     by : (t u : Bool)
-        → cond (not t) (Refused Malformed (length before + 2))
-        (cond u (Refused DoubledName (length before + 2)) (columns_judged (before ++ n ∷ []) ns)) ≡ Done k
-        → (columns_judged (before ++ n ∷ []) ns ≡ Done k → good_names ns ≡ true) → (t && good_names ns) ≡ true
+        → cond (not t) (refuse Malformed (length before + 2))
+        (cond u (refuse DoubledName (length before + 2)) (columns_judged (before ++ n ∷ []) ns)) ≡ Ok k
+        → (columns_judged (before ++ n ∷ []) ns ≡ Ok k → good_names ns ≡ true) → (t && good_names ns) ≡ true
     by false u q more = let z : ◌≡◌ {A = ℕ} 0 1 = cc in absurd (omega arith)
     by true true q more = let z : ◌≡◌ {A = ℕ} 0 1 = cc in absurd (omega arith)
     by true false q more = more q
 
 -- factors of which no line is bad are finite
-pub fine-factors : (count i : ℕ) (l : List Float) (k : ℕ) → factors_judged count i l ≡ Done k → all_finite l ≡ true
+pub fine-factors : (count i : ℕ) (l : List Float) (k : ℕ) → factors_judged count i l ≡ Ok k → all_finite l ≡ true
 unfolding factors_judged all_finite
 fine-factors count i [] k e = refl
 fine-factors count i (x ∷ l) k e = by (finite x) e (fine-factors count (suc i) l k)
   where
-    by : (t : Bool) → cond t (factors_judged count (suc i) l) (Refused Malformed (factor_at count i)) ≡ Done k
-        → (factors_judged count (suc i) l ≡ Done k → all_finite l ≡ true) → (t && all_finite l) ≡ true
+    by : (t : Bool) → cond t (factors_judged count (suc i) l) (refuse Malformed (factor_at count i)) ≡ Ok k
+        → (factors_judged count (suc i) l ≡ Ok k → all_finite l ≡ true) → (t && all_finite l) ≡ true
     by false q more = let z : ◌≡◌ {A = ℕ} 0 1 = cc in absurd (omega arith)
     by true q more = more q
 
 -- and finite factors have no bad line
-pub no-bad-factor : (count i : ℕ) (l : List Float) → all_finite l ≡ true → factors_judged count i l ≡ Done 0
+pub no-bad-factor : (count i : ℕ) (l : List Float) → all_finite l ≡ true → factors_judged count i l ≡ Ok 0
 unfolding factors_judged all_finite
 no-bad-factor count i [] e = refl
 no-bad-factor count i (x ∷ l) e = let parts = both (finite x) (all_finite l) e in rw parts.0 (no-bad-factor count (suc i) l parts.1)
@@ -253,27 +247,27 @@ sized count names matrix room e =
     }
 
 module _ (count : ℕ) (names : List Name) (matrix : List Float) (before : List ℕ) where
-  pub of-printed : (r : Printed) (after : List ℕ) → printed_of count names matrix (length before) ≡ r
+  pub of-printed : (r : Answer) (after : List ℕ) → printed_of count names matrix (length before) ≡ r
       → after ≡ bytes_after count names matrix r before → Print count names matrix before r after
   of-printed r after e m = record { answered = sym e; left = rw e m }
 
-  pub no_room : print_fits count names matrix (length before) ≡ false → printed_of count names matrix (length before) ≡ Printed.Refused WrongSize 0
+  pub no_room : print_fits count names matrix (length before) ≡ false → printed_of count names matrix (length before) ≡ refuse WrongSize 0
   unfolding printed_of
   no_room e = rw e
 
   module _ (e : print_fits count names matrix (length before) ≡ true) where
-    pub bad-column : (r : Refusal) (line : ℕ) → columns_judged [] (take count names) ≡ Refused r line
-        → printed_of count names matrix (length before) ≡ Printed.Refused r line
+    pub bad-column : (r : Refusal) (line : ℕ) → columns_judged [] (take count names) ≡ refuse r line
+        → printed_of count names matrix (length before) ≡ refuse r line
     unfolding printed_of printed_by
     bad-column r line g = rw (e, g)
 
-    module _ (k : ℕ) (g : columns_judged [] (take count names) ≡ Done k) where
-      pub bad-factor : (r : Refusal) (line : ℕ) → factors_judged count 0 (take (count * count) matrix) ≡ Refused r line
-          → printed_of count names matrix (length before) ≡ Printed.Refused r line
+    module _ (k : ℕ) (g : columns_judged [] (take count names) ≡ Ok k) where
+      pub bad-factor : (r : Refusal) (line : ℕ) → factors_judged count 0 (take (count * count) matrix) ≡ refuse r line
+          → printed_of count names matrix (length before) ≡ refuse r line
       unfolding printed_of printed_by
       bad-factor r line f = rw (e, g, f)
 
-      pub printed : (l : ℕ) → factors_judged count 0 (take (count * count) matrix) ≡ Done l
-          → printed_of count names matrix (length before) ≡ Printed.Bytes (length (sheet_text (sheet_of count names matrix)))
+      pub printed : (l : ℕ) → factors_judged count 0 (take (count * count) matrix) ≡ Ok l
+          → printed_of count names matrix (length before) ≡ Ok (length (sheet_text (sheet_of count names matrix)))
       unfolding printed_of printed_by
       printed l f = rw (e, g, f)

@@ -1,5 +1,6 @@
 -- One line more: what the definition says of a line, in the cases that the code tells apart, and that the state goes on to fit.
 -- Assumes nothing.
+use Rattle.std.specs.Prelude.{Option, Some, None}
 use Prim.Native.Nat.{ℕ, zero, suc, ◌+◌, ◌-◌, ◌*◌, ◌≤◌, ◌<◌}
 use mathlib.Core.Bool.{Bool, true, false, ◌&&◌, cond, true≢false}
 use mathlib.Core.List.{List, [], ◌∷◌, ◌++◌}
@@ -14,11 +15,8 @@ use lib.Ieee.Scale.{finite}
 use lib.ListN.{length, get_or, take, drop, set, replicate, length-set, length-drop, take-append-drop}
 use lib.Seq.{drop-cons, drop-length, drop-set-lt, length-take-le, take_all, take-append-add, take-suc-set}
 use Rattle.hexadecimal.specs.Hex.{all_digits, number, room, field, word_at}
-use Rattle.hexadecimal.specs.declared.Word.TheVariants as word
 use Rattle.naming.specs.Name.{naming_of, is_in}
 use Rattle.naming.specs.declared.Name.{Name}
-use Rattle.naming.specs.declared.Naming.{Naming}
-use Rattle.naming.specs.declared.Naming.TheVariants.{Named, Bad}
 use Rattle.quant.specs.declared.refusal.Refusal.TheVariants.{Layout}
 use Rattle.sheet.specs.Reader.{so_far, begun, Fits}
 use Rattle.sheet.specs.Sheet.{channels_key, column_key, row_key, factor_key, behind, eight, step, complete, value, SoFar, goes, stops, count_step, column_named, column_step, row_named, row_step, factor_bits, factor_step, blank, among}
@@ -120,7 +118,7 @@ module _ (s : State) (f : Fits s) where
   rows_few = few (omega (arith, f)) f.most
 
   module _ (h : s.column < s.count) (n : Name) where
-    pub column-goes : is_in n (take s.column s.columns) ≡ false → column_named (so_far s) (Named n) ≡ goes (so_far (with_column s n))
+    pub column-goes : is_in n (take s.column s.columns) ≡ false → column_named (so_far s) (Some n) ≡ goes (so_far (with_column s n))
     unfolding column_named
     column-goes e = rw e (ap goes (λ i. record { count = s.count; columns = sym more i; rows = (so_far s).rows; factors = (so_far s).factors }))
       where
@@ -146,7 +144,7 @@ module _ (s : State) (f : Fits s) where
     row_more : take (s.row + 1) (set s.rows s.row n) ≡ take s.row s.rows ++ n ∷ []
     row_more = one_more s.rows s.row n (omega (arith, f))
 
-    pub row_goes : is_in n (take s.row s.rows) ≡ false → is_in n (take s.column s.columns) ≡ true → row_named (so_far s) (Named n) ≡ goes (so_far (with_row s n))
+    pub row_goes : is_in n (take s.row s.rows) ≡ false → is_in n (take s.column s.columns) ≡ true → row_named (so_far s) (Some n) ≡ goes (so_far (with_row s n))
     unfolding row_named
     row_goes e k = rw (e, k) (ap goes (λ i. record { count = s.count; columns = (so_far s).columns; rows = sym row_more i; factors = (so_far s).factors }))
 
@@ -174,27 +172,12 @@ module _ (s : State) (f : Fits s) where
         more : take (s.factor + 1) (set s.factors s.factor bits) ≡ take s.factor s.factors ++ bits ∷ []
         more = one_more s.factors s.factor bits (omega (arith, f.factors-long, rows_few))
 
-    pub factor-fits : Fits (with_factor s bits)
-    factor-fits =
-        record {
-          most = f.most;
-          columns-most = f.columns-most;
-          rows-most = f.rows-most;
-          factors-most = omega arith;
-          columns-long = f.columns-long;
-          rows_long = f.rows_long;
-          factors-long = length-set s.factors s.factor bits ∙ f.factors-long;
-          blanks = f.blanks;
-          single-rows = f.single-rows;
-          rows-columns = f.rows-columns;
-        }
-
 -- ---- which line is due
 
 part-long : {A : Type 0} (l : List A) (k : ℕ) → k ≤ length l → take (length l - k) (drop k l) ≡ drop k l
 part-long l k h = take_all (length l - k) (drop k l) (rw length-drop (le_refl (length l - k)))
 
-module _ (s : SoFar) (line : List ℕ) (m : Naming) where
+module _ (s : SoFar) (line : List ℕ) (m : Option Name) where
   pub column-read : behind column_key line ≡ value (drop 7 line) → 7 ≤ length line
       → m ≡ naming_of (take (length line - 7) (drop 7 line)) → column_step s (behind column_key line) ≡ column_named s m
   unfolding column_step
@@ -223,19 +206,19 @@ module _ (s : SoFar) (line : List ℕ) (e : behind factor_key line ≡ value (dr
     whole-field = take_all 16 (drop 7 line) (omega (arith, sixteen-long))
 
     told-by : (t : Bool) → all_digits (drop 7 line) ≡ t
-        → (word_at line 7 ≡ cond t (word.Bits (number (drop 7 line))) word.Bad)
+        → (word_at line 7 ≡ cond t (Some (number (drop 7 line))) None)
         × (factor_step s (behind factor_key line) ≡ cond t (factor_bits s (number (drop 7 line))) (stops Layout))
     unfolding word_at factor_step
     told-by t d = (rw (there-is-room, whole-field, d), rw (e, eq-eqb (length (drop 7 line)) 16 sixteen-long, d))
 
-    pub factor-read : (bits : ℕ) → word_at line 7 ≡ word.Bits bits → factor_step s (behind factor_key line) ≡ factor_bits s bits
+    pub factor-read : (bits : ℕ) → word_at line 7 ≡ Some bits → factor_step s (behind factor_key line) ≡ factor_bits s bits
     factor-read bits w = by (all_digits (drop 7 line)) refl
       where
         by : (t : Bool) → all_digits (drop 7 line) ≡ t → factor_step s (behind factor_key line) ≡ factor_bits s bits
         by true d = let b : number (drop 7 line) ≡ bits = cc (told-by true d).0 in (told-by true d).1 ∙ ap (factor_bits s) b
         by false d = let z : true ≡ false = cc (told-by false d).0 in absurd (true≢false z)
 
-    pub factor-bad : word_at line 7 ≡ word.Bad → factor_step s (behind factor_key line) ≡ stops Layout
+    pub factor-bad : word_at line 7 ≡ None → factor_step s (behind factor_key line) ≡ stops Layout
     factor-bad w = by (all_digits (drop 7 line)) refl
       where
         by : (t : Bool) → all_digits (drop 7 line) ≡ t → factor_step s (behind factor_key line) ≡ stops Layout

@@ -1,19 +1,15 @@
 -- Document 01, "The sheet": from a text to the answer, the names and the matrix; and, apart from that, a sheet as data, its text, and what
 -- printing leaves. Lines count from 1. Definitions only.
-use Rattle.std.specs.Prelude.{ℕ, suc, ◌+◌, ◌-◌, ◌*◌, ◌/◌, ◌^◌, ◌≡◌, Bool, true, ◌&&◌, not, cond, List, [], ◌∷◌, ◌++◌, leb, ltb, eqb, Float, length, take, drop, replicate}
+use Rattle.quant.specs.Refusal.{Answer, refuse}
+use Rattle.std.specs.Prelude.{ℕ, suc, ◌+◌, ◌-◌, ◌*◌, ◌/◌, ◌^◌, ◌≡◌, Bool, true, ◌&&◌, not, cond, List, [], ◌∷◌, ◌++◌, leb, ltb, eqb, Float, length, take, drop, replicate, Option, Some, None, Ok, Err}
 use Rattle.std.specs.Float.{binary64}
 use Rattle.std.specs.Float.Ieee.{of_bits, to_bits}
 use Rattle.std.specs.Float.Ieee.Scale.{finite}
 use Rattle.hexadecimal.specs.Hex.{all_digits, number, digits}
 use Rattle.naming.specs.Name.{naming_of, same_name, is_in, is_name, bytes_of}
 use Rattle.naming.specs.declared.Name.{Name}
-use Rattle.naming.specs.declared.Naming.{Naming}
-use Rattle.naming.specs.declared.Naming.TheVariants.{Named, Bad}
-use Rattle.quant.specs.declared.refusal.Answer.{Answer}
-use Rattle.quant.specs.declared.refusal.Answer.TheVariants.{Done, Refused}
 use Rattle.quant.specs.declared.refusal.Refusal.{Refusal}
 use Rattle.quant.specs.declared.refusal.Refusal.TheVariants.{Malformed, WrongSize, Layout, DoubledName, NoColumn}
-use Rattle.sheet.specs.declared.print.Printed.{Printed}
 use Rattle.sheet.specs.declared.read.Reading.{Reading}
 
 -- ---- the four keys
@@ -95,9 +91,9 @@ count_step (value (d ∷ [])) = cond (leb 49 d && leb d 56) (goes (record { coun
 count_step (value (d ∷ (e ∷ es))) = stops Layout
 
 -- a column's name: 2 where it breaks the rule, 17 where it is doubled
-unfoldable pub column_named : SoFar → Naming → Step
-column_named s Bad = stops Malformed
-column_named s (Named n) =
+unfoldable pub column_named : SoFar → Option Name → Step
+column_named s None = stops Malformed
+column_named s (Some n) =
     cond (is_in n s.columns) (stops DoubledName) (goes (record { count = s.count; columns = s.columns ++ n ∷ []; rows = s.rows; factors = s.factors }))
 
 -- `column=NAME`: 15 where the key is another
@@ -106,9 +102,9 @@ column_step s other = stops Layout
 column_step s (value bytes) = column_named s (naming_of bytes)
 
 -- a row's name: 2 where it breaks the rule, 17 where it is doubled, 19 where it is no column
-unfoldable pub row_named : SoFar → Naming → Step
-row_named s Bad = stops Malformed
-row_named s (Named n) =
+unfoldable pub row_named : SoFar → Option Name → Step
+row_named s None = stops Malformed
+row_named s (Some n) =
     cond (is_in n s.rows) (stops DoubledName)
     (cond (is_in n s.columns) (goes (record { count = s.count; columns = s.columns; rows = s.rows ++ n ∷ []; factors = s.factors })) (stops NoColumn))
 
@@ -172,8 +168,8 @@ outcome text numbers =
 
 -- N for a sheet; the refusal and the line
 unfoldable pub answer_of : Outcome → Answer
-answer_of (accepts s) = Done s.count
-answer_of (refuses r place) = Refused r place
+answer_of (accepts s) = Ok s.count
+answer_of (refuses r place) = refuse r place
 
 -- what stands where no name is
 unfoldable pub blank : Name
@@ -323,10 +319,10 @@ print_fits count names matrix room =
 
 -- the columns' lines, behind the first and those of the columns `before`: 2 where a name breaks the rule, 17 where it is one of these
 unfoldable pub columns_judged : List Name → List Name → Answer
-columns_judged before [] = Done 0
+columns_judged before [] = Ok 0
 columns_judged before (n ∷ ns) =
-    cond (not (is_name n)) (Refused Malformed (length before + 2))
-    (cond (is_in n before) (Refused DoubledName (length before + 2)) (columns_judged (before ++ n ∷ []) ns))
+    cond (not (is_name n)) (refuse Malformed (length before + 2))
+    (cond (is_in n before) (refuse DoubledName (length before + 2)) (columns_judged (before ++ n ∷ []) ns))
 
 -- the line of the factor at i, from 0: the first, the columns', the `row=` lines down to its block's, and the factors' down to its own
 unfoldable pub factor_at : ℕ → ℕ → ℕ
@@ -334,35 +330,35 @@ factor_at count i = 1 + count + (i / count + 1) + (i + 1)
 
 -- the factors' lines from the one at i on: 2 where a number is not finite; a `row=` line is never bad, since it names a column
 unfoldable pub factors_judged : ℕ → ℕ → List Float → Answer
-factors_judged count i [] = Done 0
-factors_judged count i (x ∷ xs) = cond (finite x) (factors_judged count (suc i) xs) (Refused Malformed (factor_at count i))
+factors_judged count i [] = Ok 0
+factors_judged count i (x ∷ xs) = cond (finite x) (factors_judged count (suc i) xs) (refuse Malformed (factor_at count i))
 
 -- how many bytes are printed, or the first bad line of the columns', then of the factors'
-unfoldable pub printed_by : Answer → Answer → ℕ → Printed
-printed_by (Refused r line) factors size = Printed.Refused r line
-printed_by (Done k) (Refused r line) size = Printed.Refused r line
-printed_by (Done k) (Done l) size = Printed.Bytes size
+unfoldable pub printed_by : Answer → Answer → ℕ → Answer
+printed_by (Err e) factors size = refuse e.why e.place
+printed_by (Ok k) (Err e) size = refuse e.why e.place
+printed_by (Ok k) (Ok l) size = Ok size
 
 -- 13, then the lines in reading order; else how many bytes are printed
-unfoldable pub printed_of : ℕ → List Name → List Float → ℕ → Printed
+unfoldable pub printed_of : ℕ → List Name → List Float → ℕ → Answer
 printed_of count names matrix room =
-    cond (not (print_fits count names matrix room)) (Printed.Refused WrongSize 0)
+    cond (not (print_fits count names matrix room)) (refuse WrongSize 0)
     (printed_by
     (columns_judged [] (take count names))
     (factors_judged count 0 (take (count * count) matrix))
     (length (sheet_text (sheet_of count names matrix))))
 
 -- document 01's answer: "A refusal returns its number and a place: .. the sheet's line from 1 (0 for 13)"; printed, 0, as "elsewhere"
-abbrev pub printed_answer : Printed → Answer
-printed_answer (Printed.Bytes size) = Done 0
-printed_answer (Printed.Refused r line) = Refused r line
+abbrev pub printed_answer : Answer → Answer
+printed_answer (Ok size) = Ok 0
+printed_answer (Err e) = refuse e.why e.place
 
 -- the bytes afterwards: the sheet's text, and the rest stays; as they came where printing is refused
-unfoldable pub bytes_after : ℕ → List Name → List Float → Printed → List ℕ → List ℕ
-bytes_after count names matrix (Printed.Bytes size) before = sheet_text (sheet_of count names matrix) ++ drop size before
-bytes_after count names matrix (Printed.Refused r line) before = before
+unfoldable pub bytes_after : ℕ → List Name → List Float → Answer → List ℕ → List ℕ
+bytes_after count names matrix (Ok size) before = sheet_text (sheet_of count names matrix) ++ drop size before
+bytes_after count names matrix (Err e) before = before
 
 -- what `print` answers and leaves
-pub record Print (count : ℕ) (names : List Name) (matrix : List Float) (before : List ℕ) (r : Printed) (after : List ℕ) : Type 0 where
+pub record Print (count : ℕ) (names : List Name) (matrix : List Float) (before : List ℕ) (r : Answer) (after : List ℕ) : Type 0 where
   pub answered : r ≡ printed_of count names matrix (length before)
   pub left : after ≡ bytes_after count names matrix (printed_of count names matrix (length before)) before

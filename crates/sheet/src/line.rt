@@ -5,15 +5,5 @@ ghost use Rattle.sheet.specs.Reader.{Starts};
 pub fn starts(line: &[u8], key: &[u8]) -> bool
     ensures { Starts key.now line.now result }
 {
-    let mut i: usize = 0;
-    while i < key.len() {
-        if line.len() <= i {
-            return false;
-        }
-        if line[i] != key[i] {
-            return false;
-        }
-        i += 1;
-    }
-    true
+    line.starts_with(key)
 }

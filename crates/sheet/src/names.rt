@@ -1,11 +1,12 @@
-// Names among names: the first `many` of eight.
-ghost use Rattle.std.specs.Prelude.{◌≡◌, ◌+◌, ◌≤◌, take, drop};
+// Names among names.
+ghost use Rattle.std.specs.Prelude.{◌≡◌};
 ghost use Rattle.naming.specs.Name.{is_in};
 ghost use Rattle.sheet.specs.Sheet.{blank, position};
 
 use naming::{Name, same};
 
 // What stands where no name is.
+#[tactic(auto, unfolding(crate::specs::Sheet::blank))]
 pub fn blank() -> Name
     ensures { result ≡ blank }
 {
@@ -16,25 +17,19 @@ pub fn blank() -> Name
     }
 }
 
-// Where a name stands from a place on; `many` where it does not.
-pub(crate) fn place(n: Name, names: [Name; 8], from: usize, many: usize) -> usize
-    requires { (from ≤ many) × (many ≤ 8) }
-    ensures { result ≡ from + position n (drop from (take many names)) }
+// Where a name first stands among others; their count where it does not.
+pub(crate) fn place(n: Name, names: &[Name]) -> usize
+    ensures { result ≡ position n names.now }
 {
-    let mut i = from;
-    while i < many {
-        if same(names[i], n) {
-            return i;
-        }
-        i += 1;
-    }
-    many
+    names
+        .iter()
+        .position(|m| same(*m, n))
+        .unwrap_or(names.len())
 }
 
-// Whether a name stands from a place on.
-pub(crate) fn stands_in(n: Name, names: [Name; 8], from: usize, many: usize) -> bool
-    requires { (from ≤ many) × (many ≤ 8) }
-    ensures { result ≡ is_in n (drop from (take many names)) }
+// Whether a name is one of others.
+pub(crate) fn stands_in(n: Name, names: &[Name]) -> bool
+    ensures { result ≡ is_in n names.now }
 {
-    place(n, names, from, many) < many
+    names.iter().any(|m| same(*m, n))
 }

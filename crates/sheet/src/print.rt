@@ -9,31 +9,19 @@ use ieee::finite::is_finite;
 use naming::{Name, is_name};
 use quant::refusal::{Answer, Refusal};
 
-// How many bytes were printed; or the refusal, and the line that would be bad, 0 for 13. Refused, the bytes stay as they came.
-#[derive(Clone, Copy)]
-pub enum Printed {
-    Bytes(usize),
-    Refused(Refusal, usize),
-}
-
 // Prints the first `count` names and the first count * count numbers.
-pub fn print(count: usize, names: [Name; 8], matrix: &[f64], out: &mut [u8]) -> Printed
+pub fn print(count: usize, names: [Name; 8], matrix: &[f64], out: &mut [u8]) -> Answer
     ensures { Print count names matrix.now out.old result out.new }
 {
     if !sizes_fit(count, names, matrix, out.len()) {
-        return Printed::Refused(Refusal::WrongSize, 0);
+        return Err(Refusal::WrongSize.at(0));
     }
-    let columns = columns_judged(names, count);
-    if let Answer::Refused(r, line) = columns {
-        return Printed::Refused(r, line);
-    }
-    let factors = factors_judged(count, &matrix[..count * count]);
-    if let Answer::Refused(r, line) = factors {
-        return Printed::Refused(r, line);
-    }
-    Printed::Bytes(put_sheet(count, names, matrix, out))
+    columns_judged(names, count)?;
+    factors_judged(count, &matrix[..count * count])?;
+    Ok(put_sheet(count, names, matrix, out))
 }
 
+#[tactic(auto, unfolding(crate::specs::Sheet::print_fits))]
 fn sizes_fit(count: usize, names: [Name; 8], matrix: &[f64], room: usize) -> bool
     ensures { result ≡ print_fits count names matrix.now room }
 {
@@ -43,10 +31,7 @@ fn sizes_fit(count: usize, names: [Name; 8], matrix: &[f64], room: usize) -> boo
     if 8 < count {
         return false;
     }
-    if matrix.len() < count * count {
-        return false;
-    }
-    needed(count, names) <= room
+    count * count <= matrix.len() && needed(count, names) <= room
 }
 
 // The bytes of the text: 11 of the first line, 24 of each factor, and the lines of the names.
@@ -55,10 +40,8 @@ fn needed(count: usize, names: [Name; 8]) -> usize
     ensures { result ≡ 11 + 24 * (count * count) + names_size (take count names) }
 {
     let mut size = 11 + 24 * (count * count);
-    let mut i: usize = 0;
-    while i < count {
-        size += two_lines(names[i]);
-        i += 1;
+    for n in &names[..count] {
+        size += two_lines(*n);
     }
     size
 }
@@ -66,10 +49,7 @@ fn needed(count: usize, names: [Name; 8]) -> usize
 fn two_lines(n: Name) -> usize
     ensures { result ≡ two_lines n }
 {
-    if 16 < n.len {
-        return 45;
-    }
-    13 + 2 * n.len
+    13 + 2 * n.len.min(16)
 }
 
 // The first bad line among the columns'.
@@ -77,18 +57,16 @@ fn columns_judged(names: [Name; 8], count: usize) -> Answer
     requires { count ≤ 8 }
     ensures { result ≡ columns_judged [] (take count names) }
 {
-    let mut k: usize = 0;
-    while k < count {
+    for k in 0..count {
         let line = k + 2;
         if !is_name(names[k]) {
-            return Answer::Refused(Refusal::Malformed, line);
+            return Err(Refusal::Malformed.at(line));
         }
-        if stands_in(names[k], names, 0, k) {
-            return Answer::Refused(Refusal::DoubledName, line);
+        if stands_in(names[k], &names[..k]) {
+            return Err(Refusal::DoubledName.at(line));
         }
-        k += 1;
     }
-    Answer::Done(0)
+    Ok(0)
 }
 
 // The first bad line among the factors'.
@@ -96,14 +74,12 @@ fn factors_judged(count: usize, numbers: &[f64]) -> Answer
     requires { (1 ≤ count) × (count ≤ 8) × (length numbers.now ≤ 64) }
     ensures { result ≡ factors_judged count 0 numbers.now }
 {
-    let mut i: usize = 0;
-    while i < numbers.len() {
-        if !is_finite(numbers[i]) {
-            return Answer::Refused(Refusal::Malformed, factor_at(count, i));
+    for (i, x) in numbers.iter().enumerate() {
+        if !is_finite(*x) {
+            return Err(Refusal::Malformed.at(factor_at(count, i)));
         }
-        i += 1;
     }
-    Answer::Done(0)
+    Ok(0)
 }
 
 // The line of the factor at i, from 0.

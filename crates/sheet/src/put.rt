@@ -31,10 +31,8 @@ fn put_columns(names: [Name; 8], count: usize, out: &mut [u8], from: usize) -> u
     ensures { Put (columns_text (take count names)) out.old from result out.new }
 {
     let mut at = from;
-    let mut i: usize = 0;
-    while i < count {
+    for i in 0..count {
         at = put_column(names[i], out, at);
-        i += 1;
     }
     at
 }
@@ -51,11 +49,9 @@ fn put_blocks(names: [Name; 8], count: usize, matrix: &[f64], out: &mut [u8], fr
     ensures { Put (blocks_text (blocks_of count (take count names) matrix.now)) out.old from result out.new }
 {
     let mut at = from;
-    let mut i: usize = 0;
-    while i < count {
+    for i in 0..count {
         let row = i * count;
         at = put_block(names[i], &matrix[row..row + count], out, at);
-        i += 1;
     }
     at
 }
@@ -74,10 +70,8 @@ fn put_factors(numbers: &[f64], out: &mut [u8], from: usize) -> usize
     ensures { Put (factors_text (patterns numbers.now)) out.old from result out.new }
 {
     let mut at = from;
-    let mut i: usize = 0;
-    while i < numbers.len() {
-        at = put_factor(numbers[i], out, at);
-        i += 1;
+    for x in numbers {
+        at = put_factor(*x, out, at);
     }
     at
 }
@@ -102,19 +96,16 @@ fn put_factor(x: f64, out: &mut [u8], from: usize) -> usize
     put_byte(b'\n', out, at + 16)
 }
 
-fn put(key: &[u8], out: &mut [u8], at: usize) -> usize
+pub(crate) fn put(key: &[u8], out: &mut [u8], at: usize) -> usize
     requires { at + length key.now ≤ length out.old }
     ensures { Put key.now out.old at result out.new }
 {
-    let mut i: usize = 0;
-    while i < key.len() {
-        out[at + i] = key[i];
-        i += 1;
-    }
-    at + key.len()
+    let end = at + key.len();
+    out[at..end].copy_from_slice(key);
+    end
 }
 
-fn put_byte(b: u8, out: &mut [u8], at: usize) -> usize
+pub(crate) fn put_byte(b: u8, out: &mut [u8], at: usize) -> usize
     requires { at + 1 ≤ length out.old }
     ensures { Put (b ∷ []) out.old at result out.new }
 {

@@ -37,12 +37,10 @@ pub fn read(text: &[u8], matrix: &mut [f64]) -> Reading
         return refused(Refusal::WrongSize, 0);
     }
     let parsed = lines_of(text);
-    let verdict = parsed.verdict;
-    match verdict {
+    match parsed.verdict {
         Verdict::Good => {
-            let s = parsed.state;
-            fill(s, matrix);
-            accepted(s)
+            fill(parsed.state, matrix);
+            accepted(parsed.state)
         }
         Verdict::Bad(r) => refused(r, parsed.line),
     }
@@ -54,7 +52,7 @@ fn accepted(s: State) -> Reading
 {
     let names = s.columns;
     Reading {
-        answer: Answer::Done(s.count),
+        answer: Ok(s.count),
         names,
     }
 }
@@ -62,10 +60,9 @@ fn accepted(s: State) -> Reading
 fn refused(r: Refusal, line: usize) -> Reading
     ensures { Answers result (refuses r line) }
 {
-    let names = [blank(); 8];
     Reading {
-        answer: Answer::Refused(r, line),
-        names,
+        answer: Err(r.at(line)),
+        names: [blank(); 8],
     }
 }
 
@@ -82,8 +79,7 @@ fn lines_of(text: &[u8]) -> Parsed
             return stopped_at(Refusal::Layout, line);
         }
         let stepped = step(s, &text[at..end]);
-        let verdict = stepped.verdict;
-        if let Verdict::Bad(r) = verdict {
+        if let Verdict::Bad(r) = stepped.verdict {
             return stopped_at(r, line);
         }
         s = stepped.state;
@@ -111,11 +107,10 @@ fn ended(s: State, line: usize) -> Parsed
 fn stopped_at(r: Refusal, line: usize) -> Parsed
     ensures { Parses result (refuses r line) }
 {
-    let state = fresh(0);
     Parsed {
         verdict: Verdict::Bad(r),
         line,
-        state,
+        state: fresh(0),
     }
 }
 
@@ -124,15 +119,16 @@ fn fill(s: State, matrix: &mut [f64])
     requires { Fits s × (complete (so_far s) ≡ true) × (64 ≤ length matrix.old) }
     ensures { matrix.new ≡ matrix_of (accepts (so_far s)) matrix.old }
 {
-    let columns = s.columns;
-    let rows = s.rows;
-    let factors = s.factors;
-    let count = s.count;
-    let mut c: usize = 0;
-    while c < count {
-        let r = place(columns[c], rows, 0, count);
+    let State {
+        count,
+        columns,
+        rows,
+        factors,
+        ..
+    } = s;
+    for c in 0..count {
+        let r = place(columns[c], &rows[..count]);
         copy_row(factors, r * count, matrix, c * count, count);
-        c += 1;
     }
 }
 
@@ -141,9 +137,7 @@ fn copy_row(factors: [u64; 64], from: usize, matrix: &mut [f64], to: usize, coun
     requires { (from + count ≤ 64) × (to + count ≤ length matrix.old) }
     ensures { matrix.new ≡ pasted matrix.old to (doubles (take count (drop from factors))) }
 {
-    let mut k: usize = 0;
-    while k < count {
+    for k in 0..count {
         matrix[to + k] = float_of(factors[from + k]);
-        k += 1;
     }
 }

@@ -1,15 +1,13 @@
 // What the lines of a sheet have said so far, and one line more.
-ghost use Rattle.std.specs.Prelude.{◌≡◌, ◌*◌, ◌<◌, ◌≤◌};
-ghost use Rattle.naming.specs.declared.Naming.TheVariants.{Named};
+ghost use Rattle.std.specs.Prelude.{Some, ◌≡◌, ◌*◌, ◌<◌, ◌≤◌};
 ghost use Rattle.sheet.specs.Sheet.{channels_key, column_key, row_key, factor_key, behind, count_step, column_named, column_step, row_named, row_step, factor_bits, factor_step, step, complete, stops, goes};
 ghost use Rattle.sheet.specs.Reader.{so_far, Begins, Fits, Steps};
 
 use super::line::starts;
 use super::names::{blank, stands_in};
-use hexadecimal::Word;
 use ieee::finite::is_finite;
 use lines::field::float_of;
-use naming::{Name, Naming, from_bytes};
+use naming::{Name, from_bytes};
 use quant::refusal::Refusal;
 
 // A count of 0: the first line is still to come. `column`, `row` and `factor` are how many of each are read; a column not read is blank.
@@ -42,15 +40,13 @@ pub(crate) fn fresh(count: usize) -> State
     requires { count ≤ 8 }
     ensures { Begins result count }
 {
-    let names = [blank(); 8];
-    let factors = [0u64; 64];
     State {
         count,
-        columns: names,
+        columns: [blank(); 8],
         column: 0,
-        rows: names,
+        rows: [blank(); 8],
         row: 0,
-        factors,
+        factors: [0; 64],
         factor: 0,
     }
 }
@@ -76,29 +72,20 @@ pub(crate) fn step(s: State, line: &[u8]) -> Stepped
 }
 
 // Whether no line is missing.
+#[tactic(auto, unfolding(crate::specs::Sheet::complete))]
 pub(crate) fn complete(s: State) -> bool
     requires { Fits s }
     ensures { result ≡ complete (so_far s) }
 {
-    if s.count < 1 {
-        return false;
-    }
-    if s.column != s.count {
-        return false;
-    }
-    if s.row != s.count {
-        return false;
-    }
-    s.factor == s.count * s.count
+    1 <= s.count && s.column == s.count && s.row == s.count && s.factor == s.count * s.count
 }
 
 fn stopped(r: Refusal) -> Stepped
     ensures { Steps result (stops r) }
 {
-    let state = fresh(0);
     Stepped {
         verdict: Verdict::Bad(r),
-        state,
+        state: fresh(0),
     }
 }
 
@@ -142,19 +129,18 @@ fn column_step(s: State, line: &[u8]) -> Stepped
         return stopped(Refusal::Layout);
     }
     match from_bytes(&line[7..]) {
-        Naming::Named(n) => with_column(s, n),
-        Naming::Bad => stopped(Refusal::Malformed),
+        Some(n) => with_column(s, n),
+        None => stopped(Refusal::Malformed),
     }
 }
 
 // A column must not be doubled (17).
 fn with_column(s: State, n: Name) -> Stepped
     requires { Fits s × (s.column < s.count) }
-    ensures { Steps result (column_named (so_far s) (Named n)) }
+    ensures { Steps result (column_named (so_far s) (Some n)) }
 {
-    let columns = s.columns;
     let at = s.column;
-    if stands_in(n, columns, 0, at) {
+    if stands_in(n, &s.columns[..at]) {
         return stopped(Refusal::DoubledName);
     }
     let mut t = s;
@@ -172,23 +158,21 @@ fn row_step(s: State, line: &[u8]) -> Stepped
         return stopped(Refusal::Layout);
     }
     match from_bytes(&line[4..]) {
-        Naming::Named(n) => with_row(s, n),
-        Naming::Bad => stopped(Refusal::Malformed),
+        Some(n) => with_row(s, n),
+        None => stopped(Refusal::Malformed),
     }
 }
 
 // A row must not be doubled (17), and must be a column (19).
 fn with_row(s: State, n: Name) -> Stepped
     requires { Fits s × (s.row < s.count) }
-    ensures { Steps result (row_named (so_far s) (Named n)) }
+    ensures { Steps result (row_named (so_far s) (Some n)) }
 {
-    let rows = s.rows;
     let at = s.row;
-    if stands_in(n, rows, 0, at) {
+    if stands_in(n, &s.rows[..at]) {
         return stopped(Refusal::DoubledName);
     }
-    let columns = s.columns;
-    if !stands_in(n, columns, 0, s.column) {
+    if !stands_in(n, &s.columns[..s.column]) {
         return stopped(Refusal::NoColumn);
     }
     let mut t = s;
@@ -209,8 +193,8 @@ fn factor_step(s: State, line: &[u8]) -> Stepped
         return stopped(Refusal::Layout);
     }
     match hexadecimal::read(line, 7) {
-        Word::Bits(bits) => with_factor(s, bits),
-        Word::Bad => stopped(Refusal::Layout),
+        Some(bits) => with_factor(s, bits),
+        None => stopped(Refusal::Layout),
     }
 }
 

@@ -1,11 +1,10 @@
 -- Document 01, "The sheet": "A program reads a sheet on standard input and prints it with rows in column order, or `refused=` and `line=` as
 -- two lines, in decimal". Definitions only.
-use Rattle.std.specs.Prelude.{ℕ, zero, suc, ◌+◌, ◌/◌, ◌%◌, ◌≡◌, cond, List, [], ◌∷◌, ◌++◌, ltb, Float, length, drop, replicate}
+use Rattle.std.specs.Prelude.{ℕ, zero, suc, ◌+◌, ◌/◌, ◌%◌, ◌≡◌, cond, List, [], ◌∷◌, ◌++◌, ltb, Float, length, drop, replicate, Ok}
 use Rattle.exact.specs.Doubles.{nought}
-use Rattle.quant.specs.Refusal.{number_of}
+use Rattle.quant.specs.Refusal.{number_of, Answer, refuse}
 use Rattle.quant.specs.declared.refusal.Refusal.{Refusal}
 use Rattle.quant.specs.declared.refusal.Refusal.TheVariants.{WrongSize}
-use Rattle.sheet.specs.declared.print.Printed.{Printed}
 use Rattle.sheet.specs.Sheet.{Outcome, accepts, refuses, outcome, names_of, matrix_of, sheet_of, sheet_text}
 
 -- ---- a number in decimal
@@ -48,13 +47,13 @@ answer_text text = text_for (outcome text 64)
 -- ---- what `answer` answers and leaves
 
 -- how many bytes are put; with less room than 4,096 bytes 13, at place 0, and the bytes stay as they came
-unfoldable pub answer_prints : List ℕ → ℕ → Printed
-answer_prints text room = cond (ltb room 4096) (Printed.Refused WrongSize 0) (Printed.Bytes (length (answer_text text)))
+unfoldable pub answer_prints : List ℕ → ℕ → Answer
+answer_prints text room = cond (ltb room 4096) (refuse WrongSize 0) (Ok (length (answer_text text)))
 
 -- the bytes afterwards: what is printed, and the rest stays
 unfoldable pub answer_left : List ℕ → List ℕ → List ℕ
 answer_left text before = cond (ltb (length before) 4096) before (answer_text text ++ drop (length (answer_text text)) before)
 
-pub record Answered (text before : List ℕ) (r : Printed) (after : List ℕ) : Type 0 where
+pub record Answered (text before : List ℕ) (r : Answer) (after : List ℕ) : Type 0 where
   pub answer : r ≡ answer_prints text (length before)
   pub left : after ≡ answer_left text before

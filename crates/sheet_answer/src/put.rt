@@ -1,4 +1,4 @@
-// Bytes put into a text: each function puts something at a place and answers the place behind it.
+// Bytes and numbers put into a text: each stands from a place on, and the place behind it is answered.
 ghost use Rattle.std.specs.Prelude.{◌≡◌, [], ◌∷◌, ◌+◌, ◌<◌, ◌≤◌, length};
 ghost use Rattle.sheet.specs.Puts.{Put};
 ghost use Rattle.sheet_answer.specs.Answer.{decimal};
@@ -22,16 +22,14 @@ fn digit(d: usize) -> u8
     b'0' + d as u8
 }
 
+// Kept: `sheet` has the same two inside, where no other crate can call them: a public function has no `requires` here.
 pub(crate) fn put(key: &[u8], out: &mut [u8], at: usize) -> usize
     requires { at + length key.now ≤ length out.old }
     ensures { Put key.now out.old at result out.new }
 {
-    let mut i: usize = 0;
-    while i < key.len() {
-        out[at + i] = key[i];
-        i += 1;
-    }
-    at + key.len()
+    let end = at + key.len();
+    out[at..end].copy_from_slice(key);
+    end
 }
 
 pub(crate) fn put_byte(b: u8, out: &mut [u8], at: usize) -> usize

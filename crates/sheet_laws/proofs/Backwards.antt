@@ -1,5 +1,6 @@
 -- One line that was taken, backwards: what the line is, and what it added. The one idea: each test of `step` that let the line pass is
 -- true. Assumes nothing.
+use Rattle.std.specs.Prelude.{Option, Some, None}
 use Prim.Native.Nat.{ℕ, ◌+◌, ◌-◌, ◌^◌, ◌≤◌, ◌<◌}
 use mathlib.Core.Path.{◌≡◌, refl, sym}
 use mathlib.Core.Bool.{Bool, true, false, ◌&&◌, cond}
@@ -13,8 +14,6 @@ use lib.ListN.{length}
 use Rattle.hexadecimal.specs.Hex.{all_digits, number, digits}
 use Rattle.naming.specs.Name.{naming_of, is_name, bytes_of, is_in}
 use Rattle.naming.specs.declared.Name.{Name}
-use Rattle.naming.specs.declared.Naming.{Naming}
-use Rattle.naming.specs.declared.Naming.TheVariants.{Named, Bad}
 use Rattle.quant.specs.declared.refusal.Refusal.{Refusal}
 use Rattle.quant.specs.declared.refusal.Refusal.TheVariants.{Malformed, Layout, DoubledName, NoColumn}
 use Rattle.naming.proofs.Named.{read, bytes_back, is-named}
@@ -56,7 +55,7 @@ pub record Spelled (bytes : List ℕ) (n : Name) : Type 0 where
   pub ok : is_name n ≡ true
   pub bytes-are : bytes ≡ bytes_of n
 
-pub spelled : (bytes : List ℕ) (n : Name) → naming_of bytes ≡ Named n → Spelled bytes n
+pub spelled : (bytes : List ℕ) (n : Name) → naming_of bytes ≡ Some n → Spelled bytes n
 spelled bytes n e =
     let r = read bytes n e in
     record { ok = rw r.is (is-named bytes r.ok); bytes-are = rw r.is (sym (bytes_back bytes r.ok)) }
@@ -105,9 +104,9 @@ pub column-line : (s : SoFar) (line : List ℕ) (t : SoFar) → column_step s (b
 unfolding column_step column_named
 column-line s line t e = by (behind column_key line) refl e
   where
-    named : (bytes : List ℕ) → line ≡ column_key ++ bytes → (m : Naming) → naming_of bytes ≡ m → column_named s m ≡ goes t → ColumnLine s line t
-    named bytes is Bad _ e = absurd (not-stops e)
-    named bytes is (Named n) naming e =
+    named : (bytes : List ℕ) → line ≡ column_key ++ bytes → (m : Option Name) → naming_of bytes ≡ m → column_named s m ≡ goes t → ColumnLine s line t
+    named bytes is None _ e = absurd (not-stops e)
+    named bytes is (Some n) naming e =
         let p = escaped (is_in n s.columns) (goes (known s.count (s.columns ++ n ∷ []) s.rows s.factors)) t DoubledName e in
         let sp = spelled bytes n naming in
         record { name = n; ok = sp.ok; single = p.0; line-is = rw sp.bytes-are at is; now-known = goes_to p.1 }
@@ -128,9 +127,9 @@ pub row_line : (s : SoFar) (line : List ℕ) (t : SoFar) → row_step s (behind 
 unfolding row_step row_named
 row_line s line t e = by (behind row_key line) refl e
   where
-    named : (bytes : List ℕ) → line ≡ row_key ++ bytes → (m : Naming) → naming_of bytes ≡ m → row_named s m ≡ goes t → RowLine s line t
-    named bytes is Bad _ e = absurd (not-stops e)
-    named bytes is (Named n) naming e =
+    named : (bytes : List ℕ) → line ≡ row_key ++ bytes → (m : Option Name) → naming_of bytes ≡ m → row_named s m ≡ goes t → RowLine s line t
+    named bytes is None _ e = absurd (not-stops e)
+    named bytes is (Some n) naming e =
         let p = escaped (is_in n s.rows) _ t DoubledName e in
         let q = passed (is_in n s.columns) (known s.count s.columns (s.rows ++ n ∷ []) s.factors) t NoColumn p.1 in
         let sp = spelled bytes n naming in

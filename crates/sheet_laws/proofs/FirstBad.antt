@@ -1,5 +1,6 @@
 -- A refusal tells the first bad line, and 17 and 19 are told exactly where that line is doubled, or a row that is no column. The one idea:
 -- behind lines that are taken the reader goes on as if it began there. Assumes nothing.
+use Rattle.std.specs.Prelude.{Option, Some, None}
 use Prim.Native.Nat.{ℕ, suc, ◌+◌, ◌*◌, ◌≤◌}
 use mathlib.Core.Path.{◌≡◌, refl, sym, ap, ◌∙◌}
 use mathlib.Core.Bool.{Bool, true, false, ◌&&◌, cond}
@@ -15,8 +16,6 @@ use Rattle.exact.proofs.Truth.{never, both}
 use Rattle.hexadecimal.specs.Hex.{all_digits, number}
 use Rattle.naming.specs.Name.{naming_of, is_in, bytes_of}
 use Rattle.naming.specs.declared.Name.{Name}
-use Rattle.naming.specs.declared.Naming.{Naming}
-use Rattle.naming.specs.declared.Naming.TheVariants.{Named, Bad}
 use Rattle.quant.specs.declared.refusal.Refusal.{Refusal}
 use Rattle.quant.specs.declared.refusal.Refusal.TheVariants.{Malformed, Layout, WrongSize, DoubledName, NoList, NoColumn}
 use Rattle.sheet.specs.Sheet.{channels_key, column_key, row_key, factor_key, Behind, value, other, behind, cut, SoFar, nothing, Step, goes, stops, count_step, column_named, column_step, row_named, row_step, factor_bits, factor_step, step, complete, Outcome, accepts, refuses, onward, read_from, outcome}
@@ -56,7 +55,7 @@ module _ (s : SoFar) (line : List ℕ) where
   factor-judged (value text) =
       either (eqb (length text) 16 && all_digits text) _ _ (λ _. either (finite (of_bits binary64 (number text))) _ _ (λ _. passes) (λ _. malformed)) (λ _. layout)
 
-  name-line : (key bytes : List ℕ) (n : Name) → behind key line ≡ value bytes → naming_of bytes ≡ Named n → NameLine key line n
+  name-line : (key bytes : List ℕ) (n : Name) → behind key line ≡ value bytes → naming_of bytes ≡ Some n → NameLine key line n
   name-line key bytes n is naming =
       let sp = spelled bytes n naming in
       record { good = sp.ok; line-is = rw sp.bytes-are at (behind-is key line bytes is) }
@@ -66,9 +65,9 @@ module _ (s : SoFar) (line : List ℕ) where
   column-judged due other is = layout
   column-judged due (value bytes) is = by (naming_of bytes) refl
     where
-      by : (m : Naming) → naming_of bytes ≡ m → Judged s line (column_named s m)
-      by Bad _ = malformed
-      by (Named n) naming =
+      by : (m : Option Name) → naming_of bytes ≡ m → Judged s line (column_named s m)
+      by None _ = malformed
+      by (Some n) naming =
           either (is_in n s.columns) _ _
           (λ old. doubled (doubled-column n due (name-line column_key bytes n is naming) (is-in n s.columns old)))
           (λ _. passes)
@@ -78,9 +77,9 @@ module _ (s : SoFar) (line : List ℕ) where
   row-judged due other is = layout
   row-judged due (value bytes) is = by (naming_of bytes) refl
     where
-      by : (m : Naming) → naming_of bytes ≡ m → Judged s line (row_named s m)
-      by Bad _ = malformed
-      by (Named n) naming =
+      by : (m : Option Name) → naming_of bytes ≡ m → Judged s line (row_named s m)
+      by None _ = malformed
+      by (Some n) naming =
           let row = name-line row_key bytes n is naming in
           either (is_in n s.rows) _ _
           (λ old. doubled (doubled-row n due row (is-in n s.rows old)))
@@ -126,7 +125,7 @@ begun : (s : SoFar) → 1 ≤ s.count → eqb s.count 0 ≡ false
 begun s some = ne_eqb s.count 0 (λ e. omega arith)
 
 -- where a row's line is due, it is judged by its name
-row_named_lem : (s : SoFar) (line : List ℕ) (n : Name) → RowDue s → NameLine row_key line n → step s line ≡ row_named s (Named n)
+row_named_lem : (s : SoFar) (line : List ℕ) (n : Name) → RowDue s → NameLine row_key line n → step s line ≡ row_named s (Some n)
 unfolding step row_step
 row_named_lem s line n due row =
     rw (

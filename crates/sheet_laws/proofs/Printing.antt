@@ -1,5 +1,7 @@
 -- Law 1: what is read is printed back, reads to the same, and printing that changes nothing more. The one idea: what `print` writes is the
 -- text of the sheet with its rows in column order. Assumes nothing.
+use Rattle.quant.specs.Refusal.{Answer}
+use Rattle.std.specs.Prelude.{Ok}
 use Prim.Native.Nat.{ℕ, ◌+◌, ◌-◌, ◌*◌, ◌^◌, ◌≤◌, ◌<◌}
 use mathlib.Core.Path.{◌≡◌, refl, ap, ◌∙◌}
 use mathlib.Core.Bool.{Bool, true, false, ◌&&◌, cond}
@@ -16,10 +18,8 @@ use lib.Seq.{append_snoc, take_at, drop_at}
 use Rattle.exact.proofs.Naturals.{below_or}
 use Rattle.naming.specs.Name.{is_name}
 use Rattle.naming.specs.declared.Name.{Name}
-use Rattle.quant.specs.declared.refusal.Answer.TheVariants.{Done}
 use Rattle.quant.specs.declared.refusal.Refusal.TheVariants.{WrongSize}
 use Rattle.exact.proofs.Truth.{both, number_if_finite}
-use Rattle.sheet.specs.declared.print.Printed.{Printed}
 use Rattle.sheet.specs.Sheet.{cut, SoFar, nothing, Outcome, accepts, refuses, read_from, outcome, answer_of, blank, eight, names_of, doubles, under, rows_for, matrix_of, Block, Sheet, good_names, single, finite_bits, WellFormed, sheet_text, patterns, blocks_of, sheet_of, all_finite, print_fits, columns_judged, printed_by, printed_of, bytes_after}
 use Rattle.sheet.proofs.Filling.{doubles-long, doubles-append}
 use Rattle.sheet.proofs.Printing.{no-bad-factor}
@@ -76,7 +76,7 @@ module _ (t : SoFar) (count : ℕ) where
 -- ---- lines that are not bad
 
 -- names that follow the rule, none of them doubled
-no-bad-column : (before ns : List Name) → good_names ns ≡ true → single (before ++ ns) ≡ true → columns_judged before ns ≡ Done 0
+no-bad-column : (before ns : List Name) → good_names ns ≡ true → single (before ++ ns) ≡ true → columns_judged before ns ≡ Ok 0
 unfolding columns_judged good_names
 no-bad-column before [] good one = refl
 no-bad-column before (n ∷ ns) good one =
@@ -103,7 +103,7 @@ module _ (s : Sheet) (w : WellFormed s) where
       (blocks-back (contents s) N s.columns (drop (N * N) before) (wide s w) (fine s w)))
 
   pub prints : (before : List Float) (room : ℕ) → length (sheet_text (arranged s)) ≤ room
-      → printed_of N (names_of (accepts (contents s))) (matrix_of (accepts (contents s)) before) room ≡ Printed.Bytes (length (sheet_text (arranged s)))
+      → printed_of N (names_of (accepts (contents s))) (matrix_of (accepts (contents s)) before) room ≡ Ok (length (sheet_text (arranged s)))
   unfolding printed_of printed_by print_fits names_of matrix_of contents
   prints before room fits =
       let rows = doubles (rows_for (contents s) s.columns) in
@@ -162,7 +162,7 @@ module _ (s : Sheet) (w : WellFormed s) where
       rw (accepted (arranged s) (arranged-formed s w) (length after) room, arranged-matrix s w after) (ap sheet_text (printed-is s w after))
 
   answers : (before : List Float) → outcome (sheet_text s) (length before) ≡ accepts (contents s) → (room : ℕ) → length (sheet_text (arranged s)) ≤ room
-      → print_answers (sheet_text s) before room ≡ Printed.Bytes (length (sheet_text (arranged s)))
+      → print_answers (sheet_text s) before room ≡ Ok (length (sheet_text (arranged s)))
   unfolding print_answers answer_of count_in contents
   answers before e room fits = rw e (prints s w before room fits)
 

@@ -1,5 +1,6 @@
 -- What one good line adds to what was read before it: the count, a column, a row, a factor. Each is the definition's own case, with its
 -- tests answered. Assumes nothing.
+use Rattle.std.specs.Prelude.{Some}
 use Prim.Native.Nat.{ℕ, ◌+◌, ◌-◌, ◌*◌, ◌^◌, ◌≤◌, ◌<◌}
 use mathlib.Core.Path.{◌≡◌}
 use mathlib.Core.Bool.{true, false}
@@ -15,12 +16,11 @@ use Rattle.hexadecimal.specs.Hex.{number, digits}
 use Rattle.hexadecimal.proofs.Number.{all_digits_lem, length_digits, number_digits}
 use Rattle.naming.specs.Name.{naming_of, is_name, bytes_of, is_in}
 use Rattle.naming.specs.declared.Name.{Name}
-use Rattle.naming.specs.declared.Naming.TheVariants.{Named}
 use Rattle.naming.proofs.Named.{named_back, bytes-accepted}
 use Rattle.sheet.specs.Sheet.{channels_key, column_key, row_key, factor_key, SoFar, nothing, goes, count_step, column_named, column_step, row_named, row_step, factor_bits, factor_step, step}
 use Rattle.sheet_laws.proofs.Lines.{behind-key}
 
-pub naming-back : (n : Name) → is_name n ≡ true → naming_of (bytes_of n) ≡ Named n
+pub naming-back : (n : Name) → is_name n ≡ true → naming_of (bytes_of n) ≡ Some n
 unfolding naming_of
 naming-back n ok = rw (bytes-accepted n ok, named_back n ok)
 

@@ -1,11 +1,9 @@
 -- The words in which the laws of the sheet are stated. Definitions only.
-use Rattle.std.specs.Prelude.{ℕ, ◌+◌, ◌*◌, ◌≤◌, true, ◌≡◌, ◌↔◌, List, [], ◌∷◌, ◌++◌, Float, length, take, drop, get_or}
+use Rattle.quant.specs.Refusal.{Answer}
+use Rattle.std.specs.Prelude.{ℕ, ◌+◌, ◌*◌, ◌≤◌, true, ◌≡◌, ◌↔◌, List, [], ◌∷◌, ◌++◌, Float, length, take, drop, get_or, Ok, Err}
 use Rattle.exact.specs.Doubles.{nought}
 use Rattle.naming.specs.declared.Name.{Name}
-use Rattle.quant.specs.declared.refusal.Answer.{Answer}
-use Rattle.quant.specs.declared.refusal.Answer.TheVariants.{Done, Refused}
 use Rattle.sheet.specs.Sheet.{position, SoFar, accepts, outcome, answer_of, names_of, matrix_of, Block, Sheet, row_names, single, WellFormed, sheet_text, sheet_of, printed_of, bytes_after}
-use Rattle.sheet.specs.declared.print.Printed.{Printed}
 
 -- ---- lists
 
@@ -76,8 +74,8 @@ pub record Stands (s : Sheet) (r c : Name) (bits : ℕ) : Type 0 where
 
 -- the count that comes back
 unfoldable pub count_in : Answer → ℕ
-count_in (Done n) = n
-count_in (Refused r place) = 0
+count_in (Ok n) = n
+count_in (Err e) = 0
 
 -- what a caller finds who looks both names up among the names that came back: the row's place times the count, plus the column's place
 unfoldable pub factor_for : Answer → List Name → List Float → Name → Name → Float
@@ -122,7 +120,7 @@ text_printed text before =
     (sheet_of (count_in (answer_of (outcome text (length before)))) (names_of (outcome text (length before))) (matrix_of (outcome text (length before)) before))
 
 -- what `print` then answers, with so many bytes of room
-unfoldable pub print_answers : List ℕ → List Float → ℕ → Printed
+unfoldable pub print_answers : List ℕ → List Float → ℕ → Answer
 print_answers text before room =
     printed_of (count_in (answer_of (outcome text (length before)))) (names_of (outcome text (length before))) (matrix_of (outcome text (length before)) before) room
 
@@ -152,7 +150,7 @@ pub record PrintedBack (text : List ℕ) (before : List Float) (s : Sheet) : Typ
   pub short : length (text_printed text before) ≤ 1907
   -- where there is room for it, `print` answers its length and leaves it, with the other bytes as they came
   pub answer : (bytes : List ℕ) → length (text_printed text before) ≤ length bytes
-      → print_answers text before (length bytes) ≡ Printed.Bytes (length (text_printed text before))
+      → print_answers text before (length bytes) ≡ Ok (length (text_printed text before))
   pub left : (bytes : List ℕ) → length (text_printed text before) ≤ length bytes
       → print_leaves text before bytes ≡ text_printed text before ++ drop (length (text_printed text before)) bytes
   -- it reads as the first text did

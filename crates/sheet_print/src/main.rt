@@ -1,7 +1,6 @@
 // Reads a crosstalk sheet on standard input and prints it with its rows in column order, or why it is refused.
 #![tactic(auto)]
 
-use sheet::print::Printed;
 use std::io;
 
 fn main(rt: HostRuntime) -> io::Result<()> {
@@ -9,8 +8,7 @@ fn main(rt: HostRuntime) -> io::Result<()> {
     let mut text = [0u8; 4097];
     let n = input::read_full(&mut rt.stdin(), &mut text)?;
     let mut out = [0u8; 4096];
-    let answer = sheet_answer::answer(&text[..n], &mut out);
-    if let Printed::Bytes(size) = answer {
+    if let Ok(size) = sheet_answer::answer(&text[..n], &mut out) {
         rt.write_all(&out[..size])?;
     }
     Ok(())

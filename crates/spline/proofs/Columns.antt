@@ -1,5 +1,5 @@
 -- The six numbers of the triangle, a store at a time. Assumes nothing.
-use Rattle.std.proofs.Common.{◌≡◌, ℕ, suc, ◌+◌, ◌-◌, ◌<◌, ◌≤◌, List, length, get_or, set, ◌∙◌, ⊎_elim, eq-or-lt_of_le, add-one, arith, length-set, get_or-set_other, get_or-set_same, below_more}
+use Rattle.std.proofs.Common.{◌≡◌, ℕ, suc, ◌+◌, ◌-◌, ◌<◌, ◌≤◌, List, length, get_or, set, ◌∙◌, ⊎_elim, eq-or-lt_of_le, arith, length-set, get_or-set_other, get_or-set_same}
 use lib.Ieee.{Float, nan}
 use Rattle.spline.specs.Spline.{control_at, knot_at, blend_of, d_at}
 use Rattle.spline.specs.Walk.{Column, Within}
@@ -9,15 +9,6 @@ pub record Loaded (row : List Float) (p k : ℕ) (d : List Float) (j : ℕ) : Ty
   pub within : j ≤ p + 1
   pub six : length d ≡ 6
   pub at : (m : ℕ) → m < j → get_or d m nan ≡ control_at row (m + k - p)
-
-pub loaded-more : (row : List Float) (p k : ℕ) (d : List Float) (j : ℕ) (v : Float) → p ≤ 5 → j ≤ p → v ≡ control_at row (j + k - p)
-    → Loaded row p k d j → Loaded row p k (set d j v) (j + 1)
-loaded-more row p k d j v h g e i =
-    record {
-      within = omega arith;
-      six = length-set d j v ∙ i.six;
-      at = below_more _ j (λ m l. get_or-set_other d j m v nan (λ q. omega arith) ∙ i.at m l) (get_or-set_same d j v nan (omega (arith, i.six)) ∙ e);
-    }
 
 pub loaded-all : (row : List Float) (p k : ℕ) (x : Float) (d : List Float) (j : ℕ) → p < j → Loaded row p k d j → Column row p k x 0 d
 unfolding d_at
@@ -30,13 +21,6 @@ pub record Turned (row : List Float) (p k : ℕ) (x : Float) (r : ℕ) (d : List
   pub six : length d ≡ 6
   pub done : (m : ℕ) → j < m → m ≤ p → get_or d m nan ≡ d_at row p k x (suc r) m
   pub left : (m : ℕ) → r ≤ m → m ≤ j → get_or d m nan ≡ d_at row p k x r m
-
-pub turned-start : (row : List Float) (p k : ℕ) (x : Float) (r : ℕ) (d : List Float) → r < p → Column row p k x r d → Turned row p k x r d p
-turned-start row p k x r d h c = record { from = omega arith; to = omega arith; six = c.six; done = λ m a b. absurd (omega arith); left = c.at }
-
-pub turned-all : (row : List Float) (p k : ℕ) (x : Float) (r : ℕ) (d : List Float) (j : ℕ) → j ≤ r → Turned row p k x r d j
-    → Column row p k x (r + 1) d
-turned-all row p k x r d j h i = rw add-one (record { six = i.six; at = λ m a b. i.done m (omega arith) b })
 
 module _ (row : List Float) (p k : ℕ) (x : Float) (r : ℕ) (d : List Float) (j : ℕ) (w : Within p k) (h : r < j) (i : Turned row p k x r d j) where
   at_least : (m : ℕ) → j - 1 < m → j ≤ m

@@ -1,24 +1,16 @@
 -- The ends of a spline that was stored: where its knots are clamped, its value at the domain's ends equals its first and its last control.
 -- Assumes nothing.
-use Rattle.std.proofs.Common.{◌≡◌, ℕ, zero, suc, ◌+◌, ◌-◌, ◌<◌, ◌≤◌, true, false, not, T, List, [], ◌∷◌, length, get_or, sym, ap, ◌∙◌, subst, le_of_suc-le-suc, not-suc-le-zero, add-one, arith}
-use borrow.Author.Tests.{not-true}
+use Rattle.std.proofs.Common.{◌≡◌, ℕ, ◌+◌, ◌-◌, ◌<◌, ◌≤◌, true, false, T, List, length, get_or, sym, ap, ◌∙◌, subst, add-one, arith}
 use lib.Ieee.{Float, nan, binary64, fits, lt, eq}
 use Rattle.exact.proofs.Truth.{both}
 use Rattle.spline.specs.Spline.{not_falling, counts_fit, is_spline, knot_at}
 use Rattle.spline.specs.Row.{row_of}
 use Rattle.spline.specs.Value.{value_in, fine_in}
+use Rattle.spline.proofs.Falls.{not-falling-at}
 use Rattle.spline.proofs.Places.{Number}
 use Rattle.spline.proofs.Stored.{Counts, counts_of, spline-counts, stored-control, stored-knot, stored_at, stored-fine}
 use Rattle.spline.proofs.Knots.{Rising}
 use Rattle.spline.proofs.Clamped.{left_end, right_end}
-
--- each knot but the first is not below the one before it
-not-falling-at : (t : List Float) (i : ℕ) → not_falling t ≡ true → suc i < length t → lt (get_or t (suc i) nan) (get_or t i nan) ≡ false
-unfolding not_falling
-not-falling-at [] i e h = absurd (not-suc-le-zero h)
-not-falling-at (a ∷ []) i e h = absurd (not-suc-le-zero (le_of_suc-le-suc h))
-not-falling-at (a ∷ b ∷ l) zero e h = not-true (lt b a) (both (not (lt b a)) (not_falling (b ∷ l)) e).0
-not-falling-at (a ∷ b ∷ l) (suc i) e h = not-falling-at (b ∷ l) i (both (not (lt b a)) (not_falling (b ∷ l)) e).1 (le_of_suc-le-suc h)
 
 module _ (p : ℕ) (c t : List Float) (e : is_spline p (length c) t ≡ true)
     (C : (i : ℕ) → i < length c → Number (get_or c i nan)) (N : (i : ℕ) → i < length t → Number (get_or t i nan)) where

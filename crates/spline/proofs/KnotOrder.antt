@@ -1,6 +1,6 @@
 -- The order of finite doubles as that of signed whole numbers over one denominator; and where lo <= x <= hi, that x - lo and hi - lo are finite and
 -- the first is no larger: the exact differences stand so, and rounding keeps their order. x need not be a double that fits. Assumes nothing.
-use Rattle.std.proofs.Common.{◌≡◌, ℕ, ◌+◌, ◌-◌, ◌*◌, ◌^◌, ◌<◌, ◌≤◌, Bool, true, false, not, T, ltb, sym, refl, ◌∙◌, subst, le_trans, mul-le-mul_right, le_of_mul-le-mul_right, arith, lit<, ltb-false, le-ltb}
+use Rattle.std.proofs.Common.{◌≡◌, ℕ, ◌+◌, ◌*◌, ◌^◌, ◌<◌, ◌≤◌, Bool, true, false, not, T, ltb, sym, refl, ◌∙◌, subst, le_trans, mul-le-mul_right, le_of_mul-le-mul_right, arith, lit<, ltb-false, le-ltb}
 use mathlib.Core.Bool.{false≢true}
 use lib.Ieee.{Float, nan, inf, fin, binary64, round, sub, lt, le, eq}
 use lib.Ieee.Fits.{round-fits}

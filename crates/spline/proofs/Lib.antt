@@ -2,7 +2,6 @@ pub mod Falls
 pub mod Told
 pub mod Span
 pub mod Columns
-pub mod Alike
 pub mod Wide
 pub mod Rows
 pub mod Rising

@@ -1,6 +1,6 @@
 -- Request P1: "two splines are the same shape when all their numbers are equal": their rows are the same numbers exactly when their degrees, their
 -- controls and their knots are. Assumes nothing.
-use Rattle.std.proofs.Common.{◌≡◌, ℕ, zero, suc, ◌+◌, ◌-◌, ◌^◌, ◌<◌, ◌≤◌, Bool, true, false, ◌&&◌, eqb, List, [], ◌∷◌, ◌++◌, length, take, replicate, sym, refl, ap, ◌∙◌, le_trans, suc-ne-zero, arith, lit<, lit≤, eqb-true}
+use Rattle.std.proofs.Common.{◌≡◌, ℕ, zero, suc, ◌+◌, ◌-◌, ◌^◌, ◌≤◌, Bool, true, false, ◌&&◌, eqb, List, [], ◌∷◌, ◌++◌, length, take, replicate, sym, refl, ap, ◌∙◌, le_trans, suc-ne-zero, arith, lit<, lit≤, eqb-true}
 use native.Mathlib.Nat.{suc_inj}
 use borrow.Author.Tests.{eqb-false}
 use lib.Seq.{take-append-add}

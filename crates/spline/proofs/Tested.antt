@@ -1,37 +1,26 @@
--- The knots of a row, tested one at a time. Assumes nothing.
-use Rattle.std.proofs.Common.{◌≡◌, ℕ, ◌+◌, ◌-◌, ◌<◌, ◌≤◌, false, List, ap, ◌∙◌, subst, ⊎_elim, eq-or-lt_of_le, arith, below_more}
-use lib.Ieee.{Float, lt}
-use Rattle.spline.specs.Spline.{knot_at}
-use Rattle.spline.specs.Walk.{Tamed}
+-- What the tests of all controls and of all knots of a row say of it. Assumes nothing.
+use Rattle.std.proofs.Common.{◌≡◌, ℕ, ◌+◌, ◌<◌, ◌≤◌, true, List, length, get_or, add-one, arith}
+use Rattle.std.specs.List.{between}
+use Rattle.std.proofs.lemmas.List.Edits.{get_or-between, length-between}
+use lib.Ieee.{Float, nan}
+use Rattle.spline.specs.Spline.{Sizes, not_falling}
+use Rattle.spline.specs.Walk.{Tamed, Tame}
+use Rattle.spline.proofs.Falls.{not-falling-at}
 
--- the first j knots, at least one, are at most 2^1000 in size and do not fall; the last of them is at hand
-pub record Tested (row : List Float) (j : ℕ) (last : Float) : Type 0 where
-  pub some : 0 < j
-  pub last-is : last ≡ knot_at row (j - 1)
-  pub knot : (i : ℕ) → i < j → Tamed (knot_at row i)
-  pub rises : (i : ℕ) → i + 1 < j → lt (knot_at row (i + 1)) (knot_at row i) ≡ false
+abbrev pub AllTamed : List Float → Type 0
+AllTamed l = (i : ℕ) → i < length l → Tamed (get_or l i nan)
 
-pub tested-first : (row : List Float) (v : Float) → v ≡ knot_at row 0 → Tamed v → Tested row 1 v
-tested-first row v e t = record { some = omega arith; last-is = e; knot = λ i l. first i (omega arith); rises = λ i l. absurd (omega arith) }
-  where
-    first : (i : ℕ) → i ≡ 0 → Tamed (knot_at row i)
-    first i z = rw (z, ← e) t
+part-tamed : (l : List Float) (i j k : ℕ) → j ≤ length l → i + k < j → AllTamed (between i j l) → Tamed (get_or l (i + k) nan)
+part-tamed l i j k h g t = rw get_or-between at (t k (omega (arith, length-between l i j h)))
 
-pub tested-more : (row : List Float) (j : ℕ) (last v : Float) → v ≡ knot_at row j → Tamed v → lt v last ≡ false → Tested row j last
-    → Tested row (j + 1) v
-tested-more row j last v e t l h =
-    let same : j ≡ j + 1 - 1 = omega arith in
+pub tested : (row : List Float) (p n : ℕ) → length row ≡ 72 → Sizes p n → AllTamed (between 2 (2 + n) row) → AllTamed (between 34 (35 + n + p) row)
+    → not_falling (between 34 (35 + n + p) row) ≡ true → Tame row p n
+tested row p n l s c t f =
     record {
-      some = omega arith;
-      last-is = e ∙ ap (knot_at row) same;
-      knot = below_more _ j h.knot (subst Tamed e t);
-      rises = λ i g. ⊎_elim (now i) (h.rises i) (eq-or-lt_of_le (within i g));
+      control = λ i h. part-tamed row 2 (2 + n) i (omega arith) (omega arith) c;
+      knot = λ i h. part-tamed row 34 (35 + n + p) i (omega arith) (omega arith) t;
+      rises = λ i h.
+          let e = 35 + n + p in
+          rw (← get_or-between row 34 e (i + 1) nan (omega arith), ← get_or-between row 34 e i nan (omega arith), add-one)
+          (not-falling-at _ i f (omega (arith, length-between row 34 e (omega arith))));
     }
-  where
-    within : (i : ℕ) → i + 1 < j + 1 → i + 1 ≤ j
-    within i g = omega arith
-
-    now : (i : ℕ) → i + 1 ≡ j → lt (knot_at row (i + 1)) (knot_at row i) ≡ false
-    now i q =
-        let back : i ≡ j - 1 = omega arith in
-        rw (q, ← e, back, ← h.last-is) l

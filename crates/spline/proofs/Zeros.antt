@@ -1,5 +1,5 @@
 -- Zeros and ones in the operations: what a zero makes of a product, a quotient and a sum, and that 1 times a double is that number. Assumes nothing.
-use Rattle.std.proofs.Common.{◌≡◌, ℕ, ◌+◌, ◌-◌, ◌^◌, ◌<◌, Bool, true, false, not, sym, refl, ap, ◌∙◌, subst, inl, inr, add-zero, eq-zero-or-pos, zero-mul, arith, pow_pos}
+use Rattle.std.proofs.Common.{◌≡◌, ℕ, ◌+◌, ◌^◌, ◌<◌, Bool, true, false, not, sym, refl, ap, ◌∙◌, subst, inl, inr, add-zero, eq-zero-or-pos, zero-mul, arith, pow_pos}
 use native.Mathlib.Nat.{sub-zero}
 use lib.Ieee.{Float, binary64, of_bits, round, units, odd, sum, add, sub, neg, mul, eq}
 use lib.Ieee.Exact.{HasValue}

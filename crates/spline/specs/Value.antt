@@ -6,8 +6,6 @@ use Rattle.ieee.specs.Cut.{cut_of}
 use Rattle.ieee.specs.declared.cut.Cut.{Cut}
 use Rattle.ieee.specs.declared.cut.Cut.TheVariants as cut
 use Rattle.exact.specs.Doubles.{nought}
-use Rattle.spline.specs.declared.value.Told.{Told}
-use Rattle.spline.specs.declared.value.Told.TheVariants.{Spline, Nothing}
 use Rattle.spline.specs.Spline.{sizes_fit, in_domain, span_at, d_at, fine_at}
 
 -- the whole number that a row holds as a double; 0 for a double that holds none
@@ -42,9 +40,12 @@ spline_fine row p n x = cond (in_domain row p n x) (fine_at row p (span_at row p
 abbrev pub tells : List Float → Bool
 tells row = length row == 72 && sizes_fit (degree_in row) (count_in row)
 
--- the degree and the count that the code goes on with
-abbrev pub told_by : List Float → Told
-told_by row = cond (tells row) (Spline (degree_in row) (count_in row)) Nothing
+-- of a row q, a degree and a count of controls: those of a row that tells them
+pub record Told (row q : List Float) (p n : ℕ) : Type 0 where
+  pub same : q ≡ row
+  pub degree : p ≡ degree_in row
+  pub count : n ≡ count_in row
+  pub told : tells row ≡ true
 
 unfoldable pub value_in : List Float → Float → Float
 value_in row x = cond (tells row) (spline_at row (degree_in row) (count_in row) x) nought

@@ -1,112 +1,96 @@
 // A spline's values at many points, and whether all points are fine.
-ghost use Rattle.std.specs.Prelude.{◌≡◌, ◌<◌, ◌≤◌, true, map, length, replicate};
-ghost use Rattle.exact.specs.Doubles.{nought};
+ghost use Rattle.std.specs.Prelude.{◌≡◌, ◌<◌, ◌≤◌, true, map};
 ghost use Rattle.std.specs.Float.Ieee.{le};
-ghost use Rattle.spline.specs.Spline.{knot_at, in_domain, span_at, Sizes};
+ghost use Rattle.spline.specs.Spline.{knot_at, in_domain, span_at};
 ghost use Rattle.spline.specs.Value.{spline_at, value_in, AlwaysFine};
 ghost use Rattle.spline.specs.Walk.{Tame};
 
-use super::tame::is_tame;
-use super::triangle::{de_boor, knot};
-use super::value::{Told, in_domain, read, value_of};
+use super::row::Spline;
 
 // Whether the row alone shows that no point meets 8: all its numbers are below 2^1000 in size, and its knots do not fall.
 pub fn always_fine(row: &[f64]) -> bool
     ensures { result ≡ true → AlwaysFine row.now }
 {
-    match read(row) {
-        Told::Spline(p, n) => is_tame(row, p, n),
-        Told::Nothing => true,
-    }
+    let Some(spline) = Spline::read(row) else {
+        return true;
+    };
+    spline.is_tame()
 }
 
 // Each point becomes the value at it.
 pub fn over(part: &mut [f64], row: &[f64])
     ensures { part.new ≡ map (value_in row.now) part.old }
 {
-    match read(row) {
-        Told::Spline(p, n) => over_spline(part, row, p, n),
-        Told::Nothing => clear(part),
+    match Spline::read(row) {
+        Some(spline) => spline.over(part),
+        None => part.fill(0.0),
     }
 }
 
-fn over_spline(part: &mut [f64], row: &[f64], p: usize, n: usize)
-    requires { Sizes p n × (length row.now ≡ 72) }
-    ensures { part.new ≡ map (spline_at row.now p n) part.old }
-{
-    if is_tame(row, p, n) {
-        walk(part, row, p, n);
-        return;
-    }
-    value_each(part, row, p, n);
-}
-
-// Where no knot falls, the span of a point is searched from that of the point before it.
-fn walk(part: &mut [f64], row: &[f64], p: usize, n: usize)
-    requires { Sizes p n × (length row.now ≡ 72) × Tame row.now p n }
-    ensures { part.new ≡ map (spline_at row.now p n) part.old }
-{
-    let mut k = p;
-    let mut i: usize = 0;
-    while i < part.len() {
-        let x = part[i];
-        if in_domain(row, p, n, x) {
-            k = span_from(row, p, n, k, x);
-            part[i] = de_boor(row, p, k, x);
+impl Spline<'_> {
+    fn over(&self, part: &mut [f64])
+        ensures { part.new ≡ map (spline_at self.now.row.now self.now.degree self.now.controls) part.old }
+    {
+        if self.is_tame() {
+            self.walk(part);
         } else {
-            part[i] = 0.0;
+            self.value_each(part);
         }
-        i += 1;
     }
-}
 
-// From a span on, if that starts at or below x; else from the first.
-fn span_from(row: &[f64], p: usize, n: usize, last: usize, x: f64) -> usize
-    requires sizes { Sizes p n × (length row.now ≡ 72) × Tame row.now p n }
-    requires p_le_last { (p ≤ last) × (last < n) × (in_domain row.now p n x ≡ true) }
-    ensures value { result ≡ span_at row.now p n x }
-    ensures lower_bound { (p ≤ result) × (result < n) }
-{
-    if knot(row, last) <= x {
-        return span_up(row, p, n, last, x);
-    }
-    span_up(row, p, n, p, x)
-}
-
-fn span_up(row: &[f64], p: usize, n: usize, from: usize, x: f64) -> usize
-    requires sizes { Sizes p n × (length row.now ≡ 72) × Tame row.now p n }
-    requires p_le_from { (p ≤ from) × (from < n) × (le (knot_at row.now from) x ≡ true) }
-    ensures value { result ≡ span_at row.now p n x }
-    ensures lower_bound { (p ≤ result) × (result < n) }
-{
-    let mut k = from;
-    while k + 1 < n {
-        if x < knot(row, k + 1) {
-            return k;
+    // Where no knot falls, the span of a point is searched from that of the point before it.
+    fn walk(&self, part: &mut [f64])
+        requires { Tame self.now.row.now self.now.degree self.now.controls }
+        ensures { part.new ≡ map (spline_at self.now.row.now self.now.degree self.now.controls) part.old }
+    {
+        let mut k = self.degree;
+        for x in part.iter_mut() {
+            if self.in_domain(*x) {
+                k = self.span_from(k, *x);
+                *x = self.de_boor(k, *x);
+            } else {
+                *x = 0.0;
+            }
         }
-        k += 1;
     }
-    k
-}
 
-// Each point's span is searched anew.
-fn value_each(part: &mut [f64], row: &[f64], p: usize, n: usize)
-    requires { Sizes p n × (length row.now ≡ 72) }
-    ensures { part.new ≡ map (spline_at row.now p n) part.old }
-{
-    let mut i: usize = 0;
-    while i < part.len() {
-        part[i] = value_of(row, p, n, part[i]);
-        i += 1;
+    // From a span on, if that starts at or below x; else from the first.
+    fn span_from(&self, last: usize, x: f64) -> usize
+        requires tame { Tame self.now.row.now self.now.degree self.now.controls }
+        requires p_le_last { (self.now.degree ≤ last)
+            × (last < self.now.controls)
+            × (in_domain self.now.row.now self.now.degree self.now.controls x ≡ true) }
+        ensures value { result ≡ span_at self.now.row.now self.now.degree self.now.controls x }
+        ensures lower_bound { (self.now.degree ≤ result) × (result < self.now.controls) }
+    {
+        if self.knot(last) <= x {
+            return self.span_up(last, x);
+        }
+        self.span_up(self.degree, x)
     }
-}
 
-fn clear(part: &mut [f64])
-    ensures { part.new ≡ replicate (length part.old) nought }
-{
-    let mut i: usize = 0;
-    while i < part.len() {
-        part[i] = 0.0;
-        i += 1;
+    fn span_up(&self, from: usize, x: f64) -> usize
+        requires tame { Tame self.now.row.now self.now.degree self.now.controls }
+        requires p_le_from { (self.now.degree ≤ from)
+            × (from < self.now.controls)
+            × (le (knot_at self.now.row.now from) x ≡ true) }
+        ensures value { result ≡ span_at self.now.row.now self.now.degree self.now.controls x }
+        ensures lower_bound { (self.now.degree ≤ result) × (result < self.now.controls) }
+    {
+        for k in from..self.controls - 1 {
+            if x < self.knot(k + 1) {
+                return k;
+            }
+        }
+        self.controls - 1
+    }
+
+    // Each point's span is searched anew.
+    fn value_each(&self, part: &mut [f64])
+        ensures { part.new ≡ map (spline_at self.now.row.now self.now.degree self.now.controls) part.old }
+    {
+        for x in part.iter_mut() {
+            *x = self.value(*x);
+        }
     }
 }

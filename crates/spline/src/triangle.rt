@@ -1,38 +1,66 @@
 // The de Boor triangle, a column at a time in six numbers.
 ghost use Rattle.std.specs.Prelude.{◌≡◌, ◌+◌, ◌<◌, length};
-ghost use Rattle.spline.specs.Spline.{control_at, knot_at, alpha_of, blend_of, d_at};
+ghost use Rattle.spline.specs.Spline.{alpha_of, blend_of, d_at};
 ghost use Rattle.spline.specs.Walk.{Within, Column, wide_rounds};
 
+use super::row::Spline;
 use ieee::finite::is_finite;
 
-pub(crate) fn control(row: &[f64], i: usize) -> f64
-    requires { (i < 32) × (length row.now ≡ 72) }
-    ensures { result ≡ control_at row.now i }
-{
-    row[2 + i]
-}
-
-pub(crate) fn knot(row: &[f64], i: usize) -> f64
-    requires { (i < 38) × (length row.now ≡ 72) }
-    ensures { result ≡ knot_at row.now i }
-{
-    row[34 + i]
-}
-
-// The quotient, with 0/0 taken as 0.
-fn alpha(from: f64, wide: f64) -> f64
-    ensures { result ≡ alpha_of from wide }
-{
-    if from == 0.0 {
-        if wide == 0.0 {
-            return 0.0;
+impl Spline<'_> {
+    // d[degree] after as many rounds, on the span k.
+    pub(crate) fn de_boor(&self, k: usize, x: f64) -> f64
+        requires { Within self.now.degree k }
+        ensures { result ≡ d_at self.now.row.now self.now.degree k x self.now.degree self.now.degree }
+    {
+        let mut d = [0.0f64; 6];
+        self.load(&mut d, k, x);
+        for r in 0..self.degree {
+            self.column(&mut d, k, x, r);
         }
-        return from / wide;
+        d[self.degree]
     }
-    from / wide
+
+    // Column 0: the controls k-degree to k.
+    fn load(&self, d: &mut [f64; 6], k: usize, x: f64)
+        requires { Within self.now.degree k × (length d.old ≡ 6) }
+        ensures { Column self.now.row.now self.now.degree k x 0 d.new }
+    {
+        for j in 0..self.degree + 1 {
+            d[j] = self.control(j + k - self.degree);
+        }
+    }
+
+    // From column r to column r+1: j from degree down to r+1.
+    fn column(&self, d: &mut [f64; 6], k: usize, x: f64, r: usize)
+        requires { Within self.now.degree k × (r < self.now.degree) × Column self.now.row.now self.now.degree k x r d.old }
+        ensures { Column self.now.row.now self.now.degree k x (r + 1) d.new }
+    {
+        for j in (r + 1..self.degree + 1).rev() {
+            let lo = self.knot(j + k - self.degree);
+            let hi = self.knot(j + k - r);
+            d[j] = step(x, lo, hi, d[j - 1], d[j]);
+        }
+    }
+
+    // Whether hi - lo is finite in every step on the span k.
+    pub(crate) fn all_wide(&self, k: usize) -> bool
+        requires { Within self.now.degree k }
+        ensures { result ≡ wide_rounds self.now.row.now self.now.degree k self.now.degree }
+    {
+        for r in 0..self.degree {
+            for j in r + 1..self.degree + 1 {
+                let wide = self.knot(j + k - r) - self.knot(j + k - self.degree);
+                if !is_finite(wide) {
+                    return false;
+                }
+            }
+        }
+        true
+    }
 }
 
 // One step of the recurrence.
+#[tactic(auto, unfolding(crate::specs::Spline::blend_of))]
 fn step(x: f64, lo: f64, hi: f64, a: f64, b: f64) -> f64
     ensures { result ≡ blend_of x lo hi a b }
 {
@@ -40,68 +68,16 @@ fn step(x: f64, lo: f64, hi: f64, a: f64, b: f64) -> f64
     (1.0 - share) * a + share * b
 }
 
-// Column 0: the controls k-p to k.
-fn load(d: &mut [f64; 6], row: &[f64], p: usize, k: usize, x: f64)
-    requires { Within p k × (length d.old ≡ 6) × (length row.now ≡ 72) }
-    ensures { Column row.now p k x 0 d.new }
+// The quotient, with 0/0 taken as 0.
+fn alpha(from: f64, wide: f64) -> f64
+    ensures { result ≡ alpha_of from wide }
 {
-    let mut j: usize = 0;
-    while j <= p {
-        d[j] = control(row, j + k - p);
-        j += 1;
-    }
-}
-
-// From column r to column r+1: j from p down to r+1.
-fn column(d: &mut [f64; 6], row: &[f64], p: usize, k: usize, x: f64, r: usize)
-    requires { Within p k × (r < p) × (length row.now ≡ 72) × Column row.now p k x r d.old }
-    ensures { Column row.now p k x (r + 1) d.new }
-{
-    let mut j = p;
-    while r < j {
-        let before = j - 1;
-        d[j] = step(
-            x,
-            knot(row, j + k - p),
-            knot(row, j + k - r),
-            d[before],
-            d[j],
-        );
-        j -= 1;
-    }
-}
-
-// d[p] after round p, on the span k.
-pub(crate) fn de_boor(row: &[f64], p: usize, k: usize, x: f64) -> f64
-    requires { Within p k × (length row.now ≡ 72) }
-    ensures { result ≡ d_at row.now p k x p p }
-{
-    let mut d = [0.0f64; 6];
-    load(&mut d, row, p, k, x);
-    let mut r: usize = 0;
-    while r < p {
-        column(&mut d, row, p, k, x, r);
-        r += 1;
-    }
-    d[p]
-}
-
-// Whether hi - lo is finite in every step on the span k.
-pub(crate) fn all_wide(row: &[f64], p: usize, k: usize) -> bool
-    requires { Within p k × (length row.now ≡ 72) }
-    ensures { result ≡ wide_rounds row.now p k p }
-{
-    let mut r: usize = 0;
-    while r < p {
-        let mut j = r + 1;
-        while j <= p {
-            let wide = knot(row, j + k - r) - knot(row, j + k - p);
-            if !is_finite(wide) {
-                return false;
-            }
-            j += 1;
+    // Kept: two tests, since one by && is compiled to a blend in the chain of the recurrence: tried and slower.
+    if from == 0.0 {
+        if wide == 0.0 {
+            return 0.0;
         }
-        r += 1;
+        return from / wide;
     }
-    true
+    from / wide
 }

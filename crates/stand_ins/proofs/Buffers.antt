@@ -20,8 +20,7 @@ use Rattle.mixer.specs.Mixer.{corrected_row, mixer_fits}
 use Rattle.iir.specs.Section.{ran, sections_from, a0s_from}
 use Rattle.iir.specs.Filter.{given, pipelined, turns}
 use Rattle.ring.specs.Ring.{tap_at, sum_to, filtered_from}
-use Rattle.quant.specs.declared.refusal.Answer.{Answer}
-use Rattle.quant.specs.Refusal.{code_of}
+use Rattle.quant.specs.Refusal.{code_of, Answer}
 use Rattle.shape.specs.Hann.{hann_of}
 use Rattle.points.specs.Points.{points}
 use Rattle.spline.specs.Spline.{in_domain, span_to, blend_of, d_at}

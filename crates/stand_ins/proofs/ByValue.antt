@@ -1,4 +1,6 @@
 -- No program for one of the calls by value that keeps its promise is a stand-in: one input, or two, by computation over the definitions. Assumes nothing.
+use Rattle.std.specs.Prelude.{Option, Some, None}
+use Rattle.quant.specs.declared.complex.Complex.{Complex}
 use mathlib.Core.Path.{refl}
 use mathlib.Core.Bool.{Bool, false}
 use lib.Ieee.{Float, add, sub, mul, div, rem, neg, lt, eq, le, sum, round, of_bits, of_int}
@@ -10,8 +12,6 @@ use Rattle.fma.specs.Fused.{fma}
 use Rattle.trig.specs.Reduce.{wrapped, reduced}
 use Rattle.trig.specs.Trig.{horner, cosine_at, sine_at, cosine_of, sine_of}
 use Rattle.naming.specs.Name.{name_byte, every, low_bytes, bytes_of_word, sixteen, bytes_of, past_end, is_name, same_name}
-use Rattle.quant.specs.declared.phaser.Phased.{Phased}
-use Rattle.quant.specs.declared.phaser.Phased.TheVariants.{Pair, NotFinite}
 use Rattle.quant.specs.Phaser.{phased_of}
 use Rattle.rows.specs.Rows.{all_finite}
 use Rattle.pulse.specs.Weight.{weighed}
@@ -43,9 +43,9 @@ is_nought : Float → Bool
 is_nought x = eq x nought
 
 -- whether the pair's first part is 1
-is_ahead : Phased → Bool
-is_ahead (Pair z) = eq z.re one
-is_ahead NotFinite = false
+is_ahead : Option Complex → Bool
+is_ahead (Some z) = eq z.re one
+is_ahead None = false
 
 -- both parts are told
 only-both : (x : Float) → Only value.both x (cosine_of x, sine_of x)

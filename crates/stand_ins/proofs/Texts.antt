@@ -1,4 +1,6 @@
 -- No program for one of the calls on texts that keeps its promise is a stand-in: one input, or two, by computation over the definitions. Assumes nothing.
+use Rattle.quant.specs.Refusal.{Answer}
+use Rattle.std.specs.Prelude.{Option, Some, None, Ok, Err}
 use Prim.Native.Nat.{ℕ}
 use mathlib.Core.Path.{◌≡◌, refl, sym, ap, ◌∙◌}
 use mathlib.Core.Bool.{Bool, true, false, true≢false}
@@ -14,16 +16,12 @@ use Rattle.lines.specs.Field.{number_at}
 use Rattle.decimal.specs.Digits as digits
 use Rattle.decimal.specs.Number as number
 use Rattle.fields.specs.declared.words.Span.{Span}
-use Rattle.fields.specs.declared.words.Span.TheVariants as span
 use Rattle.fields.specs.Words.{words_of, is_word, Found}
 use Rattle.fields.specs.Value as value
 use Rattle.job.specs.Line as line
 use Rattle.job.specs.List as list
 use Rattle.job.specs.Turn.{turn_of}
 use Rattle.numbers.specs.Numbers.{numbers_of, listed}
-use Rattle.quant.specs.declared.refusal.Answer.{Answer}
-use Rattle.sheet.specs.declared.print.Printed.{Printed}
-use Rattle.sheet.specs.declared.print.Printed.TheVariants.{Bytes, Refused}
 use Rattle.sheet.specs.Sheet as sheet
 use Rattle.sheet_answer.specs.Answer as answer
 use Rattle.lines.specs.Text.{lines_of}
@@ -95,18 +93,18 @@ is_behind : sheet.Behind → Bool
 is_behind (sheet.value bytes) = true
 is_behind sheet.other = false
 
-stands : (z : Span) → Found given.q-text 0 [] z → text.is_at z ≡ true
+stands : (z : Option Span) → Found given.q-text 0 [] z → text.is_at z ≡ true
 unfolding is_behind words_of sheet.behind
-stands (span.At from to) p = refl
-stands span.Missing p = sym (ap is_behind p.is)
+stands (Some s) p = refl
+stands None p = sym (ap is_behind p.is)
 
 -- what tells a count of 1, and the bytes of one channel's sheet
 is_one : ℕ → Bool
 is_one n = eqb n 1
 
-is_short : Printed → Bool
-is_short (Bytes n) = eqb n 50
-is_short (Refused r line) = false
+is_short : Answer → Bool
+is_short (Ok n) = eqb n 50
+is_short (Err e) = false
 
 pub texts : Texts
 unfolding is_one is_short of_bits round to_bits hex.digit_value hex.digit_of hex.all_digits hex.number hex.digits hex.room hex.field hex.word_at hex.written number_at name.name_byte name.every name.accepted name.word_of name.low_bytes name.bytes_of_word name.sixteen name.bytes_of name.past_end name.named name.naming_of name.is_name name.in_place name.same_name name.writable name.written number.parted number.significand_of number.few_of number.power_of number.power_at number.scaled_by number.size_of number.hex_size_of number.is_hex number.unsigned_of number.decimal_of number.number_of digits.place_of digits.digit_of digits.digits_from digits.digits_of value.number_field value.whole_field value.pair_field value.name_of value.name_field value.shape_field value.flag_of value.flag_field value.signed value.level_of value.level_field words_of is_word line.tables_of line.channel_of line.shape_of line.rows_of line.sample_of line.action_of line.setting_of line.line_of list.all_numbers list.numbers_from turn_of numbers_of sheet.channels_key sheet.column_key sheet.row_key sheet.factor_key sheet.onto sheet.cut sheet.behind name.is_in sheet.position sheet.nothing sheet.count_step sheet.column_named sheet.column_step sheet.row_named sheet.row_step sheet.factor_bits sheet.factor_step sheet.step sheet.complete sheet.onward sheet.read_from sheet.outcome sheet.answer_of sheet.blank sheet.eight sheet.names_of sheet.doubles sheet.under sheet.rows_for sheet.matrix_of sheet.row_names sheet.good_names sheet.single sheet.among sheet.finite_bits sheet.full_blocks sheet.count_text sheet.columns_text sheet.factors_text sheet.blocks_text sheet.sheet_text sheet.patterns sheet.blocks_of sheet.sheet_of sheet.all_finite sheet.print_fits sheet.columns_judged sheet.factor_at sheet.factors_judged sheet.printed_by sheet.printed_of sheet.bytes_after answer.decimal_of answer.decimal answer.refused_key answer.line_key answer.refused_text answer.zeros answer.text_for answer.answer_text answer.answer_prints answer.answer_left lines_of first.lines_bytes first.first_of inset.taken_of inset.factors_after

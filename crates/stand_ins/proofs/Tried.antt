@@ -1,4 +1,5 @@
 -- What each call that is tried comes to, by computation over the definitions that the calls promise. Assumes nothing.
+use Rattle.std.specs.Prelude.{Ok}
 use mathlib.Core.Path.{◌≡◌, refl, sym, ap, ◌∙◌}
 use mathlib.Core.Bool.{true}
 use mathlib.Core.List.{List, [], ◌∷◌}
@@ -19,7 +20,6 @@ use Rattle.mixer.specs.Mixer.{corrected_row, mixer_fits}
 use Rattle.iir.specs.Section.{ran, sections_from, a0s_from}
 use Rattle.iir.specs.Filter.{given, pipelined, turns}
 use Rattle.ring.specs.Ring.{tap_at, sum_to, filtered_from}
-use Rattle.quant.specs.declared.refusal.Answer.TheVariants.{Done}
 use Rattle.shape.specs.Hann.{hann_of}
 use Rattle.points.specs.Points.{points}
 use Rattle.spline.specs.Spline.{not_falling, is_spline, in_domain, span_to, blend_of, fine_step, d_at, fine_at}
@@ -53,7 +53,7 @@ use Rattle.bench_table.specs.Numbers.{whole}
 use Rattle.stand_ins.specs.Whole.{plateau, hann, spline, mixer, iir, fir, make, add-channel, add-shape, add-spline, execute, no-command, no-pulse, two-pulses, two-bins, Try, Trial, ones, noughts, also, try_of, sampling_of, first_pulse, first_bin}
 
 pub record Tried (t : Try) : Type 0 where
-  pub answer : (outcome t.asking.state t.asking.call).answer ≡ Done t.count
+  pub answer : (outcome t.asking.state t.asking.call).answer ≡ Ok t.count
   pub i : (outcome t.asking.state t.asking.call).after.rows.i ≡ whole t.sample ∷ []
   pub q : (outcome t.asking.state t.asking.call).after.rows.q ≡ whole t.sample ∷ []
 

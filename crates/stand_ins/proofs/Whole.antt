@@ -1,12 +1,12 @@
 -- No program for the ten calls of `system` that keeps their promises is a stand-in: each promise allows one outcome (`only`, of `system`), and at the calls that
 -- are tried it is another than the stand-in's. Assumes nothing.
+use Rattle.quant.specs.Refusal.{Answer}
 use Prim.Native.Nat.{ℕ, ◌+◌, ◌*◌}
 use mathlib.Core.Path.{◌≡◌, refl, ap, ◌∙◌}
 use mathlib.Core.Bool.{Bool, true, false, cond}
 use mathlib.Core.List.{[], ◌∷◌}
 use lib.Dec.{eqb}
 use lib.Ieee.{eq, round}
-use Rattle.quant.specs.declared.refusal.Answer.{Answer}
 use Rattle.mixdown.specs.Sampled.{Rowed}
 use Rattle.sampler_laws.specs.Added.{count_in}
 use Rattle.bench_table.specs.Numbers.{whole}

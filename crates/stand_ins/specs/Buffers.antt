@@ -1,7 +1,9 @@
 -- The other calls on what is lent: what each promises, as its contract has it, and when it has accepted. Definitions only.
-use Rattle.std.specs.Prelude.{ℕ, ◌≡◌, Bool, List, map, eqb, Float, length}
+use Rattle.quant.specs.Refusal.{Answer}
+use Rattle.std.specs.Prelude.{ℕ, ◌≡◌, Bool, List, map, eqb, Float, length, Result}
+use Rattle.quant.specs.declared.refusal.Refusal.{Refusal}
+use Rattle.shape.specs.declared.parts.Parts.{Parts}
 use Rattle.quant.specs.declared.complex.Complex.{Complex}
-use Rattle.quant.specs.declared.refusal.Answer.{Answer}
 use Rattle.quant.specs.declared.settings.Settings.{Settings}
 use Rattle.mixer.specs.Mixer.{Mixer}
 use Rattle.iir.specs.Iir.{Iir}
@@ -13,8 +15,6 @@ use Rattle.mix.specs.Plateau.{carried, real, imaginary}
 use Rattle.mix.specs.Envelope.{shaped_by}
 use Rattle.points.specs.Points.{points}
 use Rattle.spline.specs.Value.{value_in}
-use Rattle.shape.specs.declared.parts.Parted.{Parted}
-use Rattle.shape.specs.declared.envelope.Enveloped.{Enveloped}
 use Rattle.shape.specs.Envelope.{limit_of, enveloped_of, scratch_after}
 use Rattle.pulse.specs.declared.list.Pulse.{Pulse}
 use Rattle.tables.specs.declared.Channel.{Channel}
@@ -149,11 +149,11 @@ pub record Laying : Type 0 where
   pub scratch : List Float
 
 pub record Points : Type 0 where
-  pub answer : Enveloped
+  pub answer : Result ℕ Refusal
   pub scratch : List Float
 
 -- its parts, in the room that row and scratch leave
-abbrev pub parts_laid : Laying → Parted
+abbrev pub parts_laid : Laying → Result Parts Refusal
 parts_laid x = parts_for x.bent.curve (limit_of x.bent.curve.room (length x.scratch))
 
 module _ (x : Laying) (y : Points) where

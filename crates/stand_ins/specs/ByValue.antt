@@ -1,14 +1,17 @@
 -- The calls that take values and give one back: what each promises, as its contract has it, and when it has accepted. Definitions only.
-use Rattle.std.specs.Prelude.{ℕ, Bool, true, false, not, List, eqb, ℤ, Float}
+use Rattle.tables.specs.declared.Untold.{Untold}
+use Rattle.quant.specs.declared.aligned.Misplaced.{Misplaced}
+use Rattle.quant.specs.declared.aligned.Start.{Start}
+use Rattle.std.specs.Prelude.{ℕ, Bool, true, false, not, List, eqb, ℤ, Float, Option, Some, None, Result}
+use Rattle.quant.specs.declared.complex.Complex.{Complex}
+use Rattle.quant.specs.declared.refusal.Refusal.{Refusal}
+use Rattle.shape.specs.declared.parts.Parts.{Parts}
+use Rattle.pulse.specs.declared.weight.Weight.{Weight}
 use Rattle.trig.specs.Reduce.{wrapped}
 use Rattle.trig.specs.Trig.{cosine_at, cosine_of, sine_of, Both}
 use Rattle.naming.specs.declared.Name.{Name}
-use Rattle.quant.specs.declared.aligned.Aligned.{Aligned}
-use Rattle.quant.specs.declared.aligned.Placed.{Placed}
-use Rattle.quant.specs.declared.phaser.Phased.{Phased}
 use Rattle.quant.specs.declared.quantity.Frequency.{Frequency}
 use Rattle.quant.specs.declared.quantity.Time.{Time}
-use Rattle.quant.specs.declared.settings.Fitting.{Fitting}
 use Rattle.quant.specs.declared.settings.Settings.{Settings}
 use Rattle.quant.specs.Aligned.{aligned_of, placed_of, aligned_answer, placed_answer}
 use Rattle.quant.specs.Phaser.{phased_of, phased_answer}
@@ -23,24 +26,17 @@ use Rattle.spline.specs.Value.{value_in, fine_in}
 use Rattle.pulse.specs.declared.bin.Bin.{Bin}
 use Rattle.pulse.specs.declared.envelope.Shape.{Shape}
 use Rattle.pulse.specs.declared.list.Pulse.{Pulse}
-use Rattle.pulse.specs.declared.weight.Weighed.{Weighed}
 use Rattle.pulse.specs.Weight.{weighed_of, weighed_answer}
 use Rattle.tables.specs.declared.Tables.{Tables}
-use Rattle.tables.specs.declared.Found.{Found}
-use Rattle.tables.specs.declared.Found.TheVariants as found
-use Rattle.tables.specs.declared.Told.{Told}
 use Rattle.tables.specs.Tables as tables
 use Rattle.points.specs.Points.{point_at}
-use Rattle.shape.specs.declared.parts.Parted.{Parted}
-use Rattle.shape.specs.declared.envelope.Enveloped.{Enveloped}
 use Rattle.shape.specs.Hann.{hann_of}
 use Rattle.shape.specs.Parts.{parted_of, parted_answer}
 use Rattle.shape.specs.Envelope.{least, enveloped_of, enveloped_answer}
 use Rattle.placing.specs.declared.Judged.{Judged}
 use Rattle.placing.specs.Judged.{judged, judged_answer}
 use Rattle.crosstalk.specs.declared.names.Crosstalk.{Crosstalk}
-use Rattle.crosstalk.specs.declared.parts.Plan.{Plan}
-use Rattle.crosstalk.specs.Crosstalk.{planned}
+use Rattle.crosstalk.specs.Crosstalk.{Plan, planned, is_refused}
 use Rattle.host.specs.declared.Index.{Index}
 use Rattle.host.specs.declared.Place.{Place}
 use Rattle.host.specs.Places.{index_of, place_of}
@@ -87,13 +83,13 @@ pub record Timed : Type 0 where
   pub rate : Float
   pub level : ℤ
 
-abbrev pub is_index : Aligned → Bool
+abbrev pub is_index : Option Float → Bool
 is_index y = is_done (aligned_answer y)
 
 abbrev pub align : Call
 align = equation (λ (x : Timed). aligned_of x.time x.rate x.level) is_index
 
-abbrev pub is_start : Placed → Bool
+abbrev pub is_start : Result Start Misplaced → Bool
 is_start y = is_done (placed_answer y)
 
 abbrev pub place : Call
@@ -106,7 +102,7 @@ align-c = equation (λ (x : Timed). index_of (aligned_of x.time x.rate x.level))
 abbrev pub place-c : Call
 place-c = equation (λ (x : Timed). place_of (placed_of (aligned_of x.time x.rate x.level))) (λ (y : Place). eqb y.code 0)
 
-abbrev pub is_pair : Phased → Bool
+abbrev pub is_pair : Option Complex → Bool
 is_pair y = is_done (phased_answer y)
 
 abbrev pub phaser : Call
@@ -117,7 +113,7 @@ pub record Clocked : Type 0 where
   pub delay : Time
   pub level : ℤ
 
-abbrev pub is_fit : Fitting → Bool
+abbrev pub is_fit : Option Settings → Bool
 is_fit y = is_done (fitting_answer y)
 
 abbrev pub set-up : Call
@@ -160,7 +156,7 @@ pub record Weighing : Type 0 where
   pub phase : Float
   pub drag : Float
 
-abbrev pub is_fine : Weighed → Bool
+abbrev pub is_fine : Option Weight → Bool
 is_fine y = is_done (weighed_answer y)
 
 abbrev pub weigh : Call
@@ -174,16 +170,16 @@ pub record Curve : Type 0 where
   pub dt : Float
   pub room : ℕ
 
-abbrev pub parts_for : Curve → ℕ → Parted
+abbrev pub parts_for : Curve → ℕ → Result Parts Refusal
 parts_for x room = parted_of x.width x.plateau x.offset x.rate x.dt room
 
-abbrev pub is_within : Parted → Bool
+abbrev pub is_within : Result Parts Refusal → Bool
 is_within y = is_done (parted_answer y)
 
 abbrev pub lay-out : Call
 lay-out = equation (λ (x : Curve). parts_for x x.room) is_within
 
-abbrev pub has_points : Enveloped → Bool
+abbrev pub has_points : Result ℕ Refusal → Bool
 has_points y = is_done (enveloped_answer y)
 
 -- of a shape, with the numbers of a spline beside it
@@ -202,7 +198,7 @@ pub record Pulsed : Type 0 where
   pub pulse : Pulse
   pub len : ℕ
 
-abbrev pub is_placed : Judged → Bool
+abbrev pub is_placed : Result Judged Refusal → Bool
 is_placed y = is_done (judged_answer y)
 
 abbrev pub judge : Call
@@ -234,15 +230,15 @@ pub record Looking : Type 0 where
   pub tables : Tables
   pub name : Name
 
-abbrev pub is_known : Told → Bool
+abbrev pub is_known : Result OscState Untold → Bool
 is_known y = is_done (tables.told_answer y)
 
 abbrev pub state : Call
 state = equation (λ (x : Looking). tables.state_of x.tables x.name) is_known
 
-abbrev pub is_there : Found → Bool
-is_there (found.At i) = true
-is_there found.Nowhere = false
+abbrev pub is_there : Option ℕ → Bool
+is_there (Some i) = true
+is_there None = false
 
 abbrev pub find : Call
 find = equation (λ (x : Looking). tables.found x.tables x.name) is_there
@@ -257,7 +253,7 @@ pub record Planning : Type 0 where
   pub factors : List Float
 
 abbrev pub plan : Call
-plan = equation (λ (x : Planning). planned x.tables x.channel x.cross x.factors) (λ (y : Plan). not y.refused)
+plan = equation (λ (x : Planning). planned x.tables x.channel x.cross x.factors) (λ (y : Plan). not (is_refused y))
 
 -- ---- what the steps on rows answer: whether the sizes fit, and whether the numbers are fine
 

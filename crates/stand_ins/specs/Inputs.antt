@@ -1,6 +1,6 @@
 -- The inputs that the other calls are tried on. Definitions only.
 use Rattle.std.specs.Prelude.{ℕ, true, false, List, [], ◌∷◌, map, pos, Float, take, replicate}
-use Rattle.exact.specs.Doubles.{nought, one}
+use Rattle.exact.specs.Doubles.{nought}
 use Rattle.naming.specs.declared.Name.{Name}
 use Rattle.quant.specs.declared.complex.Complex.{Complex}
 use Rattle.pulse.specs.declared.list.Pulse.{Pulse}

@@ -1,51 +1,29 @@
 -- The calls on texts: what each promises, as its contract has it, and when it has accepted. Definitions only.
-use Rattle.std.specs.Prelude.{ℕ, Bool, true, false, ◌&&◌, List, eqb, Float, length, get_or}
+use Rattle.quant.specs.Refusal.{Answer}
+use Rattle.std.specs.Prelude.{ℕ, Bool, true, false, ◌&&◌, List, eqb, Float, length, get_or, Option, Some, None, ℤ, Ok, Err}
 use Rattle.std.specs.Float.{binary64}
 use Rattle.std.specs.Float.Ieee.{to_bits}
-use Rattle.hexadecimal.specs.declared.Word.{Word}
-use Rattle.hexadecimal.specs.declared.Word.TheVariants as word
 use Rattle.hexadecimal.specs.Hex as hex
 use Rattle.lines.specs.Field.{number_at}
 use Rattle.naming.specs.declared.Name.{Name}
-use Rattle.naming.specs.declared.Naming.{Naming}
 use Rattle.naming.specs.Name as name
 use Rattle.tables.specs.Tables.{naming_answer}
-use Rattle.decimal.specs.declared.digits.Digits.{Digits}
-use Rattle.decimal.specs.declared.digits.Digits.TheVariants as digits
-use Rattle.decimal.specs.declared.number.Number.{Number}
-use Rattle.decimal.specs.declared.number.Number.TheVariants as number
 use Rattle.decimal.specs.Digits.{digits_of}
 use Rattle.decimal.specs.Number.{number_of}
-use Rattle.fields.specs.declared.pair.Pair.{Pair}
-use Rattle.fields.specs.declared.pair.Pair.TheVariants as pair
-use Rattle.fields.specs.declared.value.Called.{Called}
-use Rattle.fields.specs.declared.value.Called.TheVariants as called
-use Rattle.fields.specs.declared.value.Shaped.{Shaped}
-use Rattle.fields.specs.declared.value.Shaped.TheVariants as shaped
-use Rattle.fields.specs.declared.value.Flag.{Flag}
-use Rattle.fields.specs.declared.value.Flag.TheVariants as flag
-use Rattle.fields.specs.declared.value.Level.{Level}
-use Rattle.fields.specs.declared.value.Level.TheVariants as level
 use Rattle.fields.specs.declared.words.Span.{Span}
-use Rattle.fields.specs.declared.words.Span.TheVariants as span
 use Rattle.fields.specs.Words.{words_of, word_in, Found}
 use Rattle.fields.specs.Value as value
 use Rattle.job.specs.declared.line.Line.{Line}
 use Rattle.job.specs.declared.line.Line.TheVariants as line
 use Rattle.job.specs.declared.turn.Turn.{Turn}
-use Rattle.job.specs.declared.turn.Turn.TheVariants as turn
 use Rattle.job.specs.Line.{line_of}
 use Rattle.job.specs.List.{numbers_from}
 use Rattle.job.specs.Turn.{turn_of}
 use Rattle.numbers.specs.Numbers.{Stored}
 use Rattle.sheet.specs.declared.read.Reading.{Reading}
-use Rattle.sheet.specs.declared.print.Printed.{Printed}
-use Rattle.sheet.specs.declared.print.Printed.TheVariants as printed
 use Rattle.sheet.specs.Sheet.{Read, Print}
 use Rattle.sheet_answer.specs.Answer.{Answered}
 use Rattle.crosstalk.specs.declared.names.Crosstalk.{Crosstalk}
-use Rattle.job_sheet.specs.declared.Inset.{Inset}
-use Rattle.job_sheet.specs.declared.Inset.TheVariants as inset
 use Rattle.job_sheet.specs.declared.Taken.{Taken}
 use Rattle.job_sheet.specs.Inset.{Took}
 use Rattle.stand_ins.specs.StandIns.{Call, equation}
@@ -58,9 +36,9 @@ pub record Place : Type 0 where
   pub text : List ℕ
   pub at : ℕ
 
-abbrev pub is_word : Word → Bool
-is_word (word.Bits n) = true
-is_word word.Bad = false
+abbrev pub is_word : Option ℕ → Bool
+is_word (Some n) = true
+is_word None = false
 
 abbrev pub hex-read : Call
 hex-read = equation (λ (x : Place). hex.word_at x.text x.at) is_word
@@ -68,7 +46,7 @@ hex-read = equation (λ (x : Place). hex.word_at x.text x.at) is_word
 abbrev pub number-at : Call
 number-at = equation (λ (x : Place). number_at x.text x.at) is_word
 
-abbrev pub is_named : Naming → Bool
+abbrev pub is_named : Option Name → Bool
 is_named y = is_done (naming_answer y)
 
 abbrev pub name-read : Call
@@ -91,16 +69,16 @@ name-write = record { Given = Name × Place; Left = Written; Promise = λ x y. n
 
 -- ---- numbers
 
-abbrev pub is_double : Number → Bool
-is_double (number.Double x) = true
-is_double number.Bad = false
+abbrev pub is_double : Option Float → Bool
+is_double (Some x) = true
+is_double None = false
 
 abbrev pub decimal-read : Call
 decimal-read = equation number_of is_double
 
-abbrev pub is_value : Digits → Bool
-is_value (digits.Value n) = true
-is_value digits.Bad = false
+abbrev pub is_value : Option ℕ → Bool
+is_value (Some n) = true
+is_value None = false
 
 abbrev pub figures : Call
 figures = equation digits_of is_value
@@ -121,30 +99,30 @@ number_in = equation (behind_key value.number_field) is_double
 abbrev pub whole_in : Call
 whole_in = equation (behind_key value.whole_field) is_value
 
-abbrev pub is_called : Called → Bool
-is_called (called.Name n) = true
-is_called called.Bad = false
+abbrev pub is_called : Option Name → Bool
+is_called (Some n) = true
+is_called None = false
 
 abbrev pub name_in : Call
 name_in = equation (behind_key value.name_field) is_called
 
-abbrev pub is_shaped : Shaped → Bool
-is_shaped (shaped.As t n) = true
-is_shaped shaped.Bad = false
+abbrev pub is_shaped : Option (Option Name) → Bool
+is_shaped (Some n) = true
+is_shaped None = false
 
 abbrev pub shape_in : Call
 shape_in = equation (behind_key value.shape_field) is_shaped
 
-abbrev pub is_flag : Flag → Bool
-is_flag (flag.Is t) = true
-is_flag flag.Bad = false
+abbrev pub is_flag : Option Bool → Bool
+is_flag (Some t) = true
+is_flag None = false
 
 abbrev pub flag_in : Call
 flag_in = equation (behind_key value.flag_field) is_flag
 
-abbrev pub is_level : Level → Bool
-is_level (level.Is z) = true
-is_level level.Bad = false
+abbrev pub is_level : Option ℤ → Bool
+is_level (Some z) = true
+is_level None = false
 
 abbrev pub level_in : Call
 level_in = equation (behind_key value.level_field) is_level
@@ -156,20 +134,20 @@ pub record Fields : Type 0 where
   pub l : ℕ
   pub second : List ℕ
 
-abbrev pub is_both : Pair → Bool
-is_both (pair.Both x y) = true
-is_both pair.Bad = false
+abbrev pub is_both : Option (Float × Float) → Bool
+is_both (Some p) = true
+is_both None = false
 
 abbrev pub pair_in : Call
 pair_in = equation (λ (x : Fields). value.pair_field x.first x.second (word_in x.line x.k) (word_in x.line x.l)) is_both
 
 -- this one promises where the value stands, or another place with the same bytes
-abbrev pub is_at : Span → Bool
-is_at (span.At from to) = true
-is_at span.Missing = false
+abbrev pub is_at : Option Span → Bool
+is_at (Some s) = true
+is_at None = false
 
 abbrev pub value-at : Call
-value-at = record { Given = Field; Left = Span; Promise = λ x y. Found x.line x.k x.key y; accepted = is_at }
+value-at = record { Given = Field; Left = Option Span; Promise = λ x y. Found x.line x.k x.key y; accepted = is_at }
 
 abbrev pub words_count : Call
 words_count = equation (λ (line : List ℕ). length (words_of line)) always
@@ -202,9 +180,9 @@ job_read = equation line_of is_line
 abbrev pub all-numbers : Call
 all-numbers = equation (λ (x : Place). numbers_from x.at (words_of x.text)) (λ b. b)
 
-abbrev pub is_turn : Turn → Bool
-is_turn (turn.By n x start span) = true
-is_turn turn.Bad = false
+abbrev pub is_turn : Option Turn → Bool
+is_turn (Some t) = true
+is_turn None = false
 
 abbrev pub turn_by : Call
 turn_by = equation (λ (x : Field). turn_of x.key (words_of x.line)) is_turn
@@ -238,12 +216,12 @@ pub record Printing : Type 0 where
   pub out : List ℕ
 
 pub record Out : Type 0 where
-  pub printed : Printed
+  pub printed : Answer
   pub out : List ℕ
 
-abbrev pub is_bytes : Printed → Bool
-is_bytes (printed.Bytes n) = true
-is_bytes (printed.Refused r line) = false
+abbrev pub is_bytes : Answer → Bool
+is_bytes (Ok n) = true
+is_bytes (Err e) = false
 
 abbrev pub sheet-print : Call
 sheet-print =
@@ -280,9 +258,9 @@ pub record Left : Type 0 where
   pub taken : Taken
   pub factors : List Float
 
-abbrev pub is_sheet : Inset → Bool
-is_sheet (inset.Sheet answer) = is_done answer
-is_sheet inset.Fewer = false
+abbrev pub is_sheet : Option Answer → Bool
+is_sheet (Some answer) = is_done answer
+is_sheet None = false
 
 abbrev pub take-sheet : Call
 take-sheet =

@@ -1,9 +1,8 @@
 -- The ten calls of `system` as one call, what a stand-in of it would show, and what stand-ins are tried on: rows of one sample each, a channel `q` with a
 -- pulse or two of amplitude 1 + i, one command. Definitions only.
-use Rattle.std.specs.Prelude.{ℕ, ◌+◌, ◌-◌, ◌*◌, Bool, true, false, cond, List, [], ◌∷◌, ◌++◌, ℤ, pos, negsuc, Float, length, take, replicate}
+use Rattle.quant.specs.Refusal.{Answer}
+use Rattle.std.specs.Prelude.{ℕ, ◌+◌, ◌-◌, ◌*◌, Bool, true, false, cond, List, [], ◌∷◌, ◌++◌, ℤ, pos, negsuc, Float, length, take, replicate, Ok, Err}
 use Rattle.std.specs.Float.Ieee.{neg}
-use Rattle.quant.specs.declared.refusal.Answer.{Answer}
-use Rattle.quant.specs.declared.refusal.Answer.TheVariants.{Done, Refused}
 use Rattle.spline.specs.Row as spline-row
 use Rattle.pulse.specs.declared.envelope.Shape.TheVariants.{Plain, Hann, Spline}
 use Rattle.pulse.specs.declared.list.Pulse.{Pulse}
@@ -33,8 +32,8 @@ pub record Asking : Type 0 where
   pub call : system.Call
 
 abbrev pub is_done : Answer → Bool
-is_done (Done k) = true
-is_done (Refused why k) = false
+is_done (Ok k) = true
+is_done (Err e) = false
 
 abbrev pub whole_system : Call
 whole_system = record { Given = Asking; Left = Outcome; Promise = λ x o. Promised x.state x.call o; accepted = λ o. is_done o.answer }

@@ -1,5 +1,6 @@
 -- The ways in which adding a channel, a shape or a spline ends: refused by one of its checks, or done, at a place that is known or behind those that are
 -- there. What holds of each way holds of the add. Assumes nothing.
+use Rattle.std.specs.Prelude.{Option, Some, None}
 use Prim.Native.Nat.{ℕ, ◌+◌}
 use mathlib.Core.Path.{◌≡◌, refl}
 use mathlib.Core.Bool.{Bool, true, false, ◌&&◌, cond}
@@ -17,8 +18,6 @@ use Rattle.pulse.specs.Bin.{no_numbers}
 use Rattle.executor.specs.declared.osc.OscState.{OscState}
 use Rattle.tables.specs.declared.Tables.{Tables}
 use Rattle.tables.specs.declared.Tabled.{Tabled}
-use Rattle.tables.specs.declared.Found.{Found}
-use Rattle.tables.specs.declared.Found.TheVariants.{At, Nowhere}
 use Rattle.tables.specs.Tables.{found, shape_found, done, refused, fresh, finite_osc, with_channels, with_channel, settled, with_added}
 use Rattle.tables.specs.Tables.{Formed, formed, with_shape, settled_shape, with_added_shape, with_added_spline}
 
@@ -28,13 +27,13 @@ one_of P false x y h k = k
 
 -- ---- a channel
 module _ (P : Tabled → Type 0) (t : Tables) (n : Name) (o : OscState)
-    (known : (i : ℕ) → found t n ≡ At i → P (done (with_channel t i (fresh n o))))
+    (known : (i : ℕ) → found t n ≡ Some i → P (done (with_channel t i (fresh n o))))
     (new : P (done (with_channels t (set t.channels t.count (fresh n o)) (t.count + 1))))
     (malformed : P (refused Malformed t)) (full : P (refused Full t)) where
-  settled-by : (f : Found) → found t n ≡ f → P (settled t f (fresh n o))
+  settled-by : (f : Option ℕ) → found t n ≡ f → P (settled t f (fresh n o))
   unfolding settled
-  settled-by (At i) e = known i e
-  settled-by Nowhere e =
+  settled-by (Some i) e = known i e
+  settled-by None e =
       one_of P (ltb t.count 8) (done (with_channels t (set t.channels t.count (fresh n o)) (t.count + 1))) (refused Full t) new full
 
   pub channel-by : P (with_added t n o)
@@ -45,10 +44,10 @@ module _ (P : Formed → Type 0) (t : Tables) (rows : List (List Float)) (n : Na
     (known : (i : ℕ) (row : List Float) → P (formed (done t) (set rows i row)))
     (new : (row : List Float) → P (formed (done (with_shape t n)) (set rows t.named row)))
     (size : P (formed (refused WrongSize t) rows)) (malformed : P (formed (refused Malformed t) rows)) (full : P (formed (refused Full t) rows)) where
-  settled-shape-by : (row : List Float) (f : Found) → P (settled_shape t f n row rows)
+  settled-shape-by : (row : List Float) (f : Option ℕ) → P (settled_shape t f n row rows)
   unfolding settled_shape
-  settled-shape-by row (At i) = known i row
-  settled-shape-by row Nowhere =
+  settled-shape-by row (Some i) = known i row
+  settled-shape-by row None =
       one_of P (ltb t.named 8) (formed (done (with_shape t n)) (set rows t.named row)) (formed (refused Full t) rows) (new row) full
 
   -- for rows that are eight

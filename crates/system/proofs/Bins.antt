@@ -1,5 +1,6 @@
 -- Every pulse that a sampling call judges belongs to a bin of a channel that is there; so what holds of these bins holds of the bin of every pulse. The
 -- lists that take part are found by name, and their bins by first appearance are some of their rows. Assumes nothing.
+use Rattle.std.specs.Prelude.{Option, Some, None}
 use Prim.Native.Nat.{ℕ, suc, ◌+◌, ◌*◌, ◌<◌}
 use native.Mathlib.Omega.{arith}
 use mathlib.Core.Path.{◌≡◌, refl, sym, subst}
@@ -14,14 +15,12 @@ use Rattle.pulse.specs.declared.bin.Bin.{Bin}
 use Rattle.pulse.specs.declared.list.Pulse.{Pulse}
 use Rattle.pulse.specs.Bin.{bin_of, numbers_of}
 use Rattle.tables.specs.declared.Tables.{Tables}
-use Rattle.tables.specs.declared.Found.{Found}
-use Rattle.tables.specs.declared.Found.TheVariants.{At, Nowhere}
 use Rattle.tables.specs.Tables.{found, channels_in, channel_at}
 use Rattle.tables.proofs.Finding.{found-under}
 use Rattle.commands.specs.Play.{rows_of}
 use Rattle.merge.specs.Taking.{Part, parts_in}
 use Rattle.crosstalk.specs.declared.names.Crosstalk.{Crosstalk}
-use Rattle.crosstalk.specs.Crosstalk.{names_in, row_of, part_of, row_parts, row_at, parts_at, planned}
+use Rattle.crosstalk.specs.Crosstalk.{names_in, row_of, part_of, row_parts, row_at, parts_at, planned, is_refused, taking_of}
 use Rattle.crosstalk.proofs.Laws.{plan-parts}
 use Rattle.mixdown.specs.Bins.{is_among, all_rows, firsts_after, bins_by}
 use Rattle.sampler_laws.specs.Added.{Due, dues_of, all_dues}
@@ -51,16 +50,16 @@ module _ (t : Tables) where
   abbrev pub There : Part → Type 0
   There p = p.place < t.count
 
-  found-there : (n : Name) (i : ℕ) → found t n ≡ At i → i < t.count
+  found-there : (n : Name) (i : ℕ) → found t n ≡ Some i → i < t.count
   found-there n i e =
       let under = found-under 0 n (channels_in t) i e in
       let short = rw (length-take t.count t.channels) at under in
       omega (arith, short)
 
-  part-there : (n : Name) (f : Found) (x : Float) (ps : List Part) → found t n ≡ f → Each There ps → Each There (part_of f x ps)
+  part-there : (n : Name) (f : Option ℕ) (x : Float) (ps : List Part) → found t n ≡ f → Each There ps → Each There (part_of f x ps)
   unfolding part_of
-  part-there n (At i) x ps e h = (found-there n i e, h)
-  part-there n Nowhere x ps e h = h
+  part-there n (Some i) x ps e h = (found-there n i e, h)
+  part-there n None x ps e h = h
 
   row-there : (ns : List Name) (fs : List Float) → Each There (row_parts t ns fs)
   unfolding row_parts
@@ -73,12 +72,12 @@ module _ (t : Tables) where
       go false h = part-there n (found t n) f (row_parts t ns fs) refl h
 
   module _ (channel : Name) (c : Crosstalk) (factors : List Float) where
-    at_there : (f : Found) → Each There (parts_at t channel c factors f)
+    at_there : (f : Option ℕ) → Each There (parts_at t channel c factors f)
     unfolding parts_at
-    at_there (At r) = row-there (names_in c) (row_at r c.count factors)
-    at_there Nowhere = part-there channel (found t channel) one [] refl tt
+    at_there (Some r) = row-there (names_in c) (row_at r c.count factors)
+    at_there None = part-there channel (found t channel) one [] refl tt
 
-    pub parts-there : (planned t channel c factors).refused ≡ false → Each There (parts_in (planned t channel c factors).taking)
+    pub parts-there : is_refused (planned t channel c factors) ≡ false → Each There (parts_in (taking_of (planned t channel c factors)))
     parts-there ok = subst (Each There) (sym (plan-parts t channel c factors ok).parts) (at_there (row_of channel (names_in c)))
 
   -- ---- their bins

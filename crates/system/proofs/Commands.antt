@@ -1,5 +1,6 @@
 -- The command call: accepted, it counts its commands; refused with k commands run, these alone are accepted and leave just what it left, and from
 -- there the next one is refused again. By the laws of `commands_laws` on a refused call and on two calls. Assumes nothing.
+use Rattle.std.specs.Prelude.{Ok, Err}
 use Prim.Native.Nat.{ℕ, suc, ◌+◌, ◌≤◌, ◌<◌}
 use native.Mathlib.Omega.{arith}
 use mathlib.Core.Path.{◌≡◌, refl, sym, ap, subst, ◌∙◌}
@@ -11,11 +12,10 @@ use lib.Ieee.{Float}
 use lib.ListN.{length, take, drop, take-append-drop}
 use Rattle.exact.specs.Among.{among}
 use Rattle.exact.proofs.Truth.{both}
-use Rattle.quant.specs.declared.refusal.Answer.{Answer}
-use Rattle.quant.specs.declared.refusal.Answer.TheVariants.{Done, Refused}
 use Rattle.quant.specs.declared.refusal.Refusal.{Refusal}
 use Rattle.quant.specs.declared.refusal.Refusal.TheVariants.{WrongSize}
-use Rattle.quant.specs.Refusal.{number_of}
+use Rattle.quant.specs.Refusal.{number_of, Answer, refuse}
+use Rattle.quant.proofs.Refusals.{same-why, same-place}
 use Rattle.pulse.specs.declared.list.Pulse.{Pulse}
 use Rattle.tables.specs.declared.Tables.{Tables}
 use Rattle.commands.specs.declared.command.Arranged.{Arranged}
@@ -30,8 +30,8 @@ use Rattle.system.proofs.Numbers.{step-number}
 
 -- how a run ends, of which k commands have run before: all are run, or it is refused behind fewer
 data Ends (commands : List Arranged) (k : ℕ) (a : Answer) : Type 0 where
-  all : (n : ℕ) → n ≡ k + length commands → a ≡ Done n → Ends commands k a
-  one : (why : Refusal) (n : ℕ) → n < k + length commands → among command_numbers (number_of why) ≡ true → a ≡ Refused why n → Ends commands k a
+  all : (n : ℕ) → n ≡ k + length commands → a ≡ Ok n → Ends commands k a
+  one : (why : Refusal) (n : ℕ) → n < k + length commands → among command_numbers (number_of why) ≡ true → a ≡ refuse why n → Ends commands k a
 
 ran_ends : (k : ℕ) (t : Tables) (splines : List (List Float)) (commands : List Arranged) (bins : List (List Float)) (pulses : List Pulse)
     → Ends commands k (ran k t splines commands bins pulses).result.answer
@@ -51,13 +51,13 @@ ran_ends k t splines (a ∷ more) bins pulses = go s.stop refl (ran_ends (suc k)
     go false e (one why n below number h) = one why n (omega (arith, below)) number h
 
 -- counted from k on, refused behind k commands: refused at once
-none-further : (k : ℕ) (a : Answer) (why : Refusal) → further k a ≡ Refused why k → a ≡ Refused why 0
-none-further k (Done n) why e = let z : ◌≡◌ {A = ℕ} 0 1 = cc in absurd (omega arith)
-none-further k (Refused q n) why e =
-    let place : k + n ≡ k = cc in
-    let none : n ≡ 0 = omega (arith, place) in
-    let same : q ≡ why = cc in
-    λ j. Refused (same j) (none j)
+none-further : (k : ℕ) (a : Answer) (why : Refusal) → further k a ≡ refuse why k → a ≡ refuse why 0
+none-further k (Ok n) why e = let z : ◌≡◌ {A = ℕ} 0 1 = cc in absurd (omega arith)
+none-further k (Err x) why e =
+    let place = same-place x.why why (k + x.place) k e in
+    let none : x.place ≡ 0 = omega (arith, place) in
+    let same = same-why x.why why (k + x.place) k e in
+    λ j. refuse (same j) (none j)
 
 -- the sizes, one by one
 pub record Sized (commands splines bins pulses : ℕ) : Type 0 where
@@ -89,7 +89,7 @@ module _ (s : State) (commands : List Arranged) where
   Said x = CommandsSaid s commands (has_run s x).answer (has_run s x).after
 
   module _ (fits : Sized (length commands) (length s.splines) (length s.bins) (length s.pulses)) where
-    module _ (why : Refusal) (k : ℕ) (told-so : run.result.answer ≡ Refused why k) where
+    module _ (why : Refusal) (k : ℕ) (told-so : run.result.answer ≡ refuse why k) where
       -- the commands before the refused one, alone
       alone : executed s.tables s.splines (take k commands) s.bins s.pulses ≡ as_done k run
       alone = refused-call s.tables s.splines commands s.bins s.pulses why k fits.few fits.shapes fits.rows fits.records told-so
@@ -98,17 +98,17 @@ module _ (s : State) (commands : List Arranged) where
       rest = executed run.result.tables s.splines (drop k commands) run.bins run.pulses
 
       -- the whole call is those, and then the rest
-      in_two : run ≡ second_call (Done k) (as_done k run) s.splines (drop k commands)
+      in_two : run ≡ second_call (Ok k) (as_done k run) s.splines (drop k commands)
       in_two =
           let cut = take-append-drop k commands in
           ap (λ (l : List Arranged). executed s.tables s.splines l s.bins s.pulses) (sym cut)
           ∙ in_two-calls s.tables s.splines (take k commands) (drop k commands) s.bins s.pulses (rw cut fits.few) fits.shapes fits.rows fits.records
           ∙ ap (λ (x : Ran). second_call x.result.answer x s.splines (drop k commands)) alone
 
-      again : has_run (has_run s run).after rest ≡ told (Refused why 0) (has_run s run).after
+      again : has_run (has_run s run).after rest ≡ told (refuse why 0) (has_run s run).after
       unfolding second_call
       again =
-          let answer : rest.result.answer ≡ Refused why 0 = none-further k rest.result.answer why (sym (ap (λ (x : Ran). x.result.answer) in_two) ∙ told-so) in
+          let answer : rest.result.answer ≡ refuse why 0 = none-further k rest.result.answer why (sym (ap (λ (x : Ran). x.result.answer) in_two) ∙ told-so) in
           let back = sym in_two in
           λ j. told (answer j) (with_stored s (back j).result.tables (back j).bins (back j).pulses)
 

@@ -2,6 +2,7 @@
 -- stays there, with its row and so with its spline's numbers, as long as neither tables are made anew nor its channel's name is added again. Adding a
 -- shape or a spline writes no bin at all, adding another channel sets another place, and commands open bins only behind those that are there. Assumes
 -- nothing.
+use Rattle.std.specs.Prelude.{Some}
 use Prim.Native.Nat.{ℕ, ◌+◌, ◌*◌, ◌≤◌, ◌<◌}
 use native.Mathlib.Omega.{arith}
 use mathlib.Core.Path.{◌≡◌, refl, sym, ap, subst, ◌∙◌}
@@ -17,7 +18,6 @@ use Rattle.pulse.specs.Bin.{numbers_of}
 use Rattle.executor.specs.declared.osc.OscState.{OscState}
 use Rattle.tables.specs.declared.Channel.{Channel}
 use Rattle.tables.specs.declared.Tabled.{Tabled}
-use Rattle.tables.specs.declared.Found.TheVariants.{At}
 use Rattle.tables.specs.Tables.{Formed, formed, found, no_channel, channel_at, done, fresh, with_channels, with_added, with_shape, with_added_shape, with_added_spline}
 use Rattle.commands_laws.specs.Sound.{Reached}
 use Rattle.commands_laws.proofs.Sound.{sound}
@@ -60,7 +60,7 @@ module _ (i k : ℕ) (under : i < 8) (low : k < 64) where
         (set-stays t.count (t.count + 1) (fresh n o) (λ is. omega (arith, is, channel)) (omega arith))
         came came
       where
-        apart : (j : ℕ) → found s.tables n ≡ At j → i ≡ j → ⊥
+        apart : (j : ℕ) → found s.tables n ≡ Some j → i ≡ j → ⊥
         apart j e is =
             let named = ap (λ (m : ℕ). (channel_at s.tables m).name) is ∙ has-name s.tables n j e in
             true≢false (sym ((same-exactly (channel_at s.tables i).name n).1 named) ∙ other)

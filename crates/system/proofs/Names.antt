@@ -2,17 +2,15 @@
 -- no name is at fault, none of the three is given. Assumes nothing.
 use Prim.Native.Nat.{ℕ}
 use mathlib.Core.Path.{◌≡◌, refl, sym, subst, ◌∙◌}
-use mathlib.Core.Bool.{true, false, true≢false}
+use mathlib.Core.Bool.{false, true≢false}
 use mathlib.Core.Logic.{◌↔◌}
 use mathlib.Core.List.{List, [], ◌∷◌}
 use lib.Ieee.{Float}
 use lib.ListN.{length}
 use Rattle.exact.specs.Among.{among}
-use Rattle.quant.specs.declared.refusal.Answer.{Answer}
-use Rattle.quant.specs.declared.refusal.Answer.TheVariants.{Refused}
 use Rattle.quant.specs.declared.refusal.Refusal.{Refusal}
 use Rattle.quant.specs.declared.refusal.Refusal.TheVariants.{DoubledName, NoList, NoColumn}
-use Rattle.quant.specs.Refusal.{number_of}
+use Rattle.quant.specs.Refusal.{number_of, Answer, refuse}
 use Rattle.crosstalk.specs.declared.names.Crosstalk.{Crosstalk}
 use Rattle.crosstalk.specs.Crosstalk.{names_in}
 use Rattle.crosstalk.specs.Faults.{AtFault, NoneBefore, FirstAtFault}
@@ -41,27 +39,27 @@ module _ (s : State) (r : Request) (c : Crosstalk) (factors : List Float) where
   no_other q eighteen = (refl, refl)
   no_other q nineteen = (refl, refl)
 
-  told_at : (q : Refusal) (k : ℕ) → OfNames q → Answers s r c factors (Refused q k) → AtName s r c factors q k
+  told_at : (q : Refusal) (k : ℕ) → OfNames q → Answers s r c factors (refuse q k) → AtName s r c factors q k
   unfolding outcome
   told_at q k of e = by (subst (λ (a : Answer). SampleSaid s r c factors a (has_sampled s result).after) e (sample-said s r c factors))
     where
-      by : SampleSaid s r c factors (Refused q k) (has_sampled s result).after → AtName s r c factors q k
+      by : SampleSaid s r c factors (refuse q k) (has_sampled s result).after → AtName s r c factors q k
       by (before-any h) = absurd (true≢false (sym h.number ∙ (no_other q of).0))
       by (at_name h _) = h
       by (at_one h) = absurd (true≢false (sym h.number ∙ (no_other q of).1))
 
-  at_told : (q : Refusal) (k : ℕ) → AtName s r c factors q k → Answers s r c factors (Refused q k)
+  at_told : (q : Refusal) (k : ℕ) → AtName s r c factors q k → Answers s r c factors (refuse q k)
   unfolding sampled outcome
   at_told q k h =
       let plan = name-planned s.tables r.channel c factors h.each-factor h.fine q k h.first in
       rw (h.fit, h.sizes, plan)
 
   -- exactly when, of all three
-  pub name-refused : (q : Refusal) (k : ℕ) → OfNames q → Answers s r c factors (Refused q k) ↔ AtName s r c factors q k
+  pub name-refused : (q : Refusal) (k : ℕ) → OfNames q → Answers s r c factors (refuse q k) ↔ AtName s r c factors q k
   name-refused q k of = (told_at q k of, at_told q k)
 
   -- 19 is a sheet's alone
-  pub never-no-column : (k : ℕ) → Answers s r c factors (Refused NoColumn k) → ⊥
+  pub never-no-column : (k : ℕ) → Answers s r c factors (refuse NoColumn k) → ⊥
   never-no-column k e = none (told_at NoColumn k nineteen e).first
     where
       no_way : (i : ℕ) → AtFault s.tables (names_in c) i NoColumn → ⊥
@@ -71,5 +69,5 @@ module _ (s : State) (r : Request) (c : Crosstalk) (factors : List Float) where
       none f = no_way f.place f.fault
 
   -- no name is at fault: none of the three
-  pub no-name-refused : NoneBefore s.tables (names_in c) (length (names_in c)) → (q : Refusal) (k : ℕ) → OfNames q → Answers s r c factors (Refused q k) → ⊥
+  pub no-name-refused : NoneBefore s.tables (names_in c) (length (names_in c)) → (q : Refusal) (k : ℕ) → OfNames q → Answers s r c factors (refuse q k) → ⊥
   no-name-refused none q k of e = let first = (told_at q k of e).first in none first.place first.there q first.fault

@@ -1,4 +1,6 @@
 -- Which numbers a command can be refused with: 2, 4, 5, 6, 7, 8 and 3, and no other. By the cases of a command. Assumes nothing.
+use Rattle.std.specs.Prelude.{Option, Some, None}
+use Rattle.pulse.specs.declared.weight.Weight.{Weight}
 use Prim.Native.Nat.{ℕ}
 use mathlib.Core.Path.{◌≡◌, refl, sym}
 use mathlib.Core.Bool.{Bool, true, false, ◌&&◌, cond, true≢false}
@@ -16,13 +18,9 @@ use Rattle.executor.specs.declared.osc.Swapped.{Swapped}
 use Rattle.executor.specs.Osc.{swapped_phases}
 use Rattle.pulse.specs.declared.envelope.Shape.{Shape}
 use Rattle.pulse.specs.declared.envelope.Shape.TheVariants.{Plain}
-use Rattle.pulse.specs.declared.weight.Weighed.{Weighed}
-use Rattle.pulse.specs.declared.weight.Weighed.TheVariants.{Fine, Overflow}
 use Rattle.pulse.specs.Bin.{head_of, kind_of, place_of}
 use Rattle.pulse.specs.Weight.{negligible, weighed_of}
 use Rattle.tables.specs.declared.Tables.{Tables}
-use Rattle.tables.specs.declared.Found.{Found}
-use Rattle.tables.specs.declared.Found.TheVariants.{At, Nowhere}
 use Rattle.tables.specs.Tables.{found, shape_found, channel_at}
 use Rattle.commands.specs.declared.command.Play.{Play}
 use Rattle.commands.specs.declared.command.Command.{Command}
@@ -31,7 +29,7 @@ use Rattle.commands.specs.declared.command.Arranged.{Arranged}
 use Rattle.commands.specs.declared.step.Step.{Step}
 use Rattle.commands.specs.Command.{well_formed, too_long}
 use Rattle.commands.specs.Step.{no_spline, numbers_at, stops, goes_on, with_osc, turned, moved_by, turned_at, swapped_to, swapped_at, swapped_between}
-use Rattle.commands.specs.Play.{rows_of, is_new, is_full, stores, stored_with, plateau_of, bin_for, spline_for, played_at, played_as, played_by, played}
+use Rattle.commands.specs.Play.{rows_of, is_new, is_full, stores, stored_with, plateau_of, bin_for, spline_for, played_at, played_as, played_by, played, played_with}
 use Rattle.commands.specs.Run.{acted, step_of}
 use Rattle.system.specs.Said.{command_numbers}
 
@@ -52,20 +50,20 @@ module _ (t : Tables) where
   unfolding among
   turned-number i m = one_of m.refused (stops t NotFinite) (goes_on (with_osc t i m.osc)) (λ e. refl) on
 
-  turned-at-number : (f : Found) (c : Command) (time : Float) → Numbered (turned_at t f c time)
+  turned-at-number : (f : Option ℕ) (c : Command) (time : Float) → Numbered (turned_at t f c time)
   unfolding turned_at among
-  turned-at-number Nowhere c time = λ e. refl
-  turned-at-number (At i) c time = turned-number i (moved_by c time (channel_at t i).osc)
+  turned-at-number None c time = λ e. refl
+  turned-at-number (Some i) c time = turned-number i (moved_by c time (channel_at t i).osc)
 
   swapped-to-number : (i j : ℕ) (x : Swapped) → Numbered (swapped_to t i j x)
   unfolding among
   swapped-to-number i j x = one_of x.refused (stops t NotFinite) (goes_on (with_osc (with_osc t i x.one) j x.two)) (λ e. refl) on
 
-  swapped-at-number : (f g : Found) (time : Float) → Numbered (swapped_at t f g time)
+  swapped-at-number : (f g : Option ℕ) (time : Float) → Numbered (swapped_at t f g time)
   unfolding swapped_at among
-  swapped-at-number Nowhere g time = λ e. refl
-  swapped-at-number (At i) Nowhere time = λ e. refl
-  swapped-at-number (At i) (At j) time = swapped-to-number i j (swapped_phases (channel_at t i).osc (channel_at t j).osc time)
+  swapped-at-number None g time = λ e. refl
+  swapped-at-number (Some i) None time = λ e. refl
+  swapped-at-number (Some i) (Some j) time = swapped-to-number i j (swapped_phases (channel_at t i).osc (channel_at t j).osc time)
 
   swapped-number : (n m : Name) (time : Float) → Numbered (swapped_between t n m time)
   swapped-number n m time =
@@ -74,18 +72,18 @@ module _ (t : Tables) where
       one_of (same_name n m) (goes_on t) (swapped_at t f g time) on (swapped-at-number f g time)
 
   module _ (splines bins : List (List Float)) where
-    stored-with-number : (i : ℕ) (start : Float) (w : Weighed) (head : List Float) (spline : ℕ) → Numbered (stored_with t splines bins i start w head spline)
+    stored-with-number : (i : ℕ) (start : Float) (w : Option Weight) (head : List Float) (spline : ℕ) → Numbered (stored_with t splines bins i start w head spline)
     unfolding stored_with among
-    stored-with-number i start Overflow head spline = λ e. refl
-    stored-with-number i start (Fine w) head spline =
+    stored-with-number i start None head spline = λ e. refl
+    stored-with-number i start (Some w) head spline =
         let place = place_of (head ++ numbers_at splines spline) (rows_of t bins i) in
         one_of (is_full t bins i place) (stops t Full) (stores t i place (is_new t bins i place) start w head spline) (λ e. refl) on
 
     module _ (start span : Float) (p : Play) where
-      played-at-number : (f : Found) (kind : Shape) (k : ℕ) → Numbered (played_at t splines bins f start span p kind k)
+      played-at-number : (f : Option ℕ) (kind : Shape) (k : ℕ) → Numbered (played_at t splines bins f start span p kind k)
       unfolding played_at among
-      played-at-number Nowhere kind k = λ e. refl
-      played-at-number (At i) kind k =
+      played-at-number None kind k = λ e. refl
+      played-at-number (Some i) kind k =
           let b = bin_for t i kind p span in
           let w = weighed_of p.amplitude.0 p.phase.0 p.drag in
           let spline = spline_for b.envelope.shape k in
@@ -101,15 +99,17 @@ module _ (t : Tables) where
           let f = found t p.channel in
           one_of (lt (plateau_of p span) nought) (stops t NegativePlateau) (played_at t splines bins f start span p kind k) (λ e. refl) (played-at-number f kind k)
 
-      played-by-number : (f : Found) → Numbered (played_by t splines bins f start span p)
+      played-by-number : (f : Option ℕ) → Numbered (played_by t splines bins f start span p)
       unfolding played_by among
-      played-by-number Nowhere = λ e. refl
-      played-by-number (At k) = played_as_number (kind_of (numbers_at splines k)) k
+      played-by-number None = λ e. refl
+      played-by-number (Some k) = played_as_number (kind_of (numbers_at splines k)) k
 
       played-number : Numbered (played t splines bins start span p)
-      played-number =
-          let f = shape_found t p.shape in
-          one_of p.shaped (played_by t splines bins f start span p) (played_as t splines bins start span p Plain no_spline) (played-by-number f) (played_as_number Plain no_spline)
+      played-number = by p.shape
+        where
+          by : (n : Option Name) → Numbered (played_with t splines bins n start span p)
+          by None = played_as_number Plain no_spline
+          by (Some n) = played-by-number (shape_found t n)
 
     acted-number : (start span : Float) (c : Command) → Numbered (acted t splines bins start span c)
     unfolding acted

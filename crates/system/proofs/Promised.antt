@@ -1,8 +1,8 @@
 -- Each call's promise allows one outcome, `outcome`, and no other: a contract is an equation, and what it does not name stays. Assumes nothing.
+use Rattle.quant.specs.Refusal.{Answer}
 use mathlib.Core.Path.{◌≡◌, refl, ap, ◌∙◌}
 use mathlib.Core.List.{List}
 use lib.Ieee.{Float}
-use Rattle.quant.specs.declared.refusal.Answer.{Answer}
 use Rattle.tables.specs.Tables.{made}
 use Rattle.system.specs.System.{State, Call, make, add-channel, add-shape, add-spline, execute, sample, mixer, iir, fir, Outcome, told, with_tables, with_rows, Contract, written, adopted, held, Promised, tabled, has_formed, remade, has_run, has_sampled, outcome}
 

@@ -1,5 +1,6 @@
 -- The sampling call: refused before its first pulse, all is as it came; accepted, or refused at a pulse, its rows are those before plus the pulses
 -- that it counts. By its checks in order, and then the laws of `sampler_laws`. Assumes nothing.
+use Rattle.std.specs.Prelude.{Option, Some, None, Ok, Err}
 use Prim.Native.Nat.{ℕ, ◌+◌}
 use native.Mathlib.Omega.{arith}
 use mathlib.Core.Path.{◌≡◌, refl, sym, ap, subst, ◌∙◌}
@@ -10,18 +11,13 @@ use lib.Ieee.Scale.{finite}
 use lib.ListN.{length, take}
 use Rattle.exact.specs.Doubles.{one}
 use Rattle.exact.specs.Among.{among}
-use Rattle.quant.specs.declared.refusal.Answer.{Answer}
-use Rattle.quant.specs.declared.refusal.Answer.TheVariants.{Done, Refused}
 use Rattle.quant.specs.declared.refusal.Refusal.{Refusal}
 use Rattle.quant.specs.declared.refusal.Refusal.TheVariants as why
-use Rattle.quant.specs.declared.settings.Fitting.{Fitting}
-use Rattle.quant.specs.declared.settings.Fitting.TheVariants.{Fit, Unfit}
 use Rattle.quant.specs.declared.settings.Settings.{Settings}
-use Rattle.quant.specs.Refusal.{number_of}
+use Rattle.quant.specs.Refusal.{number_of, Answer, refuse}
 use Rattle.quant.specs.Settings.{is_rate, is_level, fitting, fitting_of}
 use Rattle.crosstalk.specs.declared.names.Crosstalk.{Crosstalk}
-use Rattle.crosstalk.specs.declared.parts.Plan.{Plan}
-use Rattle.crosstalk.specs.Crosstalk.{names_in, planned}
+use Rattle.crosstalk.specs.Crosstalk.{Plan, names_in, planned, is_refused, plan_answer}
 use Rattle.crosstalk.specs.Faults.{AtFault, doubled, no-list}
 use Rattle.crosstalk.proofs.Laws.{Way, wrong_size, malformed, at-fault, unknown, accepted, way}
 use Rattle.mixdown.specs.Bins.{bins_by, merged_of}
@@ -39,10 +35,10 @@ use Rattle.system.specs.Said.{parts_of, pulses_of, with_pulses, verdict, before-
 use Rattle.system.proofs.Verdict.{fewer, bins-verdict}
 
 -- settings that fit are those of the request
-pub settings-are : (r : Request) (s : Settings) → fitting_of r.rate r.delay r.level ≡ Fit s → s ≡ settings_of r
+pub settings-are : (r : Request) (s : Settings) → fitting_of r.rate r.delay r.level ≡ Some s → s ≡ settings_of r
 settings-are r s e = go (is_rate r.rate.0 && finite (div binary64 one r.rate.0) && finite r.delay.0 && is_level r.level) e
   where
-    go : (b : Bool) → fitting b r.rate r.delay r.level ≡ Fit s → s ≡ settings_of r
+    go : (b : Bool) → fitting b r.rate r.delay r.level ≡ Some s → s ≡ settings_of r
     go true f = cc
     go false f = let z : ◌≡◌ {A = ℕ} 0 1 = cc in absurd (omega arith)
 
@@ -64,7 +60,7 @@ module _ (s : State) (r : Request) (c : Crosstalk) (factors : List Float) where
   abbrev came : Answer → Left
   came a = left a s.rows s.work s.marks
 
-  plan-said : (z : Settings) → fitting_of r.rate r.delay r.level ≡ Fit z → sized ≡ true → plan.refused ≡ true → Said (came plan.answer)
+  plan-said : (z : Settings) → fitting_of r.rate r.delay r.level ≡ Some z → sized ≡ true → is_refused plan ≡ true → Said (came (plan_answer plan))
   unfolding among
   plan-said z fit sizes e = by plan (way s.tables r.channel c factors) e
     where
@@ -72,12 +68,12 @@ module _ (s : State) (r : Request) (c : Crosstalk) (factors : List Float) where
       named q i (doubled _) = refl
       named q i (no-list _ _) = refl
 
-      by : (p : Plan) → Way s.tables r.channel c factors p → p.refused ≡ true → Said (came p.answer)
+      by : (p : Plan) → Way s.tables r.channel c factors p → is_refused p ≡ true → Said (came (plan_answer p))
       by p (wrong_size _) f = before-any (record { number = refl; place = refl; left = refl })
       by p (malformed _ _) f = before-any (record { number = refl; place = refl; left = refl })
       by p (at-fault each-factor fine q k first) f =
           at_name
-          (record { fit = fit ∙ ap Fit (settings-are r z fit); sizes = sizes; each-factor = each-factor; fine = fine; first = first })
+          (record { fit = fit ∙ ap Some (settings-are r z fit); sizes = sizes; each-factor = each-factor; fine = fine; first = first })
           (record { number = named q first.place first.fault; place = refl; left = refl })
       by p (unknown _ _ _ _) f = before-any (record { number = refl; place = refl; left = refl })
       by p (accepted _) f = absurd (true≢false (sym f))
@@ -112,25 +108,25 @@ module _ (s : State) (r : Request) (c : Crosstalk) (factors : List Float) where
         λ j. with_lent s (rows j) (work j) (marks j)
 
     by_answer : (x : Answer) → result.answer ≡ x → SampleSaid s r c factors x (has_sampled s result).after
-    by_answer (Done k) e =
+    by_answer (Ok k) e =
         let whole = added.all_if_done k e in
         let counted : k ≡ 0 + added.many = sym (ap count_in e) ∙ added.counted in
         record { count = omega (arith, whole, counted); left = remain k (omega (arith, counted)); none = sym told-so ∙ e }
-    by_answer (Refused w k) e =
-        let counted : k ≡ 0 + added.many = sym (ap count_in e) ∙ added.counted in
+    by_answer (Err x) e =
+        let counted : x.place ≡ 0 + added.many = sym (ap count_in e) ∙ added.counted in
         let first = sym told-so ∙ e in
-        let g = fewer (settings_of r) (length s.rows.i) (pulses_of s r c factors) 0 w k first in
-        at_one (record { number = g.number; place = let h = g.place in omega (arith, h); remain = remain k (omega (arith, counted)); first = first })
+        let g = fewer (settings_of r) (length s.rows.i) (pulses_of s r c factors) 0 x.why x.place first in
+        at_one (record { number = g.number; place = let h = g.place in omega (arith, h); remain = remain x.place (omega (arith, counted)); first = first })
 
   -- ---- its checks in order
 
-  by_flags : (z : Settings) (b d : Bool) → fitting_of r.rate r.delay r.level ≡ Fit z → sized ≡ b → plan.refused ≡ d → Said result
+  by_flags : (z : Settings) (b d : Bool) → fitting_of r.rate r.delay r.level ≡ Some z → sized ≡ b → is_refused plan ≡ d → Said result
   unfolding sampled among
   by_flags z false d f g h =
-      let is : result ≡ came (Refused why.WrongSize 0) = rw (f, g) refl in
+      let is : result ≡ came (refuse why.WrongSize 0) = rw (f, g) refl in
       subst Said (sym is) (before-any (record { number = refl; place = refl; left = refl }))
   by_flags z true true f g h =
-      let is : result ≡ came plan.answer = rw (f, g, h) refl in
+      let is : result ≡ came (plan_answer plan) = rw (f, g, h) refl in
       subst Said (sym is) (plan-said z f g h)
   by_flags z true false f g h = by_answer (record { settings = z; fit = f; sizes = g; plan = h; is = rw (f, g, h) refl }) result.answer refl
 
@@ -138,8 +134,8 @@ module _ (s : State) (r : Request) (c : Crosstalk) (factors : List Float) where
   unfolding sampled among
   sample-said = by (fitting_of r.rate r.delay r.level) refl
     where
-      by : (f : Fitting) → fitting_of r.rate r.delay r.level ≡ f → Said result
-      by Unfit e =
-          let is : result ≡ came (Refused why.Unfit 0) = rw e refl in
+      by : (f : Option Settings) → fitting_of r.rate r.delay r.level ≡ f → Said result
+      by None e =
+          let is : result ≡ came (refuse why.Unfit 0) = rw e refl in
           subst Said (sym is) (before-any (record { number = refl; place = refl; left = refl }))
-      by (Fit z) e = by_flags z sized plan.refused e refl refl
+      by (Some z) e = by_flags z sized (is_refused plan) e refl refl

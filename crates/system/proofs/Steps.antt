@@ -1,5 +1,6 @@
 -- The steps on rows: accepted, the count is 0; refused, all is as it came: by 13 or 2 at place 0, of sections by 22 too, with the section as place.
 -- By what is found, in the order of the refusals. Assumes nothing.
+use Rattle.quant.specs.Refusal.{Answer, refuse}
 use Prim.Native.Nat.{ℕ}
 use mathlib.Core.Path.{◌≡◌, refl}
 use mathlib.Core.Bool.{Bool, true, false}
@@ -7,8 +8,6 @@ use mathlib.Core.Logic.{◌↔◌}
 use mathlib.Core.List.{List}
 use lib.Ieee.{Float}
 use Rattle.exact.specs.Among.{among}
-use Rattle.quant.specs.declared.refusal.Answer.{Answer}
-use Rattle.quant.specs.declared.refusal.Answer.TheVariants.{Refused}
 use Rattle.quant.specs.declared.refusal.Refusal.TheVariants.{WrongA0}
 use Rattle.rows.specs.Rows.{answer_of}
 use Rattle.iir.specs.Section.{sections_of}
@@ -41,6 +40,6 @@ module _ (s : State) where
       by a (filter.accepted h) = refl
 
   -- exactly when by 22, from any state
-  pub section-refused : (n : ℕ) (sections : List Float) (k : ℕ) → ((outcome s (iir n sections)).answer ≡ Refused WrongA0 k) ↔ AtSection n s.rows.i s.rows.q sections k
+  pub section-refused : (n : ℕ) (sections : List Float) (k : ℕ) → ((outcome s (iir n sections)).answer ≡ refuse WrongA0 k) ↔ AtSection n s.rows.i s.rows.q sections k
   unfolding outcome
   section-refused n sections k = filter.section-told n s.rows.i s.rows.q sections k

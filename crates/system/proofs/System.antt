@@ -1,12 +1,12 @@
 -- The law of the whole system. From made tables, beside whatever is lent, through any run of adds, command calls, sampling calls and steps: every
 -- call has one answer that its promise allows, and what it leaves, refused or not, is as document 01 says. Call by call. Assumes nothing.
+use Rattle.quant.specs.Refusal.{Answer}
+use Rattle.std.specs.Prelude.{Ok, Err}
 use mathlib.Core.Path.{◌≡◌, sym, subst}
 use mathlib.Core.Bool.{Bool, ◌&&◌}
 use mathlib.Core.List.{List, [], ◌∷◌}
 use lib.Ieee.{Float}
 use lib.ListN.{length}
-use Rattle.quant.specs.declared.refusal.Answer.{Answer}
-use Rattle.quant.specs.declared.refusal.Answer.TheVariants.{Done, Refused}
 use Rattle.rows.specs.Rows.{all_finite}
 use Rattle.mixer.specs.Mixer.{mixer_fits}
 use Rattle.fir.specs.Fir.{fir_fits}
@@ -50,8 +50,8 @@ remade-known : (s : State) (x : Tabled) → Known s → Reached x.tables s.splin
 remade-known s x old new = by x.answer
   where
     by : (a : Answer) → Known (adopted a s (with_tables s x.tables))
-    by (Done k) = new
-    by (Refused why k) = old
+    by (Ok k) = new
+    by (Err e) = old
 
 -- making and adding write to the tables, adding a shape to the shapes' rows too, command calls to the tables, the bins and the pulses, and no other
 -- call to any of these
@@ -83,7 +83,7 @@ every_call s (lends rows work marks ∷ more) h = every_call (with_lent s rows w
 
 -- "64 bins and 1,024 stored pulses a channel", of 8 channels, with whatever in them; all else that is lent may have any size. The first tables are made:
 -- of tolerances that fit (else the caller has no tables yet).
-pub whole : (amp time : Float) (oversize : Bool) (lent : State) (events : List Event) → (made amp time oversize).answer ≡ Done 0 → length lent.bins ≡ 512
+pub whole : (amp time : Float) (oversize : Bool) (lent : State) (events : List Event) → (made amp time oversize).answer ≡ Ok 0 → length lent.bins ≡ 512
     → length lent.pulses ≡ 8192 → EveryCall lent (calls (make amp time oversize) ∷ events)
 unfolding outcome
 whole amp time oversize lent events fit rows records =

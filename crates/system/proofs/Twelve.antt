@@ -1,6 +1,8 @@
 -- A sampling call is refused by 12 exactly when the first pulse that is refused starts within the row, has no shape or a t1 that is not below 0, and its
 -- end index is over the row length: from made tables, after any run of calls. For then every bin is as plays leave it (`Sound`), and so is the bin of
 -- every pulse that the call judges. Of doubles, as every f64 of the code is. Assumes nothing.
+use Rattle.quant.specs.Refusal.{Answer, refuse}
+use Rattle.std.specs.Prelude.{Option, Some, None, Err}
 use Prim.Native.Nat.{ℕ, ◌+◌, ◌*◌, ◌≤◌, ◌<◌}
 use native.Mathlib.Omega.{arith}
 use mathlib.Core.Path.{◌≡◌, refl, sym, ap, subst, ◌∙◌}
@@ -11,12 +13,9 @@ use lib.Dec.{T, leb}
 use lib.Ieee.{Float, nan, binary64, fits}
 use lib.ListN.{length, get_or}
 use Rattle.exact.proofs.Truth.{both}
-use Rattle.quant.specs.declared.refusal.Answer.{Answer}
-use Rattle.quant.specs.declared.refusal.Answer.TheVariants.{Refused}
 use Rattle.quant.specs.declared.refusal.Refusal.{Refusal}
 use Rattle.quant.specs.declared.refusal.Refusal.TheVariants as why
-use Rattle.quant.specs.declared.settings.Fitting.{Fitting}
-use Rattle.quant.specs.declared.settings.Fitting.TheVariants.{Fit, Unfit}
+use Rattle.quant.proofs.Refusals.{same-why}
 use Rattle.quant.specs.declared.settings.Settings.{Settings}
 use Rattle.quant.specs.Settings.{fitting_of}
 use Rattle.pulse.specs.Bin.{bin_of}
@@ -24,11 +23,9 @@ use Rattle.tables.specs.Tables.{channel_at}
 use Rattle.commands_laws.specs.Sound.{Sound, Reached}
 use Rattle.commands_laws.proofs.Sound.{sound}
 use Rattle.crosstalk.specs.declared.names.Crosstalk.{Crosstalk}
-use Rattle.crosstalk.specs.declared.parts.Plan.{Plan}
-use Rattle.crosstalk.specs.Crosstalk.{names_in, planned}
+use Rattle.crosstalk.specs.Crosstalk.{Plan, names_in, planned, is_refused, plan_answer}
 use Rattle.crosstalk.specs.Faults.{AtFault, doubled, no-list}
 use Rattle.crosstalk.proofs.Laws.{Way, wrong_size, malformed, at-fault, unknown, accepted, way}
-use Rattle.placing.specs.declared.Judged.TheVariants as judgement
 use Rattle.placing.specs.Judged.{judged}
 use Rattle.placing.proofs.Twelve.{Over, Kept, Judgeable}
 use Rattle.placing.proofs.Twelve as one
@@ -76,42 +73,42 @@ module _ (s : State) (r : Request) (c : Crosstalk) (factors : List Float) where
 
   -- ---- no check before the first pulse gives 12
 
-  plan-other : (k : ℕ) → plan.answer ≡ Refused why.EndPastRow k → ⊥
+  plan-other : (k : ℕ) → plan_answer plan ≡ refuse why.EndPastRow k → ⊥
   plan-other k e = by plan (way s.tables r.channel c factors) e
     where
-      named : (q : Refusal) (i j : ℕ) → AtFault s.tables (names_in c) i q → Refused q j ≡ Refused why.EndPastRow k → ⊥
-      named q i j (doubled _) f = let z : ◌≡◌ {A = ℕ} 0 1 = cc in omega arith
-      named q i j (no-list _ _) f = let z : ◌≡◌ {A = ℕ} 0 1 = cc in omega arith
+      named : (q : Refusal) (i j : ℕ) → AtFault s.tables (names_in c) i q → refuse q j ≡ refuse why.EndPastRow k → ⊥
+      named q i j (doubled _) f = let w = same-why _ _ _ _ f in let z : ◌≡◌ {A = ℕ} 0 1 = cc in omega arith
+      named q i j (no-list _ _) f = let w = same-why _ _ _ _ f in let z : ◌≡◌ {A = ℕ} 0 1 = cc in omega arith
 
-      by : (p : Plan) → Way s.tables r.channel c factors p → p.answer ≡ Refused why.EndPastRow k → ⊥
-      by p (wrong_size _) f = let z : ◌≡◌ {A = ℕ} 0 1 = cc in omega arith
-      by p (malformed _ _) f = let z : ◌≡◌ {A = ℕ} 0 1 = cc in omega arith
+      by : (p : Plan) → Way s.tables r.channel c factors p → plan_answer p ≡ refuse why.EndPastRow k → ⊥
+      by p (wrong_size _) f = let w = same-why _ _ _ _ f in let z : ◌≡◌ {A = ℕ} 0 1 = cc in omega arith
+      by p (malformed _ _) f = let w = same-why _ _ _ _ f in let z : ◌≡◌ {A = ℕ} 0 1 = cc in omega arith
       by p (at-fault _ _ q j first) f = named q first.place j first.fault f
-      by p (unknown _ _ _ _) f = let z : ◌≡◌ {A = ℕ} 0 1 = cc in omega arith
+      by p (unknown _ _ _ _) f = let w = same-why _ _ _ _ f in let z : ◌≡◌ {A = ℕ} 0 1 = cc in omega arith
       by p (accepted _) f = let z : ◌≡◌ {A = ℕ} 0 1 = cc in omega arith
 
   abbrev result : Left
   result = sampled s.tables r c factors s.bins s.pulses s.rows s.work s.marks
 
-  by_flags : (k : ℕ) (z : Settings) (b d : Bool) → fitting_of r.rate r.delay r.level ≡ Fit z → sized ≡ b → plan.refused ≡ d → result.answer ≡ Refused why.EndPastRow k → Heard
+  by_flags : (k : ℕ) (z : Settings) (b d : Bool) → fitting_of r.rate r.delay r.level ≡ Some z → sized ≡ b → is_refused plan ≡ d → result.answer ≡ refuse why.EndPastRow k → Heard
   unfolding sampled
   by_flags k z false d f g h e =
-      let is : result.answer ≡ Refused why.WrongSize 0 = rw (f, g) refl in
-      let no : Refused why.WrongSize 0 ≡ Refused why.EndPastRow k = sym is ∙ e in
+      let is : result.answer ≡ refuse why.WrongSize 0 = rw (f, g) refl in
+      let no : why.WrongSize ≡ why.EndPastRow = same-why _ _ _ _ (sym is ∙ e) in
       let z : ◌≡◌ {A = ℕ} 0 1 = cc in absurd (omega arith)
-  by_flags k z true true f g h e = let is : result.answer ≡ plan.answer = rw (f, g, h) refl in absurd (plan-other k (sym is ∙ e))
-  by_flags k z true false f g h e = record { fit = f ∙ ap Fit (settings-are r z f); sizes = g; plan = h }
+  by_flags k z true true f g h e = let is : result.answer ≡ (plan_answer plan) = rw (f, g, h) refl in absurd (plan-other k (sym is ∙ e))
+  by_flags k z true false f g h e = record { fit = f ∙ ap Some (settings-are r z f); sizes = g; plan = h }
 
-  heard_twelve : (k : ℕ) → result.answer ≡ Refused why.EndPastRow k → Heard
+  heard_twelve : (k : ℕ) → result.answer ≡ refuse why.EndPastRow k → Heard
   unfolding sampled
   heard_twelve k e = by (fitting_of r.rate r.delay r.level) refl
     where
-      by : (f : Fitting) → fitting_of r.rate r.delay r.level ≡ f → Heard
-      by Unfit f =
-          let is : result.answer ≡ Refused why.Unfit 0 = rw f refl in
-          let no : Refused why.Unfit 0 ≡ Refused why.EndPastRow k = sym is ∙ e in
+      by : (f : Option Settings) → fitting_of r.rate r.delay r.level ≡ f → Heard
+      by None f =
+          let is : result.answer ≡ refuse why.Unfit 0 = rw f refl in
+          let no : why.Unfit ≡ why.EndPastRow = same-why _ _ _ _ (sym is ∙ e) in
           let z : ◌≡◌ {A = ℕ} 0 1 = cc in absurd (omega arith)
-      by (Fit z) f = by_flags k z sized plan.refused f refl refl e
+      by (Some z) f = by_flags k z sized (is_refused plan) f refl refl e
 
   -- the call's answer is the verdict on its pulses
   verdict-told : Heard → result.answer ≡ verdict (settings_of r) len (pulses_of s r c factors) 0
@@ -142,12 +139,12 @@ module _ (s : State) (r : Request) (c : Crosstalk) (factors : List Float) where
       judgeable before behind d are =
           record { bin = pulse-kept before behind d are; fit = a.fit; rate-fits = rate; row = short }
 
-      pub pulse_twelve : (before behind : List Due) (d : Due) → pulses_of s r c factors ≡ before ++ (d ∷ behind) → judged (settings_of r) d.bin d.numbers d.pulse len ≡ judgement.Refused why.EndPastRow
+      pub pulse_twelve : (before behind : List Due) (d : Due) → pulses_of s r c factors ≡ before ++ (d ∷ behind) → judged (settings_of r) d.bin d.numbers d.pulse len ≡ Err why.EndPastRow
           → Over (settings_of r) d.bin d.pulse len
       pulse_twelve before behind d are e = one.only_twelve (settings_of r) d.bin d.numbers d.pulse len (judgeable before behind d are) e
 
     -- ---- it is given nowhere else
-    pub only_twelve : (k : ℕ) → Answers (Refused why.EndPastRow k) → EndsPast k
+    pub only_twelve : (k : ℕ) → Answers (refuse why.EndPastRow k) → EndsPast k
     unfolding outcome
     only_twelve k e =
         let a = heard_twelve k e in
@@ -160,7 +157,7 @@ module _ (s : State) (r : Request) (c : Crosstalk) (factors : List Float) where
         }
 
   -- ---- it is given there, from any state
-  pub twelve_given : (k : ℕ) → EndsPast k → Answers (Refused why.EndPastRow k)
+  pub twelve_given : (k : ℕ) → EndsPast k → Answers (refuse why.EndPastRow k)
   unfolding outcome
   twelve_given k h =
       let p = h.pulse in
@@ -168,5 +165,5 @@ module _ (s : State) (r : Request) (c : Crosstalk) (factors : List Float) where
       ∙ first-told (settings_of r) len why.EndPastRow (pulses_of s r c factors) 0 k (record { pulse = p; refused = one.twelve_given (settings_of r) p.this.bin p.this.numbers p.this.pulse len h.over })
 
 -- ---- from made tables, after any run of adds and command calls, accepted or refused: no other call writes tables, bins or pulses
-pub from-made : (s : State) (r : Request) (c : Crosstalk) (factors : List Float) → Reached s.tables s.splines s.bins s.pulses → Doubles s.bins → T (fits binary64 r.rate.0) → (k : ℕ) → Answers s r c factors (Refused why.EndPastRow k) → EndsPast s r c factors k
+pub from-made : (s : State) (r : Request) (c : Crosstalk) (factors : List Float) → Reached s.tables s.splines s.bins s.pulses → Doubles s.bins → T (fits binary64 r.rate.0) → (k : ℕ) → Answers s r c factors (refuse why.EndPastRow k) → EndsPast s r c factors k
 from-made s r c factors h doubles rate k e = only_twelve s r c factors (sound s.tables s.splines s.bins s.pulses h) doubles rate k e

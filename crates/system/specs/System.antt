@@ -1,10 +1,9 @@
 -- The whole system: what a caller holds between calls, the calls, what each promises (its contract, word for word) and what it then comes to, by
 -- the public definitions of its own crate. Definitions only.
-use Rattle.std.specs.Prelude.{ℕ, ◌≡◌, Bool, List, Float, length, get_or}
+use Rattle.quant.specs.Refusal.{Answer}
+use Rattle.std.specs.Prelude.{ℕ, ◌≡◌, Bool, List, Float, length, get_or, Ok, Err}
 use Rattle.std.specs.Float.{nan}
 use Rattle.naming.specs.declared.Name.{Name}
-use Rattle.quant.specs.declared.refusal.Answer.{Answer}
-use Rattle.quant.specs.declared.refusal.Answer.TheVariants.{Done, Refused}
 use Rattle.rows.specs.Rows as rows
 use Rattle.mixer.specs.Mixer.{Mixer, corrected_row, mixer_answer}
 use Rattle.iir.specs.Section.{sections_of}
@@ -108,8 +107,8 @@ written s (fir n taps) u = with_rows s u.rows.i u.rows.q
 
 -- what the caller holds then: what the call returned and left; a refused `make` returns no tables to work with, and the caller keeps its own
 abbrev pub adopted : Answer → State → State → State
-adopted (Done k) s u = u
-adopted (Refused why k) s u = s
+adopted (Ok k) s u = u
+adopted (Err e) s u = s
 
 unfoldable pub held : State → Call → Answer → State → State
 held s (make amp time oversize) a u = adopted a s u

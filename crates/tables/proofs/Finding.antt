@@ -1,4 +1,5 @@
 -- A name looked for among the entries that are there, one place after the other. Assumes nothing.
+use Rattle.std.specs.Prelude.{Some, None}
 use Prim.Native.Nat.{ℕ, suc, ◌+◌, ◌≤◌, ◌<◌}
 use native.Mathlib.Omega.{arith}
 use native.Mathlib.Numerals.{add-one}
@@ -10,7 +11,6 @@ use lib.Seq.{drop-cons, get_or-take}
 use Rattle.naming.specs.declared.Name.{Name}
 use Rattle.naming.specs.Name.{same_name}
 use Rattle.tables.specs.declared.Channel.{Channel}
-use Rattle.tables.specs.declared.Found.TheVariants.{At, Nowhere}
 use Rattle.tables.specs.declared.Tables.{Tables}
 use Rattle.tables.specs.Tables.{channels_in, shapes_in, found_from, found, shape_from, shape_found}
 
@@ -29,12 +29,12 @@ module _ {A : Type 0} (l : List A) (count : ℕ) where
 
 -- ---- channels
 
-pub found-not : (i : ℕ) (n : Name) (cs : List Channel) → cs ≡ [] → found_from i n cs ≡ Nowhere
+pub found-not : (i : ℕ) (n : Name) (cs : List Channel) → cs ≡ [] → found_from i n cs ≡ None
 unfolding found_from
 found-not i n cs e = rw e
 
 module _ (i : ℕ) (n : Name) (cs rest : List Channel) (c : Channel) (e : cs ≡ c ∷ rest) where
-  pub found_here : same_name c.name n ≡ true → found_from i n cs ≡ At i
+  pub found_here : same_name c.name n ≡ true → found_from i n cs ≡ Some i
   unfolding found_from
   found_here t = rw (e, t)
 
@@ -44,12 +44,12 @@ module _ (i : ℕ) (n : Name) (cs rest : List Channel) (c : Channel) (e : cs ≡
 
 -- ---- names
 
-pub shape-not : (i : ℕ) (n : Name) (ms : List Name) → ms ≡ [] → shape_from i n ms ≡ Nowhere
+pub shape-not : (i : ℕ) (n : Name) (ms : List Name) → ms ≡ [] → shape_from i n ms ≡ None
 unfolding shape_from
 shape-not i n ms e = rw e
 
 module _ (i : ℕ) (n : Name) (ms rest : List Name) (m : Name) (e : ms ≡ m ∷ rest) where
-  pub shape-here : same_name m n ≡ true → shape_from i n ms ≡ At i
+  pub shape-here : same_name m n ≡ true → shape_from i n ms ≡ Some i
   unfolding shape_from
   shape-here t = rw (e, t)
 
@@ -59,12 +59,12 @@ module _ (i : ℕ) (n : Name) (ms rest : List Name) (m : Name) (e : ms ≡ m ∷
 
 -- ---- a place that is found is one of those looked at
 
-pub shape-under : (k : ℕ) (n : Name) (ms : List Name) (i : ℕ) → shape_from k n ms ≡ At i → i < k + length ms
+pub shape-under : (k : ℕ) (n : Name) (ms : List Name) (i : ℕ) → shape_from k n ms ≡ Some i → i < k + length ms
 unfolding shape_from
 shape-under k n [] i e = let z : ◌≡◌ {A = ℕ} 0 1 = cc in absurd (omega arith)
 shape-under k n (m ∷ ms) i e = go (same_name m n) e (shape-under (suc k) n ms i)
   where
-    go : (b : Bool) → cond b (At k) (shape_from (suc k) n ms) ≡ At i → (shape_from (suc k) n ms ≡ At i → i < suc k + length ms) → i < k + suc (length ms)
+    go : (b : Bool) → cond b (Some k) (shape_from (suc k) n ms) ≡ Some i → (shape_from (suc k) n ms ≡ Some i → i < suc k + length ms) → i < k + suc (length ms)
     go true f later = let same : k ≡ i = cc in omega arith
     go false f later = let under = later f in omega arith
 
@@ -77,17 +77,17 @@ unfolding found_from shape_from
 by_names k n [] = refl
 by_names k n (c ∷ cs) = rw (by_names (suc k) n cs)
 
-pub found-under : (k : ℕ) (n : Name) (cs : List Channel) (i : ℕ) → found_from k n cs ≡ At i → i < k + length cs
+pub found-under : (k : ℕ) (n : Name) (cs : List Channel) (i : ℕ) → found_from k n cs ≡ Some i → i < k + length cs
 found-under k n cs i e = rw (length-map cs name_of) at (shape-under k n (map name_of cs) i (sym (by_names k n cs) ∙ e))
 
 module _ (t : Tables) (n : Name) (i : ℕ) where
-  pub found-eight : length t.channels ≡ 8 → found t n ≡ At i → i < 8
+  pub found-eight : length t.channels ≡ 8 → found t n ≡ Some i → i < 8
   found-eight whole e =
       let under = found-under 0 n (channels_in t) i e in
       let most = rw (length-take t.count t.channels) at under in
       omega (arith, most, whole)
 
-  pub shape-eight : length t.shapes ≡ 8 → shape_found t n ≡ At i → i < 8
+  pub shape-eight : length t.shapes ≡ 8 → shape_found t n ≡ Some i → i < 8
   shape-eight whole e =
       let under = shape-under 0 n (shapes_in t) i e in
       let most = rw (length-take t.named t.shapes) at under in

@@ -1,15 +1,14 @@
 -- Document 01: "Tables are made with both tolerances and the oversize choice: 1. Adding a channel or shape: 2, 3"; "Adding a known channel
 -- or shape name again replaces it; a replaced channel's pulses go and their room is used again". Request P1: of a spline "2 for a number not finite; a new 16
 -- for falling knots or wrong counts, after 2 and before 3". Definitions only.
-use Rattle.std.specs.Prelude.{ℕ, suc, ◌+◌, Bool, false, ◌&&◌, cond, List, [], ◌∷◌, ltb, eqb, Float, length, take, get_or, set, replicate}
+use Rattle.quant.specs.Refusal.{Answer, refuse}
+use Rattle.tables.specs.declared.Untold.{Untold}
+use Rattle.std.specs.Prelude.{ℕ, suc, ◌+◌, Bool, false, ◌&&◌, cond, List, [], ◌∷◌, ltb, eqb, Float, length, take, get_or, set, replicate, Option, Some, None, Result, Ok, Err}
+use Rattle.tables.specs.declared.Untold.TheVariants as told
 use Rattle.std.specs.Float.{nan}
 use Rattle.std.specs.Float.Ieee.Scale.{finite}
 use Rattle.exact.specs.Doubles.{nought}
 use Rattle.naming.specs.declared.Name.{Name}
-use Rattle.naming.specs.declared.Naming.{Naming}
-use Rattle.naming.specs.declared.Naming.TheVariants.{Named, Bad}
-use Rattle.quant.specs.declared.refusal.Answer.{Answer}
-use Rattle.quant.specs.declared.refusal.Answer.TheVariants.{Done, Refused}
 use Rattle.quant.specs.declared.refusal.Refusal.{Refusal}
 use Rattle.quant.specs.declared.refusal.Refusal.TheVariants.{Unfit, Malformed, Full, UnknownChannel, WrongSize, WrongSpline}
 use Rattle.naming.specs.Name.{is_name, same_name}
@@ -22,10 +21,6 @@ use Rattle.executor.specs.declared.osc.OscState.{OscState}
 use Rattle.tables.specs.declared.Channel.{Channel}
 use Rattle.tables.specs.declared.Tables.{Tables}
 use Rattle.tables.specs.declared.Tabled.{Tabled}
-use Rattle.tables.specs.declared.Found.{Found}
-use Rattle.tables.specs.declared.Found.TheVariants.{At, Nowhere}
-use Rattle.tables.specs.declared.Told.{Told}
-use Rattle.tables.specs.declared.Told.TheVariants as told
 
 -- ---- what stands in the tables
 
@@ -37,19 +32,19 @@ abbrev pub shapes_in : Tables → List Name
 shapes_in t = take t.named t.shapes
 
 -- where a channel of that name stands, counted from k
-unfoldable pub found_from : ℕ → Name → List Channel → Found
-found_from k n [] = Nowhere
-found_from k n (c ∷ cs) = cond (same_name c.name n) (At k) (found_from (suc k) n cs)
+unfoldable pub found_from : ℕ → Name → List Channel → Option ℕ
+found_from k n [] = None
+found_from k n (c ∷ cs) = cond (same_name c.name n) (Some k) (found_from (suc k) n cs)
 
-abbrev pub found : Tables → Name → Found
+abbrev pub found : Tables → Name → Option ℕ
 found t n = found_from 0 n (channels_in t)
 
 -- where a shape's name stands, counted from k
-unfoldable pub shape_from : ℕ → Name → List Name → Found
-shape_from k n [] = Nowhere
-shape_from k n (m ∷ ms) = cond (same_name m n) (At k) (shape_from (suc k) n ms)
+unfoldable pub shape_from : ℕ → Name → List Name → Option ℕ
+shape_from k n [] = None
+shape_from k n (m ∷ ms) = cond (same_name m n) (Some k) (shape_from (suc k) n ms)
 
-abbrev pub shape_found : Tables → Name → Found
+abbrev pub shape_found : Tables → Name → Option ℕ
 shape_found t n = shape_from 0 n (shapes_in t)
 
 -- ---- tables made
@@ -77,10 +72,10 @@ empty a t o =
     }
 
 abbrev pub done : Tables → Tabled
-done t = record { answer = Done 0; tables = t }
+done t = record { answer = Ok 0; tables = t }
 
 abbrev pub refused : Refusal → Tables → Tabled
-refused r t = record { answer = Refused r 0; tables = t }
+refused r t = record { answer = refuse r 0; tables = t }
 
 -- 1 where a tolerance is unfit: then empty tables that tolerate nothing
 abbrev pub made : Float → Float → Bool → Tabled
@@ -108,9 +103,9 @@ abbrev pub finite_osc : OscState → Bool
 finite_osc o = finite o.base.0 && finite o.delta.0 && finite o.phase.0
 
 -- a known name is replaced, a new one meets the ninth place: 3
-unfoldable pub settled : Tables → Found → Channel → Tabled
-settled t (At i) c = done (with_channel t i c)
-settled t Nowhere c =
+unfoldable pub settled : Tables → Option ℕ → Channel → Tabled
+settled t (Some i) c = done (with_channel t i c)
+settled t None c =
     cond (ltb t.count 8) (done (with_channels t (set t.channels t.count c) (t.count + 1))) (refused Full t)
 
 -- 2, then 3
@@ -140,9 +135,9 @@ with_shape t n =
     }
 
 -- a known name is replaced, a new one meets the ninth place: 3
-unfoldable pub settled_shape : Tables → Found → Name → List Float → List (List Float) → Formed
-settled_shape t (At i) n row rows = formed (done t) (set rows i row)
-settled_shape t Nowhere n row rows =
+unfoldable pub settled_shape : Tables → Option ℕ → Name → List Float → List (List Float) → Formed
+settled_shape t (Some i) n row rows = formed (done t) (set rows i row)
+settled_shape t None n row rows =
     cond (ltb t.named 8) (formed (done (with_shape t n)) (set rows t.named row)) (formed (refused Full t) rows)
 
 -- 13 for other than eight rows, then 2, 3
@@ -172,21 +167,21 @@ no_channel = fresh no_name (record { base = record { 0 = nan }; delta = record {
 abbrev pub channel_at : Tables → ℕ → Channel
 channel_at t i = get_or t.channels i no_channel
 
-unfoldable pub told_at : Tables → Found → Told
-told_at t (At i) = told.Of (channel_at t i).osc
-told_at t Nowhere = told.Unknown
+unfoldable pub told_at : Tables → Option ℕ → Result OscState Untold
+told_at t (Some i) = Ok (channel_at t i).osc
+told_at t None = Err told.Unknown
 
 -- 2, then 7
-abbrev pub state_of : Tables → Name → Told
-state_of t n = cond (is_name n) (told_at t (found t n)) told.Malformed
+abbrev pub state_of : Tables → Name → Result OscState Untold
+state_of t n = cond (is_name n) (told_at t (found t n)) (Err told.Malformed)
 
 -- ---- what the cases answer
-abbrev pub told_answer : Told → Answer
-told_answer (told.Of o) = Done 0
-told_answer told.Malformed = Refused Malformed 0
-told_answer told.Unknown = Refused UnknownChannel 0
+abbrev pub told_answer : Result OscState Untold → Answer
+told_answer (Ok o) = Ok 0
+told_answer (Err told.Malformed) = refuse Malformed 0
+told_answer (Err told.Unknown) = refuse UnknownChannel 0
 
 -- of a text taken for a name, in `naming`, which knows no refusal
-abbrev pub naming_answer : Naming → Answer
-naming_answer (Named n) = Done 0
-naming_answer Bad = Refused Malformed 0
+abbrev pub naming_answer : Option Name → Answer
+naming_answer (Some n) = Ok 0
+naming_answer None = refuse Malformed 0

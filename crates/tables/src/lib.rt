@@ -8,7 +8,6 @@ ghost use Rattle.tables.specs.Tables.{no_name, at_rest, empty, done, refused, ma
 use executor::osc::OscState;
 use ieee::finite::is_finite;
 use naming::{Name, is_name, same};
-use quant::judge::both;
 use quant::quantity::{Amplitude, Frequency, Phase, Time};
 use quant::refusal::{Answer, Refusal};
 use quant::settings::is_tolerance;
@@ -44,16 +43,9 @@ pub struct Tabled {
     pub tables: Tables,
 }
 
-#[derive(Clone, Copy)]
-pub enum Found {
-    At(usize),
-    Nowhere,
-}
-
-// `told_answer` says which case is which refusal.
-#[derive(Clone, Copy)]
-pub enum Told {
-    Of(OscState),
+// Why there is no state to tell. `told_answer` says which case is which refusal.
+#[derive(Clone, Copy, Debug, PartialEq, Eq)]
+pub enum Untold {
     // The name breaks the rule.
     Malformed,
     // No channel of that name.
@@ -64,7 +56,7 @@ pub enum Told {
 pub fn make(amp: Amplitude, time: Time, oversize: bool) -> Tabled
     ensures { result ≡ made amp.0 time.0 oversize }
 {
-    if both(is_tolerance(amp.0), is_tolerance(time.0)) {
+    if is_tolerance(amp.0) && is_tolerance(time.0) {
         return done(empty(amp, time, oversize));
     }
     refused(Refusal::Unfit, empty(Amplitude(0.0), Time(0.0), false))
@@ -74,7 +66,7 @@ pub fn make(amp: Amplitude, time: Time, oversize: bool) -> Tabled
 pub fn add_channel(t: Tables, name: Name, osc: OscState) -> Tabled
     ensures { result ≡ with_added t name osc }
 {
-    if both(is_name(name), is_finite_osc(osc)) {
+    if is_name(name) && is_finite_osc(osc) {
         return settle(t, find(t, name), fresh(name, osc));
     }
     refused(Refusal::Malformed, t)
@@ -107,7 +99,7 @@ pub fn add_spline(
     if splines.len() != 8 {
         return refused(Refusal::WrongSize, t);
     }
-    if !both(both(is_name(name), all_finite(controls)), all_finite(knots)) {
+    if !(is_name(name) && all_finite(controls) && all_finite(knots)) {
         return refused(Refusal::Malformed, t);
     }
     if !check(degree, controls.len(), knots) {
@@ -123,64 +115,56 @@ pub fn add_spline(
 }
 
 // A channel's oscillator, or refusal 2 or 7, in this order.
-pub fn state(t: Tables, name: Name) -> Told
+pub fn state(t: Tables, name: Name) -> Result<OscState, Untold>
     ensures { result ≡ state_of t name }
 {
     if !is_name(name) {
-        return Told::Malformed;
+        return Err(Untold::Malformed);
     }
     match find(t, name) {
-        Found::At(i) => {
-            let c = t.channels[i];
-            let osc = c.osc;
-            Told::Of(osc)
-        }
-        Found::Nowhere => Told::Unknown,
+        Some(i) => Ok(t.channels[i].osc),
+        None => Err(Untold::Unknown),
     }
 }
 
 // Where a channel stands.
-pub fn find(t: Tables, name: Name) -> Found
+pub fn find(t: Tables, name: Name) -> Option<usize>
     ensures { result ≡ found t name }
 {
-    let mut i: usize = 0;
-    while i < 8 {
+    for i in 0..8 {
         if t.count <= i {
-            return Found::Nowhere;
+            return None;
         }
         let c = t.channels[i];
         let known = c.name;
         if same(known, name) {
-            return Found::At(i);
+            return Some(i);
         }
-        i += 1;
     }
-    Found::Nowhere
+    None
 }
 
 // Where a shape's name stands.
-pub fn find_shape(t: Tables, name: Name) -> Found
+pub fn find_shape(t: Tables, name: Name) -> Option<usize>
     ensures { result ≡ shape_found t name }
 {
-    let mut i: usize = 0;
-    while i < 8 {
+    for i in 0..8 {
         if t.named <= i {
-            return Found::Nowhere;
+            return None;
         }
         if same(t.shapes[i], name) {
-            return Found::At(i);
+            return Some(i);
         }
-        i += 1;
     }
-    Found::Nowhere
+    None
 }
 
-fn settle(t: Tables, at: Found, c: Channel) -> Tabled
+fn settle(t: Tables, at: Option<usize>, c: Channel) -> Tabled
     ensures { result ≡ settled t at c }
 {
     match at {
-        Found::At(i) => done(with_channel(t, i, c)),
-        Found::Nowhere => {
+        Some(i) => done(with_channel(t, i, c)),
+        None => {
             if 8 <= t.count {
                 return refused(Refusal::Full, t);
             }
@@ -207,7 +191,7 @@ pub fn with_channel(t: Tables, i: usize, c: Channel) -> Tables
 
 fn settle_shape(
     t: Tables,
-    at: Found,
+    at: Option<usize>,
     name: Name,
     row: [f64; 72],
     splines: &mut [[f64; 72]],
@@ -216,11 +200,11 @@ fn settle_shape(
     ensures { formed result splines.new ≡ settled_shape t at name row splines.old }
 {
     match at {
-        Found::At(i) => {
+        Some(i) => {
             splines[i] = row;
             done(t)
         }
-        Found::Nowhere => {
+        None => {
             if 8 <= t.named {
                 return refused(Refusal::Full, t);
             }
@@ -238,7 +222,7 @@ fn done(t: Tables) -> Tabled
     ensures { result ≡ done t }
 {
     Tabled {
-        answer: Answer::Done(0),
+        answer: Ok(0),
         tables: t,
     }
 }
@@ -247,7 +231,7 @@ fn refused(why: Refusal, t: Tables) -> Tabled
     ensures { result ≡ refused why t }
 {
     Tabled {
-        answer: Answer::Refused(why, 0),
+        answer: Err(why.at(0)),
         tables: t,
     }
 }
@@ -302,8 +286,5 @@ fn at_rest() -> OscState
 fn is_finite_osc(o: OscState) -> bool
     ensures { result ≡ finite_osc o }
 {
-    both(
-        both(is_finite(o.base.0), is_finite(o.delta.0)),
-        is_finite(o.phase.0),
-    )
+    is_finite(o.base.0) && is_finite(o.delta.0) && is_finite(o.phase.0)
 }

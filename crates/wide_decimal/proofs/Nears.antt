@@ -17,9 +17,6 @@ use Rattle.fma.specs.Sticky.{odd-of}
 use Rattle.wide_decimal.specs.Near.{Near}
 
 -- ---- how it is made
-pub near-exact : (q r s m : ℕ) → q * m + r ≡ s → r ≡ 0 → Near q m s
-near-exact q r s m e z = inl (omega arith)
-
 pub near-cut : (q r s m : ℕ) → q * m + r ≡ s → 0 < r → r < m → Near (odd-of q) m s
 near-cut q r s m e h k = by (odd-of q) (near q (odd-of q) refl)
   where

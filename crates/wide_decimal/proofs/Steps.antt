@@ -81,9 +81,6 @@ over-step m W rest w w' T L x v r A e l d t =
     let g : (m * W + rest) * w' ≡ (m * W + rest) * (w * 2 ^ 32) = ap (λ (z : ℕ). (m * W + rest) * z) d in
     omega arith
 
-pub over-lt : (rest m x : ℕ) → rest < m → x < 2 ^ 32 → rest * 2 ^ 32 + x < 2 ^ 32 * m
-over-lt rest m x h k = omega arith
-
 module _ (a₀ : List ℕ) (m c : ℕ) (a : List ℕ) (rest i j : ℕ) (e : i ≡ suc j) (q : Over a₀ m c a rest i) where
   pub over-next : Over a₀ m c (set a j ((rest * 2 ^ 32 + get_or a j 0) / m)) ((rest * 2 ^ 32 + get_or a j 0) % m) j
   over-next =

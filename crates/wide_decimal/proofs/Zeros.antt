@@ -30,6 +30,9 @@ pub spills : (v r x w : ℕ) → v + r * w ≡ x → (r ≡ 0 → ⊥) → w ≤
 spills v zero x w e n = absurd (n refl)
 spills v (suc r) x w e n = omega arith
 
+pub none-over : (v r w : ℕ) → r ≡ 0 → v ≡ v + r * w
+none-over v r w z = rw z (omega arith)
+
 pub fitting : (v x w : ℕ) → v ≡ x → Held true v x w
 fitting v x w e = record { is = λ t. e; over = λ t. let z : ◌≡◌ {A = ℕ} 0 1 = cc in absurd (omega (arith, z)) }
 

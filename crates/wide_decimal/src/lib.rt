@@ -8,9 +8,9 @@ ghost use Rattle.wide_decimal.specs.Figures.{without};
 ghost use Rattle.wide_decimal.specs.Placed.{nearest_of};
 ghost use Rattle.wide_decimal.specs.Told.{Room, Outcome};
 
-use figures::{count, least};
+use figures::count;
 use parts::{before, behind, lower, raise};
-use round::{Rounded, infinite, packed};
+use round::{infinite, packed};
 
 mod figures;
 mod limbs;
@@ -24,31 +24,23 @@ pub fn nearest(minus: bool, text: &[u8], point: usize, whole: usize, zeros: usiz
 {
     let mut some = [0u32; 4];
     let mut few = [0u32; 8];
-    let soon = within(minus, text, point, whole, zeros, &mut some, &mut few);
-    let Tried::Sure(x) = soon else {
-        return at_length(minus, text, point, whole, zeros);
-    };
-    x
+    match within(minus, text, point, whole, zeros, &mut some, &mut few) {
+        Ok(x) => x,
+        Err(_) => at_length(minus, text, point, whole, zeros),
+    }
 }
 
-// With room for every double.
+// With room for every double. All digits are there: what does not fit is infinite.
 fn at_length(minus: bool, text: &[u8], point: usize, whole: usize, zeros: usize) -> f64
     ensures { result ≡ nearest_of minus (without point text.now) whole zeros }
 {
     let mut high = [0u32; 33];
     let mut low = [0u32; 34];
-    let last = within(minus, text, point, whole, zeros, &mut high, &mut low);
-    match last {
-        Tried::Sure(x) => x,
-        // All digits are there: what does not fit is infinite.
-        Tried::Spilled => infinite(minus),
-        Tried::Thin => infinite(minus),
-    }
+    within(minus, text, point, whole, zeros, &mut high, &mut low).unwrap_or(infinite(minus))
 }
 
-#[derive(Clone, Copy)]
-pub enum Tried {
-    Sure(f64),
+#[derive(Clone, Copy, Debug, PartialEq, Eq)]
+pub enum Short {
     // The digits before the point are too few,
     Spilled,
     // or those behind it.
@@ -64,23 +56,15 @@ fn within(
     zeros: usize,
     high: &mut [u32],
     low: &mut [u32],
-) -> Tried
+) -> Result<f64, Short>
     requires { Room high.old low.old }
     ensures { Outcome minus (without point text.now) whole zeros (length high.old) (length low.old) result }
 {
-    let n = count(text, point);
-    let first = least(whole, n);
-    if !before(high, text, point, first) {
-        return Tried::Spilled;
-    }
-    if !raise(high, whole - first) {
-        return Tried::Spilled;
+    let first = whole.min(count(text, point));
+    if !before(high, text, point, first) || !raise(high, whole - first) {
+        return Err(Short::Spilled);
     }
     behind(low, text, point, first);
     lower(low, zeros);
-    let end = packed(minus, high, low);
-    match end {
-        Rounded::Sure(x) => Tried::Sure(x),
-        Rounded::Thin => Tried::Thin,
-    }
+    packed(minus, high, low).ok_or(Short::Thin)
 }

@@ -4,7 +4,7 @@ ghost use Rattle.wide_decimal.specs.Figures.{worth, without};
 ghost use Rattle.wide_decimal.specs.Limbs.{value, weight, Held};
 ghost use Rattle.wide_decimal.specs.Near.{Near};
 
-use super::figures::{count, group, least, ten_to};
+use super::figures::{count, group, ten_to};
 use super::limbs::{cut, times};
 
 // The first figures as a whole number, into zeros.
@@ -12,13 +12,11 @@ pub(crate) fn before(high: &mut [u32], text: &[u8], point: usize, first: usize) 
     requires { (value high.old ≡ 0) × (first ≤ length (without point text.now)) }
     ensures { Held result (value high.new) (worth (take first (without point text.now))) (weight (length high.old)) }
 {
-    let mut i: usize = 0;
-    while i < first {
-        let n = least(first - i, 9);
+    for i in (0..first).step_by(9) {
+        let n = (first - i).min(9);
         if times(high, ten_to(n), group(text, point, i, n)) != 0 {
             return false;
         }
-        i += n;
     }
     true
 }
@@ -28,14 +26,11 @@ pub(crate) fn raise(high: &mut [u32], zeros: usize) -> bool
     requires { length high.old ≤ 33 }
     ensures { Held result (value high.new) (value high.old * 10 ^ zeros) (weight (length high.old)) }
 {
-    let most = least(zeros, 400);
-    let mut i: usize = 0;
-    while i < most {
-        let n = least(most - i, 9);
-        if times(high, ten_to(n), 0) != 0 {
+    let most = zeros.min(400);
+    for i in (0..most).step_by(9) {
+        if times(high, ten_to((most - i).min(9)), 0) != 0 {
             return false;
         }
-        i += n;
     }
     true
 }
@@ -46,8 +41,9 @@ pub(crate) fn behind(low: &mut [u32], text: &[u8], point: usize, first: usize)
     ensures { Near (value low.new) (10 ^ (length (without point text.now) - first)) (worth (drop first (without point text.now)) * weight (length low.old)) }
 {
     let mut i = count(text, point);
+    // Kept: a walk down in nines whose last step is the short one, which no range by steps is.
     while first < i {
-        let n = least(i - first, 9);
+        let n = (i - first).min(9);
         i -= n;
         cut(low, ten_to(n), group(text, point, i, n));
     }
@@ -58,11 +54,8 @@ pub(crate) fn lower(low: &mut [u32], zeros: usize)
     requires { (0 < length low.old) × (length low.old ≤ 34) }
     ensures { Near (value low.new) (10 ^ zeros) (value low.old) }
 {
-    let most = least(zeros, 400);
-    let mut i: usize = 0;
-    while i < most {
-        let n = least(most - i, 9);
-        cut(low, ten_to(n), 0);
-        i += n;
+    let most = zeros.min(400);
+    for i in (0..most).step_by(9) {
+        cut(low, ten_to((most - i).min(9)), 0);
     }
 }

@@ -1,16 +1,14 @@
 -- The words of a line, behind its letter: a space and 16 digits each. Definitions only.
-use Rattle.std.specs.Prelude.{ℕ, zero, suc, ◌+◌, ◌*◌, min, Bool, true, false, ◌&&◌, not, cond, List, eqb, leb, Float, ℤ, pos, ◌-ℤ◌, length, drop}
+use Rattle.std.specs.Prelude.{ℕ, zero, suc, ◌+◌, ◌*◌, min, Bool, true, false, ◌&&◌, not, cond, List, eqb, leb, Float, ℤ, pos, ◌-ℤ◌, length, drop, Option, Some, None}
 use Rattle.std.specs.Float.{binary64}
 use Rattle.std.specs.Float.Ieee.{of_bits}
-use Rattle.hexadecimal.specs.declared.Word.{Word}
-use Rattle.hexadecimal.specs.declared.Word.TheVariants.{Bits, Bad}
 use Rattle.lines.specs.Field.{number_at}
 use Rattle.lines.specs.Text.{line_length}
 use Rattle.naming.specs.declared.Name.{Name}
 
-abbrev pub bits_of : Word → ℕ
-bits_of (Bits w) = w
-bits_of Bad = 0
+abbrev pub bits_of : Option ℕ → ℕ
+bits_of (Some w) = w
+bits_of None = 0
 
 -- word k, counted from 0; 0 where there is none
 abbrev pub word_in : List ℕ → ℕ → ℕ
@@ -29,9 +27,9 @@ level_of mid w = cond (leb w (2 * mid)) (pos w -ℤ pos mid) (pos 0)
 abbrev pub name_in : List ℕ → ℕ → Name
 name_in line k = record { first = word_in line k; second = word_in line (k + 1); len = word_in line (k + 2) }
 
-abbrev pub is_word : Word → Bool
-is_word (Bits w) = true
-is_word Bad = false
+abbrev pub is_word : Option ℕ → Bool
+is_word (Some w) = true
+is_word None = false
 
 -- whether each of the first so many words stands there
 unfoldable pub words_stand : List ℕ → ℕ → Bool

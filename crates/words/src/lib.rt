@@ -6,7 +6,6 @@ ghost use Rattle.std.specs.Prelude.{◌≡◌, ◌≤◌};
 ghost use Rattle.lines.specs.Field.{number_at};
 ghost use Rattle.words.specs.Words.{word_in, float_in, choice_in, name_in, level_of, is_word, readable_as, end_in};
 
-use hexadecimal::Word;
 use lines::field::{float_of, number_at};
 use lines::text::line_end;
 use naming::Name;
@@ -22,10 +21,7 @@ fn word_at(line: &[u8], k: usize) -> u64
     requires { k ≤ 257 }
     ensures { result ≡ word_in line.now k }
 {
-    match number_at(line, 1 + 17 * k) {
-        Word::Bits(w) => w,
-        Word::Bad => 0,
-    }
+    number_at(line, 1 + 17 * k).unwrap_or(0)
 }
 
 // The double whose bits are word k.
@@ -39,10 +35,7 @@ pub fn float(line: &[u8], k: u8) -> f64
 pub fn choice(line: &[u8], k: u8) -> bool
     ensures { result ≡ choice_in line.now k }
 {
-    if word(line, k) == 0 {
-        return false;
-    }
-    true
+    word(line, k) != 0
 }
 
 // The level that word k stands for, where `mid` stands for level 0; a word above twice `mid` stands for none, and is taken for level 0.
@@ -66,13 +59,15 @@ pub fn name(line: &[u8], k: u8) -> Name
     ensures { result ≡ name_in line.now k }
 {
     let at = k as usize;
-    let first = word_at(line, at);
-    let second = word_at(line, at + 1);
-    let len = word_at(line, at + 2) as usize;
-    Name { first, second, len }
+    Name {
+        first: word_at(line, at),
+        second: word_at(line, at + 1),
+        len: word_at(line, at + 2) as usize,
+    }
 }
 
 // Whether a line is a letter and so many words.
+#[tactic(auto, unfolding(crate::specs::Words::words_stand, crate::specs::Words::readable_as))]
 pub fn readable(line: &[u8], count: u8) -> bool
     ensures { result ≡ readable_as line.now count }
 {
@@ -80,10 +75,8 @@ pub fn readable(line: &[u8], count: u8) -> bool
     if line.len() != 1 + 17 * words {
         return false;
     }
-    let mut left = words;
-    while 0 < left {
-        left -= 1;
-        if !is_word(line, 1 + 17 * left) {
+    for k in 0..words {
+        if !is_word(line, 1 + 17 * k) {
             return false;
         }
     }
@@ -93,10 +86,7 @@ pub fn readable(line: &[u8], count: u8) -> bool
 fn is_word(line: &[u8], at: usize) -> bool
     ensures { result ≡ is_word (number_at line.now at) }
 {
-    match number_at(line, at) {
-        Word::Bits(_) => true,
-        Word::Bad => false,
-    }
+    number_at(line, at).is_some()
 }
 
 // Where the line at a place ends, within its text.

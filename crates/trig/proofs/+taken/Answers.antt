@@ -40,8 +40,8 @@ returns-then-rest-d t c =
     let u = rest-twice r d q (units_of r) (units_of d) f g v w some (under_half d (units_of d) w c.if-d.true) c.taken-rest.ensures in
     step-own r d q (units_of r) (units_of d) f g k v w some u c.if-rest-d.true
 
-pub returns-then-d : goal.returns-then-d
-returns-then-d t c =
+pub returns-else-rest-d : goal.returns-else-rest-d
+returns-else-rest-d t c =
     let r = c.args.r in
     let d = c.args.d in
     let q = c.taken-rest.result in
@@ -54,8 +54,8 @@ returns-then-d t c =
     let u = rest-twice r d q (units_of r) (units_of d) f g v w some (under_half d (units_of d) w c.if-d.true) c.taken-rest.ensures in
     step-off r d q (units_of r) (units_of d) f g k v w some u c.if-rest-d.false
 
-pub returns : goal.returns
-returns t c =
+pub returns-else-d : goal.returns-else-d
+returns-else-d t c =
     let r = c.args.r in
     let d = c.args.d in
     let n = units_of r in

@@ -1,9 +1,6 @@
--- Each turn shows samples of the row.
-use Rattle.std.proofs.Common.{◌-◌, ◌≤◌, length}
+-- A part has at most 256 samples.
+use Rattle.std.proofs.Common.{◌≡◌}
 use Rattle.bench.proofs.show.show_row.Given as goal
 
-abbrev pub invariant-loop-at : goal.invariant-loop-at
-invariant-loop-at l = l.at ≤ length l.row
-
-abbrev pub decreases-loop-at : goal.decreases-loop-at
-decreases-loop-at l = length l.row - l.at
+abbrev pub invariant-loop-part : goal.invariant-loop-part
+invariant-loop-part l = l.part-iterator.size ≡ 256

@@ -44,10 +44,10 @@ module _ (text : List ℕ) (end behind : ℕ) (inside : end ≤ length text) (e 
 
 pub overflow_add-next : goal.overflow_add-next
 overflow_add-next c =
-    let goes = goes_on c.args.text.now c.args.end _ c.requires.1 c.least-behind.ensures _ c.sheet_behind-taken.ensures.within in
+    let goes = goes_on c.args.text.now c.args.end _ c.requires.1 c.min-behind.ensures _ c.sheet_behind-taken.ensures.within in
     omega (arith, goes.near)
 
 pub returns : goal.returns
 returns c =
-    tells c.args.text.now c.args.end _ c.requires.1 c.least-behind.ensures _ _ _ _ _ _ _ _ _ c.take_factors.ensures c.sheet_behind-taken.ensures
+    tells c.args.text.now c.args.end _ c.requires.1 c.min-behind.ensures _ _ _ _ _ _ _ _ _ c.take_factors.ensures c.sheet_behind-taken.ensures
     (ap (λ (x : State). x.crosstalk) c.with_crosstalk-state.ensures)

@@ -20,9 +20,6 @@ module _ (text : List ℕ) (lines at : ℕ) where
   unfolding lines_of
   through now h = let all = rw (drop_of_length-le text h) at now.counted in omega (arith, all)
 
-pub loop-at-preserved-then-letter-ne63 : goal.loop-at-preserved-then-letter-ne63
-loop-at-preserved-then-letter-ne63 g c = further _ _ _ _ c.loop-at.invariant c.loop-at-test.true c.end_of-end.ensures
-
 pub loop-at-preserved : goal.loop-at-preserved
 loop-at-preserved g c = further _ _ _ _ c.loop-at.invariant c.loop-at-test.true c.end_of-end.ensures
 

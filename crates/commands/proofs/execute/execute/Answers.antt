@@ -8,7 +8,7 @@ use Rattle.commands.proofs.execute.execute.Goals.{then-s-2, else-s-2}
 pub returns-then-s : goal.returns-then-s
 returns-then-s c =
     rw c.refused.ensures
-    (stopped _ _ _ _ _ _ _ c.loop-k-test.true _ _ c.act-s.ensures.value c.act-s.ensures.bins_after c.if-s.true ∙ c.loop-k.invariant.left)
+    (stopped _ _ _ _ _ _ _ c.loop-k-test.true _ _ c.act-s.ensures.value c.act-s.ensures.bins_after c.if-s.true ∙ c.loop-k.invariant)
 
 pub loop-k-preserved : goal.loop-k-preserved
 loop-k-preserved c =
@@ -17,12 +17,7 @@ loop-k-preserved c =
       | then-s-2 w ↦ rw w.if-s-2.true (w.pulses-is ∙ w.store.ensures)
       | else-s-2 w ↦ rw w.if-s-2.false w.pulses-is
     ] in
-    record {
-      within = omega arith;
-      left =
-          rw put
-          (turned _ _ _ _ _ _ _ c.loop-k-test.true _ _ c.act-s.ensures.value c.act-s.ensures.bins_after c.if-s.false ∙ c.loop-k.invariant.left);
-    }
+    rw put (turned _ _ _ _ _ _ _ c.loop-k-test.true _ _ c.act-s.ensures.value c.act-s.ensures.bins_after c.if-s.false ∙ c.loop-k.invariant)
 
 pub returns : goal.returns
-returns c = rw c.done.ensures (at-end _ _ _ _ _ _ c.loop-k-test.false ∙ c.loop-k.invariant.left)
+returns c = rw c.done.ensures (at-end _ _ _ _ _ _ (omega arith) ∙ c.loop-k.invariant)

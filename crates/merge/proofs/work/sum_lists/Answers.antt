@@ -1,7 +1,7 @@
 -- A turn is one list more (`next` in `proofs/Lists.antt`).
-use Rattle.std.proofs.Common.{◌≡◌, ◌<◌, length, sym, arith}
+use Rattle.std.proofs.Common.{◌≡◌, ◌+◌, ◌-◌, ◌<◌, length, sym, refl, arith}
 use Rattle.merge.specs.Keep.{lists_in}
-use Rattle.merge.proofs.Lists.{Upto, Sizes, sizes, begun, next, over-all}
+use Rattle.merge.proofs.Lists.{Upto, sizes, begun, next, over-all}
 use Rattle.merge.proofs.work.sum_lists.Goals as goal
 use Rattle.merge.proofs.work.sum_lists.Goals.{At-loop-k}
 
@@ -35,10 +35,12 @@ loop-k-preserved c =
     let p : length a.taking.places ≡ 8 = omega arith in
     let f : length a.taking.factors ≡ 8 = omega arith in
     let s = sizes (length a.pulses.now) (length a.work.now) (length a.marks.now) (sym c.if-not-sizes_fit.ensures) in
-    let less : c.loop-k.k < lists_in a.taking = omega (arith, c.lists_in-lists.ensures) in
+    let less : c.loop-k.k < lists_in a.taking = omega (arith, c.lists_in-k-end.ensures) in
     let r = c.sum_list-at in
-    let lays = rw c.span_of-s.ensures at r.ensures in
-    let u = next a.t a.taking a.pulses.now a.work.now a.marks.now p f s (upto (goal.at.loop-k-preserved c).At-loop-k) less r.result r.new.work r.new.marks c.with_end-ends.result lays r.auto.work r.auto.marks c.with_end-ends.ensures in
+    let x = c.span_of-from.result in
+    let same : x.from + x.count - x.from ≡ x.count = omega arith in
+    let lays = rw (same, c.span_of-from.ensures) at r.ensures in
+    let u = next a.t a.taking a.pulses.now a.work.now a.marks.now p f s (upto (goal.at.loop-k-preserved c).At-loop-k) less r.result r.new.work r.new.marks _ lays r.auto.work r.auto.marks refl in
     record { within = u.within; near = u.near; long_e = u.long-e; left = u.left }
 
 pub returns : goal.returns
@@ -47,4 +49,4 @@ returns c =
     let p : length a.taking.places ≡ 8 = omega arith in
     let f : length a.taking.factors ≡ 8 = omega arith in
     let s = sizes (length a.pulses.now) (length a.work.now) (length a.marks.now) (sym c.if-not-sizes_fit.ensures) in
-    over-all a.t a.taking a.pulses.now a.work.now a.marks.now p f s (upto (goal.at.returns c).At-loop-k) (omega (arith, c.lists_in-lists.ensures))
+    over-all a.t a.taking a.pulses.now a.work.now a.marks.now p f s (upto (goal.at.returns c).At-loop-k) (omega (arith, c.lists_in-k-end.ensures))

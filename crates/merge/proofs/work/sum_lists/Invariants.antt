@@ -1,5 +1,5 @@
 -- The invariant: what is left after k lists is laid over the rows from `at` on, and over the ends from k on.
-use Rattle.std.proofs.Common.{◌≡◌, ◌*◌, ◌-◌, ◌≤◌, length}
+use Rattle.std.proofs.Common.{◌≡◌, ◌*◌, ◌≤◌, length}
 use Rattle.merge.specs.Taking.{parts_in}
 use Rattle.merge.specs.Work.{gathered_of}
 use Rattle.merge.specs.Keep.{lists_in}
@@ -14,6 +14,3 @@ invariant-loop-k l = record {
   left : still (lists l.t l.taking l.pulses) l.k l.at l.work l.marks l.ends.ends
       ≡ gathered_of l.t (parts_in l.taking) l.pulses l.initial.work l.initial.marks;
 }
-
-abbrev pub decreases-loop-k : goal.decreases-loop-k
-decreases-loop-k l = l.lists - l.k

@@ -1,5 +1,5 @@
 -- What is left to do is always `among` of the records up to the slot i.
-use Rattle.std.proofs.Common.{◌≡◌, ◌+◌, ◌-◌, ◌≤◌, length}
+use Rattle.std.proofs.Common.{◌≡◌, ◌+◌, ◌-◌, ◌≤◌}
 use Rattle.pulse.specs.List.{among}
 use Rattle.pulse.proofs.list.store.Given as goal
 
