@@ -41,7 +41,7 @@ abbrev pub is_known : Option ℕ → Bool
 is_known at = is_some at
 
 -- Document 02, P2: "17 (doubled), 18 (no list) .., in that order at one name, names taken in reading order". Of the names behind those
--- `before`, the first that stood before or that no channel has, by its position from 1; `Done 0` where there is none.
+-- `before`, the first that stood before or that no channel has, by its position from 1; `Ok 0` where there is none.
 unfoldable pub names_judged : Tables → List Name → List Name → Answer
 names_judged t before [] = Ok 0
 names_judged t before (n ∷ ns) =

@@ -51,7 +51,7 @@ ran b x =
 abbrev pub a0_at : List Float → ℕ → Float
 a0_at l k = get_or l (6 * k + 3) nan
 
--- of n sections from the k-th on the first whose a0 does not equal 1, with its number "from 0 as place"; `Done 0` where there is none
+-- of n sections from the k-th on the first whose a0 does not equal 1, with its number "from 0 as place"; `Ok 0` where there is none
 unfoldable pub a0s_from : List Float → ℕ → ℕ → Answer
 a0s_from l zero k = Ok 0
 a0s_from l (suc n) k = cond (eq (a0_at l k) one) (a0s_from l n (suc k)) (refuse WrongA0 k)

@@ -99,7 +99,7 @@ fn hold(
     );
 }
 
-// Whether two offsets have the same bits. No NaN has.
+// Whether two offsets have the same bits. No NaN has. Kept: `==` alone takes 0 for -0.
 fn same_offset(a: f64, b: f64) -> bool
     ensures { result ≡ true → a ≡ b }
 {

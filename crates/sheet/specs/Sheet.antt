@@ -315,7 +315,7 @@ print_fits count names matrix room =
     && leb (count * count) (length matrix)
     && leb (length (sheet_text (sheet_of count names matrix))) room
 
--- The lines of the sheet that would be printed, in reading order: the first bad one decides, and no bad one is `Done 0`.
+-- The lines of the sheet that would be printed, in reading order: the first bad one decides, and no bad one is `Ok 0`.
 
 -- the columns' lines, behind the first and those of the columns `before`: 2 where a name breaks the rule, 17 where it is one of these
 unfoldable pub columns_judged : List Name → List Name → Answer

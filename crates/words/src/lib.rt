@@ -66,7 +66,8 @@ pub fn name(line: &[u8], k: u8) -> Name
     }
 }
 
-// Whether a line is a letter and so many words.
+// Whether a line is a letter and so many words. Kept: from the first word on. From the last on, a line that is refused for its last word takes less, and one that
+// is refused for its first as much more.
 #[tactic(auto, unfolding(crate::specs::Words::words_stand, crate::specs::Words::readable_as))]
 pub fn readable(line: &[u8], count: u8) -> bool
     ensures { result ≡ readable_as line.now count }
